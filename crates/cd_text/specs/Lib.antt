@@ -1,0 +1,4 @@
+pub mod formers
+pub mod Gives
+pub mod Steps
+pub mod Numbers

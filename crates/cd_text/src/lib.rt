@@ -1,0 +1,26 @@
+//! Texts, bytes and lists.
+//!
+//! `Text`, `Octets` and `List` own a `String` or a `Vec`, and contracts see them as lists of bytes or of elements: capacities
+//! and addresses are in no contract, so a tree of these types is plain data, and "equal" means "the same list". Each call's
+//! contract is its whole result as a list function.
+//!
+//! `NoMemory` is the one error of calls that are refused for want of memory alone. The word `Gives` (specs/Gives.antt) says
+//! of any result that it is exactly what a definition gives unless memory ran out; `▷` (specs/Steps.antt) chains steps of
+//! such definitions.
+#![tactic(auto)]
+
+mod list;
+mod memory;
+mod numbers;
+mod octets;
+mod parts;
+#[cfg(test)]
+mod tests;
+mod text;
+
+pub use list::{List, place};
+pub use memory::NoMemory;
+pub use numbers::{decimal, number_of};
+pub use octets::Octets;
+pub use parts::parts_of;
+pub use text::Text;
