@@ -1,0 +1,10 @@
+pub mod Counts
+pub mod Taken
+pub mod Given
+pub mod Past
+pub mod FixtureCall
+pub mod Telling
+pub mod Faults
+pub mod Pieces
+pub mod Script
+pub mod FixtureRecord

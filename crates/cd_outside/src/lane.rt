@@ -1,0 +1,71 @@
+ghost use Rattle.std.specs.Prelude.{◌≡◌, ◌<◌, ◌++◌, List, ℕ, Bool, true, false, length, Option, option_map};
+ghost use Rattle.cd_outside.specs.declared.taken.Taken.TheVariants as taken;
+ghost use Rattle.cd_outside.specs.declared.given.Given.TheVariants as given;
+ghost use Rattle.cd_outside.specs.declared.accepted.Accepted.TheVariants as accepted;
+ghost use Rattle.cd_outside.specs.declared.past.Past.{Past as Told};
+ghost use Rattle.cd_outside.specs.Counts.{Rises};
+ghost use Rattle.cd_outside.specs.Taken.{IsTakenWithin};
+ghost use Rattle.cd_outside.specs.Given.{IsGivenOf};
+ghost use Rattle.cd_outside.specs.Past.{after_accept, after_read, after_put, after_line, is_connection};
+
+use crate::{Accepted, Given, Key, Taken};
+use cd_text::Text;
+
+/// Where connections come from, one after another. At most one is there at a time.
+pub trait Lane {
+    /// How often it has failed.
+    ghost faults: { Self → ℕ };
+
+    /// Whether a connection is there.
+    ghost busy: { Self → Bool };
+
+    /// What has happened so far, where it tells it.
+    ghost past: { Self → Option Told };
+
+    /// Waits for the next connection. None may be there.
+    fn accept(&mut self) -> Accepted
+        requires { busy self.old ≡ false }
+        ensures busy { busy self.new ≡ is_connection result }
+        ensures past { past self.new ≡ option_map (after_accept result) (past self.old) }
+        ensures cause { Rises (faults self.old) (faults self.new) (result ≡ accepted.Failed) };
+
+    /// Reads the next bytes of the connection into the front of `into`, which may not be empty.
+    fn read(&mut self, into: &mut [u8]) -> Taken
+        requires busy { busy self.old ≡ true }
+        requires room { 0 < length into.old }
+        ensures busy { busy self.new ≡ true }
+        ensures bound { IsTakenWithin result (length into.new) }
+        ensures past { past self.new ≡ option_map (after_read result into.new) (past self.old) }
+        ensures cause { Rises (faults self.old) (faults self.new) (result ≡ taken.Failed) };
+
+    /// Tells the lane that every byte that was read has been answered. A lane may then serve others while this connection is
+    /// quiet.
+    fn rest(&mut self)
+        requires { busy self.old ≡ true }
+        ensures busy { busy self.new ≡ true }
+        ensures past { past self.new ≡ past self.old }
+        ensures faults { faults self.new ≡ faults self.old }
+    {}
+
+    /// Puts the piece, which may not be empty, on the connection.
+    fn write(&mut self, piece: &[u8]) -> Given
+        requires busy { busy self.old ≡ true }
+        requires some { 0 < length piece.now }
+        ensures busy { busy self.new ≡ true }
+        ensures past { (part : List ℕ) × IsGivenOf result part piece.now × (past self.new ≡ option_map (after_put part) (past self.old)) }
+        ensures cause { Rises (faults self.old) (faults self.new) (result ≡ given.Failed) };
+
+    /// Gives a line to the log writer of the key. At `Failed` it was not given.
+    fn log(&mut self, key: &Key, line: &Text) -> Given
+        requires { busy self.old ≡ true }
+        ensures busy { busy self.new ≡ true }
+        ensures past { past self.new ≡ option_map (after_line result key.now line.now) (past self.old) }
+        ensures cause { Rises (faults self.old) (faults self.new) (result ≡ given.Failed) };
+
+    /// Ends the connection. It cannot fail.
+    fn end(&mut self)
+        requires { busy self.old ≡ true }
+        ensures busy { busy self.new ≡ false }
+        ensures past { past self.new ≡ past self.old }
+        ensures faults { faults self.new ≡ faults self.old };
+}
