@@ -1,0 +1,11 @@
+pub mod Trees
+pub mod Inside
+pub mod Outcomes
+pub mod Readings
+pub mod Rising
+pub mod Soundness
+pub mod Converted
+pub mod Found
+pub mod Joined
+pub mod ReadBack
+pub mod Utf8Texts

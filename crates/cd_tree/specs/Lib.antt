@@ -1,0 +1,5 @@
+pub mod Fields
+pub mod Path
+pub mod Reading
+pub mod Tree
+pub mod Utf8

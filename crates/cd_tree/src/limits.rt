@@ -1,0 +1,5 @@
+/// The most bytes that a text may have which is read, and the most that the compact text of a sound tree has.
+pub const MAX_TEXT_BYTES: usize = 1_048_576;
+
+/// The most levels that lists and objects of a sound tree nest. A flat one is one level.
+pub const MAX_DEPTH: usize = 100;
