@@ -1,0 +1,5 @@
+pub mod FieldLemmas
+pub mod HeadLemmas
+pub mod OrderLemmas
+pub mod RenderLemmas
+pub mod RequestLaws

@@ -1,0 +1,30 @@
+-- When bytes are the head of a request, and what is kept of it (RFC 9112, sections 2 to 5). The grammar is that of
+-- `httparse`, which also takes a line that ends in LF alone, and empty lines before the first.
+use Rattle.std.specs.Prelude.{◌≡◌, ℕ, ◌≤◌, List, [], length, map}
+use Rattle.std.specs.Char.{to_ascii_lowercase}
+use Rattle.httparse.specs.Grammar.{RequestHead, ReadsRequest}
+use Rattle.httparse.specs.Spans.{name_and_value}
+use Rattle.cd_wire.specs.declared.head.TheConstants.{MAX_HEAD_BYTES, MAX_HEAD_FIELDS}
+use Rattle.cd_wire.specs.declared.fields.Field.{Field}
+use Rattle.cd_wire.specs.declared.head.Head.{Head}
+
+-- a name and a value as a field: the name in lower case
+abbrev pub field_of : List ℕ × List ℕ → Field
+field_of part = record { name = map to_ascii_lowercase part.0; value = part.1 }
+
+-- what is kept of a head: each field's value without the white space around it
+abbrev pub head_of : RequestHead → Head
+head_of lines = record {
+  method = lines.method;
+  target = lines.target;
+  minor = lines.minor;
+  fields = map field_of (map name_and_value lines.fields);
+}
+
+-- the bytes are the lines of this head, within the limits, and nothing stands behind them
+pub record IsHead (bytes : List ℕ) (head : Head) : Type 0 where
+  pub lines : RequestHead
+  pub reads : ReadsRequest bytes lines []
+  pub short : length bytes ≤ MAX_HEAD_BYTES
+  pub few : length lines.fields ≤ MAX_HEAD_FIELDS
+  pub is : head ≡ head_of lines

@@ -1,0 +1,15 @@
+use crate::Field;
+use cd_text::{List, Octets};
+
+/// An answer, before it is written out.
+#[derive(Debug, Drop)]
+pub struct Answer {
+    /// The status, from 100 to 999. Beyond these it has no reason phrase.
+    pub status: u16,
+    /// The fields, in any order. `Content-Length`, `Connection` and `Transfer-Encoding` among them are not sent.
+    pub fields: List<Field>,
+    /// The body.
+    pub body: Octets,
+    /// Whether the connection is closed behind the answer.
+    pub close: bool,
+}

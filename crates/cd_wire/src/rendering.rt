@@ -1,0 +1,220 @@
+ghost use Rattle.std.specs.Prelude.{◌≡◌, ◌≤◌, ◌||◌, ◌&&◌, not, [], ◌++◌, length, IfOk, OnOk, map, filter, true, decimal, if◌then◌else◌};
+ghost use Rattle.std.specs.List.{flat_map, prefix_len};
+ghost use Rattle.cd_wire.specs.Render.{is_sent, name_le, put_by_name, by_name, titled, clean_byte, field_line, has_body, status_line, length_line, close_line, phrase_of, reason_of, render};
+
+use crate::answer::Answer;
+use crate::fields::Field;
+use cd_text::{NoMemory, Octets, Text};
+use http::StatusCode;
+use std::alloc::Global;
+
+fn is_sent(field: &Field) -> bool
+    ensures { result ≡ is_sent field.now }
+{
+    let name = &field.name;
+    !name.equals("content-length")
+        && !name.equals("connection")
+        && !name.equals("transfer-encoding")
+}
+
+fn is_name_le(one: &Field, other: &Field) -> bool
+    ensures { result ≡ name_le one.now other.now }
+{
+    one.name.cmp(&other.name).is_le()
+}
+
+// How many fields at the front have names that are not greater.
+fn place_of(sorted: &[&Field], field: &Field) -> usize
+    ensures within { result ≤ length sorted.now }
+    ensures place { result ≡ prefix_len (λ other. name_le other field.now)
+        (map (λ other. other.now) sorted.now) }
+{
+    let mut place = 0;
+    for other in sorted {
+        if !is_name_le(other, field) {
+            return place;
+        }
+        place += 1;
+    }
+    place
+}
+
+fn put_by_name<'a>(sorted: &mut Vec<&'a Field>, field: &'a Field) -> Result<(), NoMemory>
+    ensures { OnOk result (map (λ f. f.now) sorted.new.items
+        ≡ put_by_name field.now (map (λ f. f.now) sorted.old.items)) }
+{
+    let place = place_of(sorted.as_slice(), field);
+    sorted.insert(place, field)?;
+    Ok(())
+}
+
+#[tactic(auto, using(crate::proofs::RenderLemmas::by_name_sent, crate::proofs::RenderLemmas::by_name_dropped))]
+fn by_name<'a>(alloc: Global, fields: &'a [Field]) -> Result<Vec<&'a Field>, NoMemory>
+    ensures { IfOk result (λ sorted.
+        map (λ f. f.now) sorted.items ≡ by_name (filter is_sent fields.now)) }
+{
+    let mut sorted: Vec<&Field> = Vec::new(alloc);
+    for field in fields {
+        if is_sent(field) {
+            put_by_name(&mut sorted, field)?;
+        }
+    }
+    Ok(sorted)
+}
+
+fn put(out: &mut Vec<u8>, bytes: &[u8]) -> Result<(), NoMemory>
+    ensures { OnOk result (out.new.items ≡ out.old.items ++ bytes.now) }
+{
+    out.extend_from_slice(bytes)?;
+    Ok(())
+}
+
+fn put_titled(out: &mut Vec<u8>, name: &[u8]) -> Result<(), NoMemory>
+    ensures { OnOk result (out.new.items ≡ out.old.items ++ titled true name.now) }
+{
+    let mut begins = true;
+    for byte in name {
+        out.push(if begins {
+            byte.to_ascii_uppercase()
+        } else {
+            *byte
+        })?;
+        begins = *byte == b'-';
+    }
+    Ok(())
+}
+
+fn clean_byte(byte: u8) -> u8
+    ensures { result ≡ clean_byte byte }
+{
+    if (byte < b' ' && byte != b'\t') || byte == 127 {
+        b' '
+    } else {
+        byte
+    }
+}
+
+fn put_clean(out: &mut Vec<u8>, value: &[u8]) -> Result<(), NoMemory>
+    ensures { OnOk result (out.new.items ≡ out.old.items ++ map clean_byte value.now) }
+{
+    for byte in value {
+        out.push(clean_byte(*byte))?;
+    }
+    Ok(())
+}
+
+#[tactic(auto, unfolding(crate::specs::Render::field_line))]
+fn put_field(out: &mut Vec<u8>, field: &Field) -> Result<(), NoMemory>
+    ensures { OnOk result (out.new.items ≡ out.old.items ++ field_line field.now) }
+{
+    put_titled(out, field.name.as_str().as_bytes())?;
+    put(out, b": ")?;
+    put_clean(out, field.value.as_slice())?;
+    put(out, b"\r\n")
+}
+
+fn put_fields(out: &mut Vec<u8>, fields: &[&Field]) -> Result<(), NoMemory>
+    ensures { OnOk result (out.new.items ≡ out.old.items
+        ++ flat_map field_line (map (λ f. f.now) fields.now)) }
+{
+    for field in fields {
+        put_field(out, field)?;
+    }
+    Ok(())
+}
+
+fn put_number(alloc: Global, out: &mut Vec<u8>, number: usize) -> Result<(), NoMemory>
+    ensures { OnOk result (out.new.items ≡ out.old.items ++ decimal number) }
+{
+    let digits = format!(in alloc; "{number}")?;
+    put(out, digits.as_bytes())
+}
+
+#[tactic(auto, unfolding(crate::specs::Render::phrase_of))]
+fn phrase_of(status: StatusCode) -> &'static str
+    ensures { result.now ≡ phrase_of status }
+{
+    status.canonical_reason().unwrap_or("")
+}
+
+#[tactic(auto, unfolding(crate::specs::Render::reason_of))]
+fn reason_of(status: u16) -> &'static str
+    ensures { result.now ≡ reason_of status }
+{
+    match StatusCode::from_u16(status) {
+        Ok(status) => phrase_of(status),
+        Err(_) => "",
+    }
+}
+
+#[tactic(auto, unfolding(crate::specs::Render::status_line))]
+fn put_status(alloc: Global, out: &mut Vec<u8>, status: u16) -> Result<(), NoMemory>
+    ensures { OnOk result (out.new.items ≡ out.old.items ++ status_line status) }
+{
+    put(out, b"HTTP/1.1 ")?;
+    put_number(alloc, out, usize::from(status))?;
+    put(out, b" ")?;
+    put(out, reason_of(status).as_bytes())?;
+    put(out, b"\r\n")
+}
+
+fn has_body(status: u16) -> bool
+    ensures { result ≡ has_body status }
+{
+    status != 204 && status != 304
+}
+
+#[tactic(auto, unfolding(crate::specs::Render::length_line))]
+fn put_length(alloc: Global, out: &mut Vec<u8>, answer: &Answer) -> Result<(), NoMemory>
+    ensures { OnOk result (out.new.items ≡ out.old.items ++ length_line answer.now) }
+{
+    if has_body(answer.status) {
+        put(out, b"Content-Length: ")?;
+        put_number(alloc, out, answer.body.len())?;
+        put(out, b"\r\n")
+    } else {
+        Ok(())
+    }
+}
+
+#[tactic(auto, unfolding(crate::specs::Render::close_line))]
+fn put_close(out: &mut Vec<u8>, close: bool) -> Result<(), NoMemory>
+    ensures { OnOk result (out.new.items ≡ out.old.items ++ close_line close) }
+{
+    if close {
+        put(out, b"Connection: close\r\n")
+    } else {
+        Ok(())
+    }
+}
+
+fn put_body(out: &mut Vec<u8>, answer: &Answer, head: bool) -> Result<(), NoMemory>
+    ensures { OnOk result (out.new.items ≡ out.old.items
+        ++ (if not head && has_body answer.now.status then answer.now.body else [])) }
+{
+    if !head && has_body(answer.status) {
+        put(out, answer.body.as_slice())
+    } else {
+        Ok(())
+    }
+}
+
+/// The bytes of an answer (RFC 9112, sections 4 to 6).
+///
+/// `head` says that the request was a HEAD, which gets no body, and `close` that it wants the connection closed. Fields go by
+/// rising name, and equal names in their order, with each word of a name begun by a capital. `Content-Length` is written
+/// here, but not for 204 and 304, which have no body either, and `Connection: close` where either side closes.
+#[tactic(auto, unfolding(crate::specs::Render::render))]
+pub fn render(alloc: Global, answer: &Answer, head: bool, close: bool) -> Result<Octets, NoMemory>
+    ensures { IfOk result (λ bytes. bytes ≡ render answer.now head close) }
+{
+    let fields = by_name(alloc, answer.fields.as_slice())?;
+    let mut out = Vec::new(alloc);
+    put_status(alloc, &mut out, answer.status)?;
+    put_fields(&mut out, fields.as_slice())?;
+    put_length(alloc, &mut out, answer)?;
+    put_close(&mut out, answer.close || close)?;
+    put(&mut out, b"\r\n")?;
+    put_body(&mut out, answer, head)?;
+    Ok(Octets::from_vec(out))
+}
