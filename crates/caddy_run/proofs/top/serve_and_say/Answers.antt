@@ -1,0 +1,17 @@
+use Rattle.caddy_run.specs.Output.{serving_line, served_line}
+use Rattle.caddy_run.proofs.Said.{wrote_part, wrote_more, tells_unserved}
+use Rattle.caddy_run.proofs.top.serve_and_say.Goals as goal
+
+pub returns-in-Failed-clause-told : goal.returns-in-Failed-clause-told
+returns-in-Failed-clause-told g c =
+    rw c.unserved.ensures (tells_unserved c.args.answer.now (g.L.Lane.past c.args.lane.now) (g.L.Lane.faults c.args.lane.now) _ (λ claim. cc))
+
+pub returns-in-Failed-clause-text : goal.returns-in-Failed-clause-text
+returns-in-Failed-clause-text g c =
+    let part = c.in-Failed.ensures.part in
+    rw c.unserved.ensures (wrote_part serving_line (served_line 0 1) part.0 _ (g.O.Sink.holds c.args.out.now) (g.O.Sink.holds c.say.new.out) part.1 part.2 (λ claim. cc))
+
+pub returns-clause-text : goal.returns-clause-text
+returns-clause-text g c =
+    let part = c.in-All.ensures.part in
+    wrote_more serving_line (served_line c.serve_all-counts.result.answered 1) part.0 _ (g.O.Sink.holds c.args.out.now) (g.O.Sink.holds c.say.new.out) (g.O.Sink.holds c.say_served-status.new.out) part.1 part.2 c.say_served-status.ensures.text

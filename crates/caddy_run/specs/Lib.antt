@@ -1,0 +1,9 @@
+pub mod Words
+pub mod Site
+pub mod StaticResponse
+pub mod Replies
+pub mod Connections
+pub mod Counted
+pub mod Config
+pub mod Output
+pub mod Top

@@ -1,0 +1,27 @@
+-- What is written on the program's own output.
+use Rattle.std.specs.Prelude.{◌≡◌, ◌++◌, ℕ, List, codes, decimal, Option, option_map}
+use Rattle.caddy_run.specs.Connections.{IsFrontOf}
+
+abbrev pub serving_line : List ℕ
+serving_line = codes "serving initial configuration\n"
+
+-- so many requests were answered under so many configurations
+unfoldable pub served_line : ℕ → ℕ → List ℕ
+served_line answered published = codes "served " ++ decimal answered ++ codes " requests under " ++ decimal published ++ codes " configurations\n"
+
+abbrev pub run_text : ℕ → ℕ → List ℕ
+run_text answered published = serving_line ++ served_line answered published
+
+-- the line of a refusal in these words
+abbrev pub refused_line : List ℕ → List ℕ
+refused_line words = codes "refused: " ++ words ++ codes "\n"
+
+abbrev pub read_fault_line : List ℕ
+read_fault_line = codes "read fault\n"
+
+-- a sink was given a text from the front of the whole, and all of it if `complete`
+pub record Wrote (whole : List ℕ) (complete : Type 0) (old new : Option (List ℕ)) : Type 0 where
+  pub text : List ℕ
+  pub held : new ≡ option_map (λ held. held ++ text) old
+  pub front : IsFrontOf text whole
+  pub all : complete → text ≡ whole

@@ -1,0 +1,72 @@
+ghost use Rattle.std.specs.Prelude.{◌≡◌, ◌≤◌, IfOk, IsErrOf};
+ghost use Rattle.cd_outside.specs.Counts.{Rose};
+ghost use Rattle.caddy_run.specs.Config.{Gave};
+ghost use Rattle.caddy_run.specs.Top.{Loads};
+ghost use Rattle.caddy_run.specs.declared.refusal.Refusal.{Refusal as Refused};
+
+use crate::refusal::Refusal;
+use crate::site::site_in;
+use cd_outside::{Source, Taken};
+use cd_text::Octets;
+use cd_tree::MAX_TEXT_BYTES;
+use std::alloc::Global;
+
+/// Why the bytes of a configuration could not be had.
+#[derive(Clone, Copy, Debug, PartialEq, Eq)]
+pub enum ConfigFault {
+    /// The source failed.
+    Failed,
+    /// Want of memory.
+    NoMemory,
+}
+
+/// Reads the source to its end, or until it has given more bytes than a configuration may have.
+pub fn read_config<S: Source>(alloc: Global, config: &mut S) -> Result<Octets, ConfigFault>
+    ensures gave { IfOk result (λ bytes. Gave bytes (S.left config.old) (S.left config.new)) }
+    ensures later { S.faults config.old ≤ S.faults config.new }
+    ensures failed { IsErrOf result ConfigFault.Failed → Rose (S.faults config.old) (S.faults config.new) }
+{
+    let mut bytes = Octets::new(alloc);
+    let mut buffer = [0u8; 16_384];
+    while bytes.len() <= MAX_TEXT_BYTES {
+        match config.read(&mut buffer) {
+            Taken::Bytes(count) => {
+                if bytes.append(&buffer[..count]).is_err() {
+                    return Err(ConfigFault::NoMemory);
+                }
+            }
+            Taken::End => return Ok(bytes),
+            Taken::Failed => return Err(ConfigFault::Failed),
+        }
+    }
+    Ok(bytes)
+}
+
+/// Why there is no site to serve.
+#[derive(Clone, Copy, Debug, PartialEq, Eq)]
+pub enum Unloaded {
+    /// The source failed.
+    Failed,
+    /// The configuration is refused.
+    Refused(Refusal),
+    /// Want of memory.
+    NoMemory,
+}
+
+/// The text that the configuration answers with.
+pub fn load<S: Source>(alloc: Global, config: &mut S) -> Result<Octets, Unloaded>
+    ensures fine { IfOk result (λ body. Loads (S.left config.old) (S.left config.new) (Ok body)) }
+    ensures refused { (refusal : Refused) → result ≡ Err (Unloaded.Refused refusal) → Loads (S.left config.old) (S.left config.new) (Err refusal) }
+    ensures failed { result ≡ Err Unloaded.Failed → Rose (S.faults config.old) (S.faults config.new) }
+{
+    let bytes = match read_config(alloc, config) {
+        Ok(bytes) => bytes,
+        Err(ConfigFault::Failed) => return Err(Unloaded::Failed),
+        Err(ConfigFault::NoMemory) => return Err(Unloaded::NoMemory),
+    };
+    match site_in(alloc, bytes.as_slice()) {
+        Ok(body) => Ok(body),
+        Err(Refusal::NoMemory) => Err(Unloaded::NoMemory),
+        Err(refusal) => Err(Unloaded::Refused(refusal)),
+    }
+}
