@@ -1,0 +1,146 @@
+ghost use Rattle.std.specs.Prelude.{◌≡◌, [], length, IsTrue, IfOk};
+ghost use Rattle.std.specs.Option.{option_copied, ForSome};
+ghost use Rattle.cd_text.specs.Gives.{Gives};
+ghost use Rattle.cd_tree.specs.Tree.{IsSound, is_ordered};
+ghost use Rattle.cd_tree.specs.declared.tree.Tree.{Null, Object};
+ghost use Rattle.cd_path.specs.Apart.{LeavesOthers};
+ghost use Rattle.cd_path.specs.Editing.{entered, within_limits, change as change_of, edit as edit_of};
+
+use crate::elements::with_replaced;
+use crate::fault::EditFault;
+use crate::last_part::{edit_last, edit_root, post_all};
+use crate::looking::{has_last_ellipsis, member_of};
+use crate::members::set_member;
+use crate::position::place_of;
+use crate::verb::Verb;
+use cd_text::{List, Text};
+use cd_tree::{MAX_DEPTH, MAX_TEXT_BYTES, Path, Tree, copy, nesting, print_ordered};
+use std::alloc::Global;
+
+/// The tree that the verb makes of this one at a path. The old tree stays, and the new one shares nothing with it.
+///
+/// At a key, POST appends to a list and sets anything else, PUT makes what is absent, PATCH replaces and DELETE removes what
+/// is present (Caddy documentation, "API", `/config/[path]`). At a position of a list, PUT inserts before it. At the empty
+/// path the whole tree is taken as the value of a key, null as absent. POST with a last part `...` appends each element of
+/// the body. A body of DELETE is ignored.
+///
+/// The refusals come in this order: EllipsisVerb, BodyMissing, those of the parts from first to last, BodyNotList,
+/// ResultTooDeep, ResultTooLong.
+pub fn edit(
+    alloc: Global,
+    tree: &Tree,
+    verb: Verb,
+    path: &Path,
+    body: Option<&Tree>,
+) -> Result<Tree, EditFault>
+    requires tree_sound { IsSound tree.now }
+    requires body_sound { ForSome (option_copied body) IsSound }
+    ensures exact { Gives EditFault.NoMemory result
+        (edit_of tree.now verb path.now (option_copied body.entry)) }
+    ensures sound { IfOk result IsSound }
+    ensures others { IfOk result (LeavesOthers path.now tree.now) }
+{
+    edit_soundly(alloc, tree, verb, path, body)
+}
+
+/// The same without the law on other paths.
+fn edit_soundly(
+    alloc: Global,
+    tree: &Tree,
+    verb: Verb,
+    path: &Path,
+    body: Option<&Tree>,
+) -> Result<Tree, EditFault>
+    requires tree_sound { IsSound tree.now }
+    requires body_sound { ForSome (option_copied body) IsSound }
+    ensures exact { Gives EditFault.NoMemory result
+        (edit_of tree.now verb path.now (option_copied body.entry)) }
+    ensures sound { IfOk result IsSound }
+{
+    let parts = path.parts.as_slice();
+    if has_last_ellipsis(parts) && verb != Verb::Post {
+        return Err(EditFault::EllipsisVerb);
+    }
+    let made = match body {
+        Some(body) => change_ordered(alloc, verb, body, parts, tree)?,
+        None if verb == Verb::Delete => change_ordered(alloc, verb, &Tree::Null, parts, tree)?,
+        None => return Err(EditFault::BodyMissing),
+    };
+    limited(alloc, made)
+}
+
+/// The edit of a tree in which keys rise and numbers are in range, as they are in the result.
+fn change_ordered(
+    alloc: Global,
+    verb: Verb,
+    body: &Tree,
+    parts: &[Text],
+    tree: &Tree,
+) -> Result<Tree, EditFault>
+    requires tree_ordered { IsTrue (is_ordered tree.now) }
+    requires body_ordered { IsTrue (is_ordered body.now) }
+    ensures exact { Gives EditFault.NoMemory result (change_of verb body.now parts.now tree.now) }
+    ensures ordered { IfOk result (λ made. IsTrue (is_ordered made)) }
+{
+    change(alloc, verb, body, parts, tree)
+}
+
+/// The tree with the edit at the parts made, whatever its size.
+fn change(
+    alloc: Global,
+    verb: Verb,
+    body: &Tree,
+    parts: &[Text],
+    tree: &Tree,
+) -> Result<Tree, EditFault>
+    ensures { Gives EditFault.NoMemory result (change_of verb body.now parts.now tree.now) }
+{
+    let (part, rest) = match parts {
+        [] => return edit_root(alloc, verb, body, tree),
+        [part] if part.equals("...") => return post_all(alloc, body, tree),
+        [part] => return edit_last(alloc, verb, body, part, tree),
+        [part, rest @ ..] => (part, rest),
+    };
+    match tree {
+        Tree::Object(members) => {
+            let (null, empty) = (Tree::Null, Tree::Object(List::new(alloc)));
+            let old = enter(verb, member_of(members, part), &null, &empty);
+            let made = change(alloc, verb, body, rest, old)?;
+            Ok(Tree::Object(set_member(alloc, members, part, Some(made))?))
+        }
+        Tree::Items(items) => {
+            let at = place_of(items.len(), part.as_str())?;
+            let made = change(alloc, verb, body, rest, &items.as_slice()[at])?;
+            Ok(Tree::Items(with_replaced(alloc, items, at, made)?))
+        }
+        _ => Err(EditFault::NotTraversable),
+    }
+}
+
+/// The value of a key on the way: absent counts as null, and PUT takes an empty object for null.
+fn enter<'a>(verb: Verb, value: Option<&'a Tree>, null: &'a Tree, empty: &'a Tree) -> &'a Tree
+    requires null { null.now ≡ Null }
+    requires empty { empty.now ≡ Object [] }
+    ensures { result.now ≡ entered verb (option_copied value.entry) }
+{
+    match (verb, value) {
+        (Verb::Put, None | Some(Tree::Null)) => empty,
+        (_, None) => null,
+        (_, Some(value)) => value,
+    }
+}
+
+/// The tree, unless it is too deep or too long.
+fn limited(alloc: Global, tree: Tree) -> Result<Tree, EditFault>
+    requires { IsTrue (is_ordered tree) }
+    ensures exact { Gives EditFault.NoMemory result (within_limits tree) }
+    ensures sound { IfOk result IsSound }
+{
+    if nesting(&tree) > MAX_DEPTH {
+        return Err(EditFault::ResultTooDeep);
+    }
+    if print_ordered(alloc, &tree)?.len() > MAX_TEXT_BYTES {
+        return Err(EditFault::ResultTooLong);
+    }
+    Ok(tree)
+}
