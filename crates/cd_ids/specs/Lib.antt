@@ -1,0 +1,3 @@
+pub mod Ids
+pub mod Noting
+pub mod Walk

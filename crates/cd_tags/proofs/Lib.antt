@@ -1,0 +1,4 @@
+pub mod Escapes
+pub mod Parts
+pub mod Ascii
+pub mod Decoding
