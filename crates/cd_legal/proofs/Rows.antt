@@ -1,0 +1,151 @@
+-- Worked lists, computed: one configuration is replaced by another while two requests run.
+use Rattle.std.proofs.Common.{◌≡◌, true, List, [], ◌∷◌, ◌++◌, take, refl, None, Some, Ok, Err}
+use Rattle.std.specs.Prelude.{codes}
+use Rattle.cd_outside.specs.declared.key.Key.{Key}
+use Rattle.cd_outside.specs.declared.key.Key.TheVariants.{Listen, Writer}
+use Rattle.cd_outside.specs.declared.fixtures.FixtureCall.TheVariants.{Opened, NotOpened, Closed, Shut}
+use Rattle.cd_tree.specs.declared.tree.Tree.{Tree}
+use Rattle.cd_legal.specs.declared.fault.ReplayFault.TheVariants.{NotAllowed}
+use Rattle.cd_legal.specs.declared.plan.Plan.{Plan}
+use Rattle.cd_legal.specs.declared.entry.Change.{Change}
+use Rattle.cd_legal.specs.declared.entry.Change.TheVariants as change
+use Rattle.cd_legal.specs.declared.entry.Entry.{Entry}
+use Rattle.cd_legal.specs.declared.entry.Entry.TheVariants.{Draft, Made, Started, Publish, Abandon, Stopped, Begin, Finish, Retire, Cleaned, Halt}
+use Rattle.cd_legal.specs.declared.entry.Signed.{Signed}
+use Rattle.cd_legal.specs.Entry.{signed}
+use Rattle.cd_legal.specs.State.{opening_state, Conf, conf_of}
+use Rattle.cd_legal.specs.Legal.{legal, state_of, replayed}
+use Rattle.cd_legal.specs.Calls.{count, fixture_calls}
+use Rattle.cd_legal.specs.Owing.{owes_of}
+
+abbrev admin_key : Key
+admin_key = Listen record { host = codes "localhost"; port = 2019 }
+
+abbrev http_key : Key
+http_key = Listen record { host = []; port = 8080 }
+
+-- two modules without keys and two apps with one key each
+abbrev plan : Plan
+plan = record {
+  modules = record { name = codes "http"; at = record { parts = [] }; keys = [] } ∷ record { name = codes "http.handlers.static_response"; at = record { parts = [] }; keys = [] } ∷ [];
+  apps = record { name = codes "admin"; keys = admin_key ∷ [] } ∷ record { name = codes "http"; keys = http_key ∷ [] } ∷ [];
+}
+
+module _ (t u : Tree) (c : Change) where
+  abbrev up_to_finish : List Entry
+  up_to_finish = Draft 0 t plan ∷ Made 0 0 0 None ∷ Made 0 1 0 None ∷ Started 0 0 1 None ∷ Started 0 1 1 None ∷ Publish 0 1 0 change.First
+      ∷ Begin 1 1 ∷ Begin 2 1
+      ∷ Draft 1 u plan ∷ Made 1 0 0 None ∷ Made 1 1 0 None ∷ Started 1 0 1 None ∷ Started 1 1 1 None ∷ Publish 1 2 1 c
+      ∷ Stopped 0 1 ∷ Stopped 0 0 ∷ Finish 2 ∷ []
+
+  abbrev replaced : List Entry
+  replaced = up_to_finish ++ Finish 1 ∷ Retire 1 ∷ Cleaned 0 1 ∷ Cleaned 0 0 ∷ []
+
+  abbrev retired_early : List Entry
+  retired_early = up_to_finish ++ Retire 1 ∷ Finish 1 ∷ Cleaned 0 1 ∷ Cleaned 0 0 ∷ []
+
+  is_legal : legal (replaced) ≡ true
+  is_legal = refl
+
+  gives : replayed replaced ≡ Ok (state_of replaced)
+  gives = refl
+
+  serial : (state_of replaced).serial ≡ 2
+  serial = refl
+
+  tickets : (state_of replaced).tickets ≡ []
+  tickets = refl
+
+  retired : (state_of replaced).retired ≡ 1 ∷ []
+  retired = refl
+
+  configurations : conf_of (state_of replaced) 2 ≡ Conf.Of u
+  configurations = refl
+
+  one : count (take 5 replaced) http_key ≡ 1
+  one = refl
+
+  two : count (take 13 replaced) http_key ≡ 2
+  two = refl
+
+  one_again : count (take 15 replaced) http_key ≡ 1
+  one_again = refl
+
+  calls : fixture_calls replaced ≡ Opened admin_key ∷ Opened http_key ∷ []
+  calls = refl
+
+  refused : replayed retired_early ≡ Err (NotAllowed 17)
+  refused = refl
+
+  out_of_order : replayed (Draft 0 t plan ∷ Made 0 1 0 None ∷ []) ≡ Err (NotAllowed 1)
+  out_of_order = refl
+
+nothing : replayed [] ≡ Ok opening_state
+nothing = refl
+
+-- ---- keys
+
+abbrev x_key : Key
+x_key = Writer (codes "x")
+
+abbrev y_key : Key
+y_key = Writer (codes "y")
+
+-- so many modules with these keys, and no app
+abbrev modules_plan : List (List Key) → Plan
+modules_plan [] = record { modules = []; apps = [] }
+modules_plan (keys ∷ rest) = record { modules = record { name = codes "m"; at = record { parts = [] }; keys = keys } ∷ (modules_plan rest).modules; apps = [] }
+
+module _ (t : Tree) where
+  -- the second opening fails
+  abbrev second_fails : List Entry
+  second_fails = Draft 0 t (modules_plan ((x_key ∷ y_key ∷ []) ∷ [])) ∷ Made 0 0 1 (Some y_key) ∷ Abandon 0 ∷ Cleaned 0 0 ∷ []
+
+  fails_legal : legal second_fails ≡ true
+  fails_legal = refl
+
+  fails_calls : fixture_calls second_fails ≡ Opened x_key ∷ NotOpened y_key ∷ Closed x_key ∷ []
+  fails_calls = refl
+
+  -- the same module twice
+  abbrev same_twice : List Entry
+  same_twice = Draft 0 t (modules_plan ((x_key ∷ y_key ∷ []) ∷ (x_key ∷ y_key ∷ []) ∷ [])) ∷ Made 0 0 2 None ∷ Made 0 1 2 None ∷ Abandon 0 ∷ Cleaned 0 1 ∷ Cleaned 0 0 ∷ []
+
+  twice_legal : legal same_twice ≡ true
+  twice_legal = refl
+
+  twice_calls : fixture_calls same_twice ≡ Opened x_key ∷ Opened y_key ∷ Closed y_key ∷ Closed x_key ∷ []
+  twice_calls = refl
+
+  twice_count : count (take 3 same_twice) x_key ≡ 2
+  twice_count = refl
+
+  -- one configuration is published, and the host halts
+  abbrev whole_run : List Entry
+  whole_run = Draft 0 t plan ∷ Made 0 0 0 None ∷ Made 0 1 0 None ∷ Started 0 0 1 None ∷ Started 0 1 1 None ∷ Publish 0 1 0 change.First
+      ∷ Halt 2 ∷ Stopped 0 1 ∷ Stopped 0 0 ∷ Retire 1 ∷ Cleaned 0 1 ∷ Cleaned 0 0 ∷ []
+
+  run_legal : legal whole_run ≡ true
+  run_legal = refl
+
+  run_conf : conf_of (state_of whole_run) 2 ≡ Conf.Halted
+  run_conf = refl
+
+  run_calls : fixture_calls whole_run ≡ Opened admin_key ∷ Opened http_key ∷ Closed http_key ∷ Closed admin_key ∷ Shut ∷ []
+  run_calls = refl
+
+  -- a pass publishes under its ticket, and owes the retiring of both serials that no request is left under
+  abbrev first_pass : List Signed
+  first_pass = signed 0 (Begin 0 0) ∷ signed 0 (Draft 0 t (modules_plan [])) ∷ signed 0 (Publish 0 1 0 change.First) ∷ []
+
+  owes_ticket : owes_of 0 first_pass ≡ record { ticket = Some 0; draft = None; duties = [] }
+  owes_ticket = refl
+
+  owes_duty : owes_of 0 (first_pass ++ signed 0 (Finish 0) ∷ []) ≡ record { ticket = None; draft = None; duties = 0 ∷ [] }
+  owes_duty = refl
+
+  owes_both : owes_of 0 (first_pass ++ signed 0 (Finish 0) ∷ signed 0 (Halt 2) ∷ []) ≡ record { ticket = None; draft = None; duties = 0 ∷ 1 ∷ [] }
+  owes_both = refl
+
+  owes_no_more : owes_of 0 (first_pass ++ signed 0 (Finish 0) ∷ signed 0 (Retire 0) ∷ []) ≡ record { ticket = None; draft = None; duties = [] }
+  owes_no_more = refl

@@ -1,0 +1,26 @@
+use Rattle.std.proofs.Common.{◌<◌, ◌∙◌, nat_lt, refl, sym, ap, length, subst, arith}
+use Rattle.std.proofs.lemmas.Grind.{common_steps}
+use Rattle.cd_legal.specs.declared.state.Drafted.{Drafted}
+use Rattle.cd_legal.proofs.Parts.{lt-below}
+use Rattle.cd_legal.proofs.Places.{put_back, read_holds, holds_within}
+use Rattle.cd_legal.proofs.drafts.add_stopped.Goals as goal
+
+pub index_mut-drafted-requires : goal.index_mut-drafted-requires
+index_mut-drafted-requires c =
+    let out = c.into_vec-all.ensures ∙ c.replace.ensures.value in
+    let within : c.args.at < length c.args.drafts.now = holds_within _ c.args.drafts.now c.args.at c.requires in
+    grind (arith, common_steps, ap length out)
+
+pub prove-unreachable-requires : goal.prove-unreachable-requires
+prove-unreachable-requires c =
+    let out = c.into_vec-all.ensures ∙ c.replace.ensures.value in
+    let within = subst (λ xs. c.args.at < length xs) (sym out) (holds_within _ c.args.drafts.now c.args.at c.requires) in
+    let x : Drafted = c.index_mut-drafted.result.now in
+    let below = lt-below x.stopped x.started (read_holds (λ (z : Drafted). nat_lt z.stopped z.started) c.args.drafts.now _ c.args.at x out within c.index_mut-drafted.ensures.value c.requires) in
+    omega arith
+
+pub returns : goal.returns
+returns c =
+    let out = c.into_vec-all.ensures ∙ c.replace.ensures.value in
+    let within = subst (λ xs. c.args.at < length xs) (sym out) (holds_within _ c.args.drafts.now c.args.at c.requires) in
+    put_back _ c.args.drafts.now _ _ c.args.at c.index_mut-drafted.result.now _ out within c.index_mut-drafted.ensures.value refl c.from_vec.ensures

@@ -1,0 +1,10 @@
+pub mod Keys
+pub mod Entry
+pub mod State
+pub mod Legal
+pub mod Laws
+pub mod Calls
+pub mod Whole
+pub mod Placed
+pub mod Fresh
+pub mod Owing

@@ -1,0 +1,153 @@
+-- What a history leaves: the parts of a state, what is asked of them, and how one of them changes.
+use Rattle.std.specs.Prelude.{ℕ, zero, suc, ◌==◌, Bool, true, false, ◌||◌, cond, nat_lt, List, [], ◌∷◌, slice_get, Option, Some, None, map}
+use Rattle.cd_outside.specs.declared.key.Key.{Key}
+use Rattle.cd_outside.specs.declared.holder.Holder.{Holder}
+use Rattle.cd_tree.specs.declared.tree.Tree.{Tree}
+use Rattle.cd_legal.specs.declared.plan.Plan.{Plan}
+use Rattle.cd_legal.specs.declared.state.State.{State}
+use Rattle.cd_legal.specs.declared.state.Drafted.{Drafted}
+use Rattle.cd_legal.specs.declared.state.Life.{Life}
+use Rattle.cd_legal.specs.declared.state.Life.TheVariants.{Live, Published, Abandoned}
+use Rattle.cd_legal.specs.declared.state.OpenTicket.{OpenTicket}
+
+-- serial 0, and nothing made
+abbrev pub opening_state : State
+opening_state = record { serial = 0; halted = false; published = []; drafts = []; tickets = []; retired = []; pairs = [] }
+
+-- ---- lists and options
+
+-- what holds of an element, where it is there
+abbrev pub holds : {A : Type 0} → (A → Bool) → Option A → Bool
+holds test None = false
+holds test (Some x) = test x
+
+-- what holds of it unless it is absent
+abbrev pub holds_if_there : {A : Type 0} → (A → Bool) → Option A → Bool
+holds_if_there test None = true
+holds_if_there test (Some x) = test x
+
+-- the number is among these
+abbrev pub has_number : ℕ → List ℕ → Bool
+has_number n [] = false
+has_number n (m ∷ ms) = (n == m) || has_number n ms
+
+-- the list whose element at a place is f of what it was
+abbrev pub change_at : {A : Type 0} → (A → A) → ℕ → List A → List A
+change_at f n [] = []
+change_at f zero (x ∷ xs) = f x ∷ xs
+change_at f (suc n) (x ∷ xs) = x ∷ change_at f n xs
+
+-- ---- plans and holders
+
+-- the keys at a place, none past the end
+abbrev pub keys_at : List (List Key) → ℕ → List Key
+keys_at [] i = []
+keys_at (keys ∷ rest) zero = keys
+keys_at (keys ∷ rest) (suc i) = keys_at rest i
+
+-- the keys of each module of the plan
+abbrev pub module_keys : Plan → List (List Key)
+module_keys plan = map (λ m. m.keys) plan.modules
+
+-- the keys of each app of the plan
+abbrev pub app_keys : Plan → List (List Key)
+app_keys plan = map (λ a. a.keys) plan.apps
+
+-- instance i of draft d
+abbrev pub instance_of : ℕ → ℕ → Holder
+instance_of d i = record { draft = d; app = false; place = i }
+
+-- app a of draft d
+abbrev pub app_of : ℕ → ℕ → Holder
+app_of d a = record { draft = d; app = true; place = a }
+
+-- ---- drafts
+
+-- a draft that is live, of which nothing is made
+abbrev pub new_draft : Tree → Plan → Drafted
+new_draft tree plan = record { tree = tree; plan = plan; made = 0; started = 0; failed = None; life = Live; stopped = 0; cleaned = 0 }
+
+-- neither published nor abandoned
+abbrev pub is_live : Life → Bool
+is_live Live = true
+is_live (Published s) = false
+is_live Abandoned = false
+
+-- its apps may be stopped: it is abandoned, or of a serial below the current one
+abbrev pub is_over : ℕ → Life → Bool
+is_over serial Live = false
+is_over serial (Published s) = nat_lt s serial
+is_over serial Abandoned = true
+
+-- its instances may be cleaned: it is abandoned, or of a retired serial
+abbrev pub is_done : List ℕ → Life → Bool
+is_done retired Live = false
+is_done retired (Published s) = has_number s retired
+is_done retired Abandoned = true
+
+-- each app that was started is stopped
+abbrev pub all_stopped : Drafted → Bool
+all_stopped x = x.stopped == x.started
+
+-- each instance that was made is cleaned
+abbrev pub all_cleaned : Drafted → Bool
+all_cleaned x = x.cleaned == x.made
+
+-- the keys that an entry for place i may take of a draft
+abbrev pub keys_for : (Plan → List (List Key)) → ℕ → Option Drafted → List Key
+keys_for keys i None = []
+keys_for keys i (Some x) = keys_at (keys x.plan) i
+
+-- ---- serials
+
+-- the draft that was published with this serial: none for the opening and the halted configuration
+abbrev pub draft_of : ℕ → List ℕ → Option ℕ
+draft_of zero published = None
+draft_of (suc n) published = slice_get published n
+
+-- what holds of a draft, where one is named
+abbrev pub of_draft : (Drafted → Bool) → List Drafted → Option ℕ → Bool
+of_draft test drafts None = true
+of_draft test drafts (Some d) = holds_if_there test (slice_get drafts d)
+
+-- each app of the configuration with this serial is stopped
+abbrev pub apps_stopped : State → ℕ → Bool
+apps_stopped s serial = of_draft all_stopped s.drafts (draft_of serial s.published)
+
+-- what runs under a serial: nothing yet, nothing any more, or a tree
+pub data Conf : Type 0 where
+  Opening : Conf
+  Halted : Conf
+  Of : Tree → Conf
+
+-- the tree of a draft; where there is none the host has halted
+abbrev pub conf_in : Option Drafted → Conf
+conf_in None = Conf.Halted
+conf_in (Some x) = Conf.Of x.tree
+
+-- the same of a draft by its number
+abbrev pub conf_at : List Drafted → Option ℕ → Conf
+conf_at drafts None = Conf.Halted
+conf_at drafts (Some d) = conf_in (slice_get drafts d)
+
+-- the configuration with the serial: the one that no draft was published with, but for the opening one, is that of the halt
+abbrev pub conf_of : State → ℕ → Conf
+conf_of s zero = Conf.Opening
+conf_of s (suc n) = conf_at s.drafts (slice_get s.published n)
+
+-- ---- tickets
+
+-- the caller has an open ticket
+abbrev pub has_ticket : ℕ → List OpenTicket → Bool
+has_ticket caller [] = false
+has_ticket caller (t ∷ ts) = (t.caller == caller) || has_ticket caller ts
+
+-- a ticket is open at the serial
+abbrev pub is_ticketed : ℕ → List OpenTicket → Bool
+is_ticketed serial [] = false
+is_ticketed serial (t ∷ ts) = (t.serial == serial) || is_ticketed serial ts
+
+-- the tickets of all other callers
+abbrev pub without_ticket : ℕ → List OpenTicket → List OpenTicket
+without_ticket caller [] = []
+without_ticket caller (t ∷ ts) = cond (t.caller == caller) (without_ticket caller ts) (t ∷ without_ticket caller ts)

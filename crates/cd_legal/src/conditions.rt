@@ -1,0 +1,128 @@
+ghost use Rattle.std.specs.Prelude.{◌≡◌};
+ghost use Rattle.cd_legal.specs.State.{is_over, is_done, all_stopped, has_number};
+ghost use Rattle.cd_legal.specs.Legal.{is_open, may_make, may_start, is_complete, may_stop, may_clean};
+
+use crate::keys::keys_fit;
+use crate::{Drafted, Life};
+use cd_outside::{Key, Pair};
+
+/// Whether the draft is live and has no failed key.
+fn is_open(drafted: &Drafted) -> bool
+    ensures { result ≡ is_open drafted.now }
+{
+    match drafted.life {
+        Life::Live => drafted.failed.is_none(),
+        Life::Published(_) => false,
+        Life::Abandoned => false,
+    }
+}
+
+/// Whether the instance is the next one, and its keys fit.
+pub(crate) fn may_make(
+    drafted: &Drafted,
+    place: u32,
+    taken: u32,
+    failed: &Option<Key>,
+    pairs: &[Pair],
+) -> bool
+    ensures { result ≡ may_make place taken failed.now pairs.now drafted.now }
+{
+    if !is_open(drafted) || u64::from(place) != drafted.made {
+        return false;
+    }
+    match drafted.plan.modules.get(place as usize) {
+        Some(module) => keys_fit(pairs, module.keys.as_slice(), taken, failed),
+        None => false,
+    }
+}
+
+/// Whether the app is the next one behind all instances, and its keys fit.
+pub(crate) fn may_start(
+    drafted: &Drafted,
+    place: u32,
+    taken: u32,
+    failed: &Option<Key>,
+    pairs: &[Pair],
+) -> bool
+    ensures { result ≡ may_start place taken failed.now pairs.now drafted.now }
+{
+    if !is_open(drafted) || drafted.made != drafted.plan.modules.len() as u64 {
+        return false;
+    }
+    if u64::from(place) != drafted.started {
+        return false;
+    }
+    match drafted.plan.apps.get(place as usize) {
+        Some(app) => keys_fit(pairs, app.keys.as_slice(), taken, failed),
+        None => false,
+    }
+}
+
+/// Whether all instances are made and all apps are started.
+pub(crate) fn is_complete(drafted: &Drafted) -> bool
+    ensures { result ≡ is_complete drafted.now }
+{
+    is_open(drafted)
+        && drafted.made == drafted.plan.modules.len() as u64
+        && drafted.started == drafted.plan.apps.len() as u64
+}
+
+/// Whether the number is among these.
+pub(crate) fn has_number(number: u32, numbers: &[u32]) -> bool
+    ensures { result ≡ has_number number numbers.now }
+{
+    for other in numbers {
+        if number == *other {
+            return true;
+        }
+    }
+    false
+}
+
+/// Whether the apps may be stopped.
+fn is_over(serial: u32, life: Life) -> bool
+    ensures { result ≡ is_over serial life }
+{
+    match life {
+        Life::Live => false,
+        Life::Published(with) => with < serial,
+        Life::Abandoned => true,
+    }
+}
+
+/// Whether the instances may be cleaned.
+fn is_done(retired: &[u32], life: Life) -> bool
+    ensures { result ≡ is_done retired.now life }
+{
+    match life {
+        Life::Live => false,
+        Life::Published(with) => has_number(with, retired),
+        Life::Abandoned => true,
+    }
+}
+
+/// Whether the app is the last one that is started and not stopped.
+pub(crate) fn may_stop(drafted: &Drafted, place: u32, serial: u32) -> bool
+    ensures { result ≡ may_stop place serial drafted.now }
+{
+    is_over(serial, drafted.life)
+        && drafted.stopped < drafted.started
+        && u64::from(place) == drafted.started - drafted.stopped - 1
+}
+
+/// Whether each app that was started is stopped.
+pub(crate) fn all_stopped(drafted: &Drafted) -> bool
+    ensures { result ≡ all_stopped drafted.now }
+{
+    drafted.stopped == drafted.started
+}
+
+/// Whether the instance is the last one that is made and not cleaned, and may be cleaned.
+pub(crate) fn may_clean(drafted: &Drafted, place: u32, retired: &[u32]) -> bool
+    ensures { result ≡ may_clean place retired.now drafted.now }
+{
+    is_done(retired, drafted.life)
+        && all_stopped(drafted)
+        && drafted.cleaned < drafted.made
+        && u64::from(place) == drafted.made - drafted.cleaned - 1
+}

@@ -1,0 +1,65 @@
+ghost use Rattle.std.specs.Prelude.{◌≡◌};
+ghost use Rattle.cd_text.specs.Gives.{Gives};
+ghost use Rattle.cd_legal.specs.declared.fault.ReplayFault.TheVariants.{NoMemory as OutOfMemory};
+ghost use Rattle.cd_legal.specs.State.{opening_state};
+ghost use Rattle.cd_legal.specs.Legal.{replayed, Steps};
+
+use crate::drafting::{abandon, draft, halt, publish};
+use crate::making::{clean, make, start, stop};
+use crate::tickets::{begin, finish, retire};
+use crate::{Entry, ReplayFault, State};
+use cd_text::{List, NoMemory};
+use std::alloc::Global;
+
+/// The state that the entries leave, from the opening state; `NotAllowed` with the place of the first entry that the state
+/// before it does not allow, where there is one.
+pub fn replay(alloc: Global, entries: &[Entry]) -> Result<State, ReplayFault>
+    ensures { Gives OutOfMemory result (replayed entries.now) }
+{
+    let mut state = opening(alloc);
+    for place in 0..entries.len() {
+        if !step(alloc, &mut state, &entries[place])? {
+            return Err(ReplayFault::NotAllowed(place));
+        }
+    }
+    Ok(state)
+}
+
+fn opening(alloc: Global) -> State
+    ensures { result ≡ opening_state }
+{
+    State {
+        serial: 0,
+        halted: false,
+        published: List::new(alloc),
+        drafts: List::new(alloc),
+        tickets: List::new(alloc),
+        retired: List::new(alloc),
+        pairs: List::new(alloc),
+    }
+}
+
+// Makes the entry's change where it is allowed, and answers whether it is.
+fn step(alloc: Global, state: &mut State, entry: &Entry) -> Result<bool, NoMemory>
+    ensures { Steps state.old entry.now result state.new }
+{
+    match entry {
+        Entry::Draft(number, tree, plan) => draft(alloc, state, *number, tree, plan),
+        Entry::Made(draft, place, taken, failed) => {
+            make(alloc, state, *draft, *place, *taken, failed)
+        }
+        Entry::Started(draft, place, taken, failed) => {
+            start(alloc, state, *draft, *place, *taken, failed)
+        }
+        Entry::Publish(draft, serial, from, change) => {
+            publish(alloc, state, *draft, *serial, *from, change)
+        }
+        Entry::Abandon(draft) => abandon(alloc, state, *draft),
+        Entry::Stopped(draft, place) => stop(alloc, state, *draft, *place),
+        Entry::Begin(caller, serial) => begin(state, *caller, *serial),
+        Entry::Finish(caller) => finish(alloc, state, *caller),
+        Entry::Retire(serial) => retire(state, *serial),
+        Entry::Cleaned(draft, place) => clean(alloc, state, *draft, *place),
+        Entry::Halt(serial) => halt(state, *serial),
+    }
+}
