@@ -5,7 +5,7 @@ use Rattle.std.proofs.lemmas.Bool.{eqb-true}
 use Rattle.cd_outside.specs.declared.key.Key.{Key}
 use Rattle.cd_outside.specs.declared.holder.Holder.{Holder}
 use Rattle.cd_outside.specs.declared.holder.Pair.{Pair}
-use Rattle.cd_legal.specs.Keys.{holder_eq, bool_eq}
+use Rattle.cd_outside.specs.Keys.{holder_eq, bool_eq}
 use Rattle.cd_legal.specs.declared.entry.Entry.{Entry}
 use Rattle.cd_legal.specs.declared.entry.Entry.TheVariants.{Draft, Made, Started, Publish, Abandon, Stopped, Begin, Finish, Retire, Cleaned, Halt}
 use Rattle.cd_legal.specs.declared.state.State.{State}

@@ -1,4 +1,3 @@
-pub mod KeyLemmas
 pub mod Histories
 pub mod Places
 pub mod Apart

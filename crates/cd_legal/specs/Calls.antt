@@ -8,7 +8,7 @@ use Rattle.cd_outside.specs.declared.fixtures.FixtureCall.TheVariants.{Opened, N
 use Rattle.cd_legal.specs.declared.entry.Entry.{Entry}
 use Rattle.cd_legal.specs.declared.entry.Entry.TheVariants.{Draft, Made, Started, Publish, Abandon, Stopped, Begin, Finish, Retire, Cleaned, Halt}
 use Rattle.cd_legal.specs.declared.state.State.{State}
-use Rattle.cd_legal.specs.Keys.{keys_in, keys_of, without_holder, fresh_keys, key_count}
+use Rattle.cd_outside.specs.Keys.{keys_in, keys_of, without_holder, fresh_keys, key_count}
 use Rattle.cd_legal.specs.State.{opening_state, keys_for, module_keys, app_keys, instance_of, app_of, all_stopped, of_draft}
 use Rattle.cd_legal.specs.Legal.{after, state_of}
 

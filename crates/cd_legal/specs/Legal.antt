@@ -12,7 +12,7 @@ use Rattle.cd_legal.specs.declared.entry.Signed.{Signed}
 use Rattle.cd_legal.specs.declared.state.State.{State}
 use Rattle.cd_legal.specs.declared.state.Drafted.{Drafted}
 use Rattle.cd_legal.specs.declared.state.Life.TheVariants.{Published, Abandoned}
-use Rattle.cd_legal.specs.Keys.{key_eq, has_key, keys_in, without_holder, pairs_for}
+use Rattle.cd_outside.specs.Keys.{key_eq, has_key, keys_in, without_holder, pairs_for}
 use Rattle.cd_legal.specs.Entry.{entries}
 use Rattle.cd_legal.specs.State.{opening_state, holds, has_number, change_at, keys_at, module_keys, app_keys, instance_of, app_of, new_draft, is_live, is_over, is_done, all_stopped, keys_for, apps_stopped, has_ticket, is_ticketed, without_ticket}
 

@@ -1,4 +1,3 @@
-pub mod Keys
 pub mod Entry
 pub mod State
 pub mod Legal

@@ -7,7 +7,7 @@ use Rattle.cd_legal.specs.declared.entry.Entry.{Entry}
 use Rattle.cd_legal.specs.declared.entry.Entry.TheVariants.{Made, Started, Stopped, Cleaned}
 use Rattle.cd_legal.specs.declared.state.State.{State}
 use Rattle.cd_legal.specs.declared.state.Drafted.{Drafted}
-use Rattle.cd_legal.specs.Keys.{holder_eq}
+use Rattle.cd_outside.specs.Keys.{holder_eq}
 use Rattle.cd_legal.specs.State.{has_number, is_live, is_done, all_stopped, all_cleaned, instance_of, app_of}
 use Rattle.cd_legal.specs.Calls.{count}
 

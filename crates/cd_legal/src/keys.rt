@@ -1,5 +1,5 @@
 ghost use Rattle.std.specs.Prelude.{◌≡◌, ◌++◌, not, slice_get, take, IfOk, OnOk};
-ghost use Rattle.cd_legal.specs.Keys.{key_eq, holder_eq, has_key, keys_in, without_holder, pairs_for};
+ghost use Rattle.cd_outside.specs.Keys.{key_eq, holder_eq, has_key, keys_in, without_holder, pairs_for};
 ghost use Rattle.cd_legal.specs.State.{holds};
 ghost use Rattle.cd_legal.specs.Legal.{keys_fit};
 

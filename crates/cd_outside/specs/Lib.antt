@@ -8,3 +8,4 @@ pub mod Faults
 pub mod Pieces
 pub mod Script
 pub mod FixtureRecord
+pub mod Keys

@@ -3,7 +3,7 @@ use Rattle.std.specs.Option.{option_copied}
 use Rattle.cd_outside.specs.declared.key.Key.{Key}
 use Rattle.cd_legal.specs.declared.plan.PlanApp.{PlanApp}
 use Rattle.std.specs.Prelude.{List}
-use Rattle.cd_legal.specs.Keys.{keys_in}
+use Rattle.cd_outside.specs.Keys.{keys_in}
 use Rattle.cd_legal.specs.Legal.{keys_fit}
 use Rattle.cd_legal.proofs.Parts.{fits_there, fits_nowhere, then_started}
 use Rattle.cd_legal.proofs.conditions.may_start.Goals as goal

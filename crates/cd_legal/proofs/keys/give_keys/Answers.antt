@@ -1,8 +1,8 @@
 use Rattle.std.proofs.Common.{rules, ◌∙◌, ap, not}
 use Rattle.std.proofs.lemmas.Fn.{filter_same}
 use Rattle.cd_outside.specs.declared.holder.Pair.{Pair}
-use Rattle.cd_legal.specs.Keys.{holder_eq, without_holder}
-use Rattle.cd_legal.proofs.KeyLemmas.{filter-without}
+use Rattle.cd_outside.specs.Keys.{holder_eq, without_holder}
+use Rattle.cd_outside.proofs.KeyLemmas.{filter-without}
 use Rattle.cd_legal.proofs.keys.give_keys.Goals as goal
 
 pub returns : goal.returns

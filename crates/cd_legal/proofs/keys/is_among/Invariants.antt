@@ -1,5 +1,5 @@
 use Rattle.std.proofs.Common.{◌≡◌, drop}
-use Rattle.cd_legal.specs.Keys.{has_key}
+use Rattle.cd_outside.specs.Keys.{has_key}
 use Rattle.cd_legal.proofs.keys.is_among.Given as goal
 
 abbrev pub invariant-loop-other : goal.invariant-loop-other

@@ -1,6 +1,6 @@
 use Rattle.std.proofs.Common.{◌≡◌, Bool, true, false, ◌||◌, ◌∙◌, ap, sym, not}
-use Rattle.cd_legal.specs.Keys.{keys_in}
-use Rattle.cd_legal.proofs.KeyLemmas.{has_key-append}
+use Rattle.cd_outside.specs.Keys.{keys_in}
+use Rattle.cd_outside.proofs.KeyLemmas.{has_key-append}
 use Rattle.cd_legal.proofs.keys.is_free.Goals as goal
 use Rattle.cd_legal.proofs.keys.is_free.Goals.{then-is_held, else-is_held}
 

@@ -1,5 +1,5 @@
 use Rattle.std.proofs.Common.{◌≡◌, drop}
-use Rattle.cd_legal.specs.Keys.{has_key, keys_in}
+use Rattle.cd_outside.specs.Keys.{has_key, keys_in}
 use Rattle.cd_legal.proofs.keys.is_held.Given as goal
 
 abbrev pub invariant-loop-pair : goal.invariant-loop-pair

@@ -1,5 +1,5 @@
 use Rattle.std.proofs.Common.{◌≡◌, ◌++◌, take}
-use Rattle.cd_legal.specs.Keys.{pairs_for}
+use Rattle.cd_outside.specs.Keys.{pairs_for}
 use Rattle.cd_legal.proofs.keys.take_keys.Given as goal
 
 abbrev pub invariant-loop-key : goal.invariant-loop-key

@@ -8,7 +8,7 @@ use Rattle.cd_outside.specs.declared.key.Key.{Key}
 use Rattle.cd_outside.specs.declared.key.Key.TheVariants.{Listen, Writer}
 use Rattle.cd_outside.specs.declared.holder.Holder.{Holder}
 use Rattle.cd_outside.specs.declared.holder.Pair.{Pair}
-use Rattle.cd_legal.specs.Keys.{key_eq, bool_eq, holder_eq, has_key, keys_in, keys_of, without_holder, pairs_for, fresh_keys}
+use Rattle.cd_outside.specs.Keys.{key_eq, bool_eq, holder_eq, has_key, keys_in, keys_of, without_holder, pairs_for, fresh_keys}
 
 pub and-left : (a b : Bool) → (a && b) ≡ true → a ≡ true
 and-left true b e = refl
