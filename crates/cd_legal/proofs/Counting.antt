@@ -17,16 +17,15 @@ use Rattle.cd_legal.specs.Whole.{begun}
 use Rattle.cd_legal.proofs.Places.{get_change_same, get_change_other}
 
 -- how many instances, or apps, were made of a draft
-abbrev made_of : Bool → Drafted → ℕ
-made_of true x = x.started
-made_of false x = x.made
+abbrev pub made_of : Bool → Drafted → ℕ
+made_of app x = cond app x.started x.made
 
 -- whether the state has made what the holder names
-abbrev begun_by : Holder → Option Drafted → ℕ
+abbrev pub begun_by : Holder → Option Drafted → ℕ
 begun_by h None = 0
 begun_by h (Some x) = cond (nat_lt h.place (made_of h.app x)) 1 0
 
-abbrev begun_in : Holder → State → ℕ
+abbrev pub begun_in : Holder → State → ℕ
 begun_in h s = begun_by h (slice_get s.drafts h.draft)
 
 kept : (h : Holder) (f : Drafted → Drafted) → ((app : Bool) (x : Drafted) → made_of app (f x) ≡ made_of app x) → (o : Option Drafted) → begun_by h (option_map f o) ≡ begun_by h o
@@ -42,7 +41,7 @@ kept_in h f same d drafts = ⊎_elim
 nothing : (p : ℕ) → cond {A = ℕ} (nat_lt p 0) 1 0 ≡ 0
 nothing p = grind (arith, nat_tests)
 
-add_none : (b c : Bool) (n : ℕ) → b ≡ false → n ≡ cond (b && c) 1 0 + n
+pub add_none : (b c : Bool) (n : ℕ) → b ≡ false → n ≡ cond (b && c) 1 0 + n
 add_none true c n e = cc
 add_none false c n e = omega arith
 
@@ -117,7 +116,7 @@ next_started : (i taken : ℕ) (failed : Option Key) (ps : List Pair) (o : Optio
 next_started i taken failed ps None e = cc
 next_started i taken failed ps (Some x) e = left (i == x.started) _ (right (x.made == length x.plan.modules) _ (right (is_open x) _ e))
 
-plus_none : (m n : ℕ) → m ≡ n → m ≡ 0 + n
+pub plus_none : (m n : ℕ) → m ≡ n → m ≡ 0 + n
 plus_none m n e = omega arith
 
 -- what one entry makes
@@ -134,7 +133,7 @@ step h s (Retire n) may = plus_none _ _ refl
 step h s (Cleaned d i) may = plus_none _ _ (kept_in h (λ x. record x { cleaned = x.cleaned + 1 }) (λ app x. both_same app x (record x { cleaned = x.cleaned + 1 }) refl refl) d s.drafts)
 step h s (Halt n) may = plus_none _ _ refl
 
-counted : (b : Bool) (n : ℕ) → cond b (suc n) n ≡ cond b (suc 0) 0 + n
+pub counted : (b : Bool) (n : ℕ) → cond b (suc n) n ≡ cond b (suc 0) 0 + n
 counted true n = omega arith
 counted false n = omega arith
 

@@ -8,3 +8,11 @@ mod Rows
 pub mod Parts
 pub mod Filters
 pub mod Replayed
+pub mod Others
+pub mod Lives
+pub mod Leaving
+pub mod Undone
+pub mod Sound
+pub mod Ending
+pub mod Running
+pub mod Over

@@ -7,3 +7,4 @@ pub mod Whole
 pub mod Placed
 pub mod Fresh
 pub mod Owing
+pub mod Abandoned

@@ -34,7 +34,9 @@ mod tickets;
 pub use entry::{Change, Entry, Signed};
 pub use fault::ReplayFault;
 pub use laws::{
-    legal_is_fresh, legal_where_nothing_is_refused, nothing_is_made_twice, tickets_stand_apart,
+    abandoned_drafts_leave_all_else, abandoned_drafts_leave_no_trace, legal_is_fresh,
+    legal_where_nothing_is_refused, nothing_is_made_twice, tickets_stand_apart,
+    what_is_over_is_whole,
 };
 pub use limits::{LAST_SERIAL, MAX_BEGINS, MAX_DRAFTS, MAX_PASSES, MAX_SEATS, MAX_UNRETIRED};
 pub use plan::{Plan, PlanApp, PlanModule};

@@ -1,0 +1,133 @@
+-- Each pair's holder is begun, and not ended.
+use Rattle.std.proofs.Common.{◌≡◌, ◌≢◌, ℕ, ◌+◌, ◌==◌, Bool, true, false, ◌&&◌, not, cond, nat_lt, List, [], ◌∷◌, ◌++◌, take, slice_get, Option, refl, sym, ap, ◌∙◌, ⊎_elim, arith, eq-eqb}
+use Rattle.std.specs.List.{list_all}
+use Rattle.std.proofs.lemmas.Bool.Decides.{nat_tests, eqb_tells}
+use Rattle.std.proofs.lemmas.Bool.{eqb-true, eqb-false}
+use Rattle.std.proofs.lemmas.List.Folds.{list_all-append}
+use Rattle.cd_outside.specs.declared.key.Key.{Key}
+use Rattle.cd_outside.specs.declared.holder.Holder.{Holder}
+use Rattle.cd_outside.specs.declared.holder.Pair.{Pair}
+use Rattle.cd_outside.specs.Keys.{holder_eq, bool_eq, without_holder, pairs_for}
+use Rattle.cd_legal.specs.declared.entry.Entry.{Entry}
+use Rattle.cd_legal.specs.declared.entry.Entry.TheVariants.{Draft, Made, Started, Publish, Abandon, Stopped, Begin, Finish, Retire, Cleaned, Halt}
+use Rattle.cd_legal.specs.declared.state.State.{State}
+use Rattle.cd_legal.specs.declared.state.Drafted.{Drafted}
+use Rattle.cd_legal.specs.State.{holds, change_at, is_live, is_over, is_done, all_stopped, instance_of, app_of, module_keys, app_keys, keys_for}
+use Rattle.cd_legal.specs.Legal.{allowed, after, legal_from, state_from, may_make, may_start, may_stop, may_clean, is_complete, is_open}
+use Rattle.cd_legal.proofs.Histories.{both, first, second}
+use Rattle.cd_legal.proofs.Places.{get_change_other, holds_kept, holds_made, holds_push}
+use Rattle.cd_legal.proofs.Counting.{made_of}
+use Rattle.cd_legal.proofs.Sound.{is_sound, bound_of, are_sound, sound, sound_at, live_whole}
+use Rattle.cd_legal.proofs.Ending.{over_of}
+
+-- the place is made of the draft, and none of the last that are ended
+abbrev pub runs : Bool → ℕ → Drafted → Bool
+runs app p x = nat_lt (p + over_of app x) (made_of app x)
+
+-- so of the draft that the holder names
+abbrev pub runs_in : Holder → List Drafted → Bool
+runs_in h xs = holds (runs h.app h.place) (slice_get xs h.draft)
+
+-- so of the holder of each pair
+abbrev pub all_run : List Drafted → List Pair → Bool
+all_run xs ps = list_all (λ p. runs_in p.holder xs) ps
+
+-- ---- lists of pairs
+
+still_run : (xs ys : List Drafted) → ((h : Holder) → runs_in h xs ≡ true → runs_in h ys ≡ true) → (ps : List Pair) → all_run xs ps ≡ true → all_run ys ps ≡ true
+still_run xs ys keeps [] all = refl
+still_run xs ys keeps (p ∷ ps) all = both (runs_in p.holder ys) _ (keeps p.holder (first (runs_in p.holder xs) _ all)) (still_run xs ys keeps ps (second (runs_in p.holder xs) _ all))
+
+others_one : (b : Bool) (ys : List Drafted) (p : Pair) (ws : List Pair) → (b ≡ false → runs_in p.holder ys ≡ true) → all_run ys ws ≡ true → all_run ys (cond b ws (p ∷ ws)) ≡ true
+others_one true ys p ws here all = all
+others_one false ys p ws here all = both (runs_in p.holder ys) _ (here refl) all
+
+others_run : (g : Holder) (xs ys : List Drafted) → ((h : Holder) → holder_eq g h ≡ false → runs_in h xs ≡ true → runs_in h ys ≡ true) → (ps : List Pair) → all_run xs ps ≡ true → all_run ys (without_holder g ps) ≡ true
+others_run g xs ys keeps [] all = refl
+others_run g xs ys keeps (p ∷ ps) all = others_one (holder_eq g p.holder) ys p (without_holder g ps) (λ ne. keeps p.holder ne (first (runs_in p.holder xs) _ all)) (others_run g xs ys keeps ps (second (runs_in p.holder xs) _ all))
+
+own_run : (h : Holder) (ys : List Drafted) → runs_in h ys ≡ true → (ks : List Key) → all_run ys (pairs_for h ks) ≡ true
+own_run h ys here [] = refl
+own_run h ys here (k ∷ ks) = both (runs_in h ys) _ here (own_run h ys here ks)
+
+taken_run : (h : Holder) (ys : List Drafted) (ps : List Pair) (ks : List Key) → all_run ys ps ≡ true → runs_in h ys ≡ true → all_run ys (ps ++ pairs_for h ks) ≡ true
+taken_run h ys ps ks all here = list_all-append (λ (p : Pair). runs_in p.holder ys) ps (pairs_for h ks) ∙ both (all_run ys ps) _ all (own_run h ys here ks)
+
+-- ---- one more made
+
+up : (p e m : ℕ) → nat_lt (p + e) m ≡ true → nat_lt (p + e) (m + 1) ≡ true
+up p e m is = grind (arith, nat_tests)
+
+last : (i e m : ℕ) → i ≡ m → e ≡ 0 → nat_lt (i + e) (m + 1) ≡ true
+last i e m is none = grind (arith, nat_tests)
+
+made_keeps : (app : Bool) (p : ℕ) (failed : Option Key) (x : Drafted) → runs app p x ≡ true → runs app p (record x { made = x.made + 1; failed = failed }) ≡ true
+made_keeps true p failed x is = is
+made_keeps false p failed x is = up p x.cleaned x.made is
+
+started_keeps : (app : Bool) (p : ℕ) (failed : Option Key) (x : Drafted) → runs app p x ≡ true → runs app p (record x { started = x.started + 1; failed = failed }) ≡ true
+started_keeps true p failed x is = up p x.stopped x.started is
+started_keeps false p failed x is = is
+
+made_runs : (bound i taken : ℕ) (failed : Option Key) (ps : List Pair) (x : Drafted) → (is_sound bound x && may_make i taken failed ps x) ≡ true → runs false i (record x { made = x.made + 1; failed = failed }) ≡ true
+made_runs bound i taken failed ps x m =
+    let may = second (is_sound bound x) _ m in
+    last i x.cleaned x.made (eqb-true i x.made (first (i == x.made) _ (second (is_open x) _ may))) (live_whole bound x (first (is_open x) _ may) (first (is_sound bound x) _ m)).1
+
+started_runs : (bound a taken : ℕ) (failed : Option Key) (ps : List Pair) (x : Drafted) → (is_sound bound x && may_start a taken failed ps x) ≡ true → runs true a (record x { started = x.started + 1; failed = failed }) ≡ true
+started_runs bound a taken failed ps x m =
+    let may = second (is_sound bound x) _ m in
+    last a x.stopped x.started (eqb-true a x.started (first (a == x.started) _ (second (x.made == _) _ (second (is_open x) _ may)))) (live_whole bound x (first (is_open x) _ may) (first (is_sound bound x) _ m)).0
+
+-- ---- one more ended
+
+next_down : (p a e m : ℕ) → a ≢ p → a + 1 + e ≡ m → nat_lt (p + e) m ≡ true → nat_lt (p + (e + 1)) m ≡ true
+next_down p a e m ne is t = grind (arith, nat_tests)
+
+stopped_keeps : (a serial : ℕ) (app : Bool) (p : ℕ) (x : Drafted) → (app && (a == p)) ≡ false → may_stop a serial x ≡ true → runs app p x ≡ true → runs app p (record x { stopped = x.stopped + 1 }) ≡ true
+stopped_keeps a serial true p x ne m t = next_down p a x.stopped x.started (eqb-false a p ne) (eqb-true (a + 1 + x.stopped) x.started (second (is_over serial x.life) _ m)) t
+stopped_keeps a serial false p x ne m t = t
+
+cleaned_keeps : (i : ℕ) (retired : List ℕ) (app : Bool) (p : ℕ) (x : Drafted) → (not app && (i == p)) ≡ false → may_clean i retired x ≡ true → runs app p x ≡ true → runs app p (record x { cleaned = x.cleaned + 1 }) ≡ true
+cleaned_keeps i retired true p x ne m t = t
+cleaned_keeps i retired false p x ne m t = next_down p i x.cleaned x.made (eqb-false i p ne) (eqb-true (i + 1 + x.cleaned) x.made (second (all_stopped x) _ (second (is_done retired x.life) _ m))) t
+
+not_here : (b c : Bool) → b ≡ true → (b && c) ≡ false → c ≡ false
+not_here true c is e = e
+not_here false c is e = cc
+
+-- a change at one draft, which keeps what all but one holder names
+module _ (g : Holder) (may : Drafted → Bool) (f : Drafted → Drafted) (keeps : (app : Bool) (p : ℕ) (x : Drafted) → (bool_eq g.app app && (g.place == p)) ≡ false → may x ≡ true → runs app p x ≡ true → runs app p (f x) ≡ true) where
+  but_one : (xs : List Drafted) → holds may (slice_get xs g.draft) ≡ true → (h : Holder) → holder_eq g h ≡ false → runs_in h xs ≡ true → runs_in h (change_at f g.draft xs) ≡ true
+  but_one xs m h ne t = ⊎_elim
+      (λ q. holds_kept (runs h.app h.place) may f (λ x n u. keeps h.app h.place x (not_here (g.draft == h.draft) _ (eq-eqb g.draft h.draft (sym q.1)) ne) n u) xs g.draft h.draft m t)
+      (λ q. ap (holds (runs h.app h.place)) (get_change_other f xs g.draft h.draft q.1) ∙ t) (eqb_tells h.draft g.draft)
+
+-- ---- a history
+
+unchanged : (s : State) (d : ℕ) (may : Drafted → Bool) (f : Drafted → Drafted) → ((app : Bool) (p : ℕ) (x : Drafted) → runs app p x ≡ true → runs app p (f x) ≡ true) → holds may (slice_get s.drafts d) ≡ true → all_run s.drafts s.pairs ≡ true → all_run (change_at f d s.drafts) s.pairs ≡ true
+unchanged s d may f keeps m all = still_run s.drafts (change_at f d s.drafts) (λ h t. holds_kept (runs h.app h.place) may f (λ x n u. keeps h.app h.place x u) s.drafts d h.draft m t) s.pairs all
+
+run : (s : State) (e : Entry) → are_sound s ≡ true → allowed s e ≡ true → all_run s.drafts s.pairs ≡ true → all_run (after s e).drafts (after s e).pairs ≡ true
+run s (Draft d tree plan) fine may all = still_run s.drafts _ (λ h t. holds_push (runs h.app h.place) _ s.drafts h.draft t) s.pairs all
+run s (Made d i taken failed) fine may all =
+    taken_run (instance_of d i) _ s.pairs (take taken (keys_for module_keys i (slice_get s.drafts d))) (unchanged s d (may_make i taken failed s.pairs) _ (λ app p x t. made_keeps app p failed x t) may all)
+    (holds_made (runs false i) (λ x. is_sound (bound_of s) x && may_make i taken failed s.pairs x) _ (made_runs (bound_of s) i taken failed s.pairs) s.drafts d (sound_at s d (may_make i taken failed s.pairs) fine may))
+run s (Started d a taken failed) fine may all =
+    taken_run (app_of d a) _ s.pairs (take taken (keys_for app_keys a (slice_get s.drafts d))) (unchanged s d (may_start a taken failed s.pairs) _ (λ app p x t. started_keeps app p failed x t) may all)
+    (holds_made (runs true a) (λ x. is_sound (bound_of s) x && may_start a taken failed s.pairs x) _ (started_runs (bound_of s) a taken failed s.pairs) s.drafts d (sound_at s d (may_start a taken failed s.pairs) fine may))
+run s (Publish d n from c) fine may all = unchanged s d is_complete _ (λ app p x t. t) (first (holds is_complete (slice_get s.drafts d)) _ (second (not s.halted) _ may)) all
+run s (Abandon d) fine may all = unchanged s d (λ x. is_live x.life) _ (λ app p x t. t) may all
+run s (Stopped d a) fine may all = others_run (app_of d a) s.drafts _ (but_one (app_of d a) (may_stop a s.serial) _ (stopped_keeps a s.serial) s.drafts may) s.pairs all
+run s (Begin k n) fine may all = all
+run s (Finish k) fine may all = all
+run s (Retire n) fine may all = all
+run s (Cleaned d i) fine may all = others_run (instance_of d i) s.drafts _ (but_one (instance_of d i) (may_clean i s.retired) _ (cleaned_keeps i s.retired) s.drafts may) s.pairs all
+run s (Halt n) fine may all = all
+
+-- of each pair of a legal history
+pub run_from : (s : State) (log : List Entry) → are_sound s ≡ true → legal_from s log ≡ true → all_run s.drafts s.pairs ≡ true → all_run (state_from s log).drafts (state_from s log).pairs ≡ true
+run_from s [] fine legal all = all
+run_from s (e ∷ es) fine legal all =
+    let may = first (allowed s e) _ legal in
+    run_from (after s e) es (sound s e may fine) (second (allowed s e) _ legal) (run s e fine may all)
