@@ -45,10 +45,6 @@ pub add_none : (b c : Bool) (n : ℕ) → b ≡ false → n ≡ cond (b && c) 1 
 add_none true c n e = cc
 add_none false c n e = omega arith
 
-both_same : (app : Bool) (x y : Drafted) → y.made ≡ x.made → y.started ≡ x.started → made_of app y ≡ made_of app x
-both_same true x y m t = t
-both_same false x y m t = m
-
 drafted : (h : Holder) (drafts : List Drafted) (x : Drafted) (j : ℕ) → ((app : Bool) → made_of app x ≡ 0) → begun_by h (slice_get (drafts ++ x ∷ []) j) ≡ begun_by h (slice_get drafts j)
 drafted h [] x zero none = ap (λ (z : ℕ). cond {A = ℕ} (nat_lt h.place z) 1 0) (none h.app) ∙ nothing h.place
 drafted h [] x (suc j) none = refl
@@ -124,13 +120,13 @@ step : (h : Holder) (s : State) (e : Entry) → allowed s e ≡ true → begun_i
 step h s (Draft d tree plan) may = plus_none _ _ (drafted h s.drafts (new_draft tree plan) h.draft (λ app. none_made app (new_draft tree plan) refl refl))
 step h s (Made d i taken failed) may = made d i failed h s.drafts (next_made i taken failed s.pairs (slice_get s.drafts d) may)
 step h s (Started d i taken failed) may = started d i failed h s.drafts (next_started i taken failed s.pairs (slice_get s.drafts d) may)
-step h s (Publish d n from change) may = plus_none _ _ (kept_in h (λ x. record x { life = Published n }) (λ app x. both_same app x (record x { life = Published n }) refl refl) d s.drafts)
-step h s (Abandon d) may = plus_none _ _ (kept_in h (λ x. record x { life = Abandoned }) (λ app x. both_same app x (record x { life = Abandoned }) refl refl) d s.drafts)
-step h s (Stopped d a) may = plus_none _ _ (kept_in h (λ x. record x { stopped = x.stopped + 1 }) (λ app x. both_same app x (record x { stopped = x.stopped + 1 }) refl refl) d s.drafts)
+step h s (Publish d n from change) may = plus_none _ _ (kept_in h (λ x. record x { life = Published n }) (λ app x. refl) d s.drafts)
+step h s (Abandon d) may = plus_none _ _ (kept_in h (λ x. record x { life = Abandoned }) (λ app x. refl) d s.drafts)
+step h s (Stopped d a) may = plus_none _ _ (kept_in h (λ x. record x { stopped = x.stopped + 1 }) (λ app x. refl) d s.drafts)
 step h s (Begin k n) may = plus_none _ _ refl
 step h s (Finish k) may = plus_none _ _ refl
 step h s (Retire n) may = plus_none _ _ refl
-step h s (Cleaned d i) may = plus_none _ _ (kept_in h (λ x. record x { cleaned = x.cleaned + 1 }) (λ app x. both_same app x (record x { cleaned = x.cleaned + 1 }) refl refl) d s.drafts)
+step h s (Cleaned d i) may = plus_none _ _ (kept_in h (λ x. record x { cleaned = x.cleaned + 1 }) (λ app x. refl) d s.drafts)
 step h s (Halt n) may = plus_none _ _ refl
 
 pub counted : (b : Bool) (n : ℕ) → cond b (suc n) n ≡ cond b (suc 0) 0 + n

@@ -4,7 +4,6 @@ pub mod Apart
 pub mod Counting
 pub mod Placed
 pub mod Fresh
-mod Rows
 pub mod Parts
 pub mod Filters
 pub mod Replayed
@@ -16,3 +15,4 @@ pub mod Sound
 pub mod Ending
 pub mod Running
 pub mod Over
+mod Rows

@@ -1,5 +1,5 @@
 -- Worked lists, computed: one configuration is replaced by another while two requests run.
-use Rattle.std.proofs.Common.{◌≡◌, true, List, [], ◌∷◌, ◌++◌, take, refl, None, Some, Ok, Err}
+use Rattle.std.proofs.Common.{◌≡◌, ℕ, true, List, [], ◌∷◌, ◌++◌, take, refl, None, Some, Ok, Err, arith}
 use Rattle.std.specs.Prelude.{codes}
 use Rattle.cd_outside.specs.declared.key.Key.{Key}
 use Rattle.cd_outside.specs.declared.key.Key.TheVariants.{Listen, Writer}
@@ -13,10 +13,15 @@ use Rattle.cd_legal.specs.declared.entry.Entry.{Entry}
 use Rattle.cd_legal.specs.declared.entry.Entry.TheVariants.{Draft, Made, Started, Publish, Abandon, Stopped, Begin, Finish, Retire, Cleaned, Halt}
 use Rattle.cd_legal.specs.declared.entry.Signed.{Signed}
 use Rattle.cd_legal.specs.Entry.{signed}
-use Rattle.cd_legal.specs.State.{opening_state, Conf, conf_of}
+use Rattle.cd_legal.specs.State.{opening_state, Conf, conf_of, instance_of}
 use Rattle.cd_legal.specs.Legal.{legal, state_of, replayed}
 use Rattle.cd_legal.specs.Calls.{count, fixture_calls}
+use Rattle.cd_legal.specs.Whole.{ended, IsWhole, IsOver}
+use Rattle.cd_legal.specs.Abandoned.{is_abandoned_in, without_draft, pairs_of_others, Leaves}
 use Rattle.cd_legal.specs.Owing.{owes_of}
+use Rattle.cd_legal.proofs.Leaving.{leaving}
+use Rattle.cd_legal.proofs.Undone.{no_trace}
+use Rattle.cd_legal.proofs.Over.{over-whole}
 
 abbrev admin_key : Key
 admin_key = Listen record { host = codes "localhost"; port = 2019 }
@@ -123,7 +128,7 @@ module _ (t : Tree) where
   -- one configuration is published, and the host halts
   abbrev whole_run : List Entry
   whole_run = Draft 0 t plan ∷ Made 0 0 0 None ∷ Made 0 1 0 None ∷ Started 0 0 1 None ∷ Started 0 1 1 None ∷ Publish 0 1 0 change.First
-      ∷ Halt 2 ∷ Stopped 0 1 ∷ Stopped 0 0 ∷ Retire 1 ∷ Cleaned 0 1 ∷ Cleaned 0 0 ∷ []
+      ∷ Retire 0 ∷ Halt 2 ∷ Stopped 0 1 ∷ Stopped 0 0 ∷ Retire 1 ∷ Cleaned 0 1 ∷ Cleaned 0 0 ∷ []
 
   run_legal : legal whole_run ≡ true
   run_legal = refl
@@ -133,6 +138,19 @@ module _ (t : Tree) where
 
   run_calls : fixture_calls whole_run ≡ Opened admin_key ∷ Opened http_key ∷ Closed http_key ∷ Closed admin_key ∷ Shut ∷ []
   run_calls = refl
+
+  run_over : IsOver (state_of whole_run)
+  run_over = record { halted = refl; drafts = refl; tickets = refl; retired = refl; finished = refl }
+
+  run_whole : IsWhole whole_run
+  run_whole = over-whole whole_run refl run_over
+
+  -- the last instance is not cleaned before the last entry
+  before_the_last : ended (instance_of 0 0) (take 12 whole_run) ≡ 0
+  before_the_last = refl
+
+  not_before : IsWhole (take 12 whole_run) → ⊥
+  not_before whole = let e : ◌≡◌ {A = ℕ} 0 1 = whole.ended (instance_of 0 0) in omega (arith, e)
 
   -- a pass publishes under its ticket, and owes the retiring of both serials that no request is left under
   abbrev first_pass : List Signed
@@ -149,3 +167,45 @@ module _ (t : Tree) where
 
   owes_no_more : owes_of 0 (first_pass ++ signed 0 (Finish 0) ∷ signed 0 (Retire 0) ∷ []) ≡ record { ticket = None; draft = None; duties = [] }
   owes_no_more = refl
+
+-- ---- a load that fails while a request runs
+
+module _ (t u : Tree) where
+  abbrev published : List Entry
+  published = Draft 0 t plan ∷ Made 0 0 0 None ∷ Made 0 1 0 None ∷ Started 0 0 1 None ∷ Started 0 1 1 None ∷ Publish 0 1 0 change.First ∷ Begin 1 1 ∷ []
+
+  -- the second draft takes the key of the first one's last app too, and then cannot open another
+  abbrev load_fails : List Entry
+  load_fails = published ++ Draft 1 u (modules_plan ((http_key ∷ y_key ∷ []) ∷ [])) ∷ Made 1 0 1 (Some y_key) ∷ Abandon 1 ∷ Cleaned 1 0 ∷ Finish 1 ∷ []
+
+  load_legal : legal load_fails ≡ true
+  load_legal = refl
+
+  load_abandoned : is_abandoned_in (state_of load_fails) 1 ≡ true
+  load_abandoned = refl
+
+  load_tree : conf_of (state_of load_fails) (state_of load_fails).serial ≡ Conf.Of t
+  load_tree = refl
+
+  load_calls : fixture_calls load_fails ≡ Opened admin_key ∷ Opened http_key ∷ NotOpened y_key ∷ []
+  load_calls = refl
+
+  -- its instance takes and gives back a key
+  taken_apart : pairs_of_others 1 (state_of (take 9 load_fails)).pairs ≡ (state_of published).pairs
+  taken_apart = refl
+
+  made_leaves : Leaves 1 (state_of (take 8 load_fails)) (state_of (take 9 load_fails))
+  made_leaves = leaving load_fails refl 1 (take 8 load_fails) (Made 1 0 1 (Some y_key)) (Abandon 1 ∷ Cleaned 1 0 ∷ Finish 1 ∷ []) refl refl refl
+
+  cleaned_leaves : Leaves 1 (state_of (take 10 load_fails)) (state_of (take 11 load_fails))
+  cleaned_leaves = leaving load_fails refl 1 (take 10 load_fails) (Cleaned 1 0) (Finish 1 ∷ []) refl refl refl
+
+  -- without it, but for the entry that makes its draft
+  without_it : without_draft 1 load_fails ≡ published ++ Draft 1 u (modules_plan ((http_key ∷ y_key ∷ []) ∷ [])) ∷ Finish 1 ∷ []
+  without_it = refl
+
+  load_leaves : Leaves 1 (state_of (without_draft 1 load_fails)) (state_of load_fails)
+  load_leaves = (no_trace load_fails refl 1 refl).1
+
+  same_pairs : (state_of load_fails).pairs ≡ (state_of (without_draft 1 load_fails)).pairs
+  same_pairs = refl

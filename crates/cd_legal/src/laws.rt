@@ -46,9 +46,9 @@ pub fn legal_is_fresh(log: &[Signed])
 /// serial, the trees, the tickets and the pairs of all other holders.
 pub fn abandoned_drafts_leave_all_else(log: &[Entry])
     requires { IsTrue (legal log.now) }
-    ensures { (draft : ℕ) (front : List Entry) (e : Entry) (back : List Entry) →
-        IsTrue (is_abandoned_in (state_of log.now) draft) → IsTrue (is_entry_of draft e) → log.now ≡ front ++ e ∷ back →
-        Leaves draft (state_of front) (state_of (front ++ e ∷ [])) }
+    ensures { (draft : ℕ) (front : List Entry) (entry : Entry) (back : List Entry) →
+        IsTrue (is_abandoned_in (state_of log.now) draft) → IsTrue (is_entry_of draft entry) → log.now ≡ front ++ entry ∷ back →
+        Leaves draft (state_of front) (state_of (front ++ entry ∷ [])) }
 {
     let _ = log;
 }

@@ -5,8 +5,8 @@
 //! in the state that those before it leave. All conditions compute, so that a written list is proved legal by computing it.
 //!
 //! `replay` gives the state that a list leaves exactly where it is legal, and else the first place that is not allowed. The
-//! laws of `laws` say of every legal list what the layers above need. What fixtures are asked for, when all is ended, what a
-//! pass has seen and what it owes are definitions over lists, in specs/ under those names.
+//! laws of `laws` say of every legal list what the layers above need. What fixtures are asked for, which entries are those of a
+//! draft, when all is ended, what a pass has seen and what it owes are definitions over lists, in specs/.
 //!
 //! Nothing of modules is known here: the entry of a draft carries its plan. That the plan is that of its tree, and that a
 //! published tree is the one that its request asks for, is left to the layers above, and so is making the entries happen.
