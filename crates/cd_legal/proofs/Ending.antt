@@ -39,6 +39,7 @@ ended_in h s = ended_by h.app h.place (slice_get s.drafts h.draft)
 -- ---- entries that end nothing
 
 module _ (app : Bool) (p : ℕ) (may : Drafted → Bool) (f : Drafted → Drafted) (same : (x : Drafted) → may x ≡ true → ended_by app p (Some (f x)) ≡ ended_by app p (Some x)) where
+  -- a change that ends nothing
   kept : (xs : List Drafted) (d j : ℕ) → holds may (slice_get xs d) ≡ true → ended_by app p (slice_get (change_at f d xs) j) ≡ ended_by app p (slice_get xs j)
   kept [] d j m = refl
   kept (x ∷ xs) zero zero m = same x m
@@ -49,10 +50,12 @@ module _ (app : Bool) (p : ℕ) (may : Drafted → Bool) (f : Drafted → Drafte
 none_past : (p : ℕ) → past p 0 0 ≡ 0
 none_past p = grind (arith, nat_tests)
 
+-- of a new draft nothing is ended
 new_past : (app : Bool) (p : ℕ) (tree : Tree) (plan : Plan) → ended_by app p (Some (new_draft tree plan)) ≡ 0
 new_past true p tree plan = none_past p
 new_past false p tree plan = none_past p
 
+-- so a new draft ends nothing
 drafted : (app : Bool) (p : ℕ) (tree : Tree) (plan : Plan) (xs : List Drafted) (j : ℕ) → ended_by app p (slice_get (xs ++ new_draft tree plan ∷ []) j) ≡ ended_by app p (slice_get xs j)
 drafted app p tree plan [] zero = new_past app p tree plan
 drafted app p tree plan [] (suc j) = refl
@@ -62,31 +65,38 @@ drafted app p tree plan (x ∷ xs) (suc j) = drafted app p tree plan xs j
 not_past : (p m e : ℕ) → e ≡ 0 → past p m e ≡ 0
 not_past p m e none = grind (arith, nat_tests)
 
+-- where nothing is ended, one more made ends nothing
 still_none : (p m e : ℕ) → e ≡ 0 → past p (m + 1) e ≡ past p m e
 still_none p m e none = not_past p (m + 1) e none ∙ sym (not_past p m e none)
 
+-- one more instance of a sound draft
 made_one : (bound i taken : ℕ) (failed : Option Key) (ps : List Pair) (app : Bool) (p : ℕ) (x : Drafted) → (is_sound bound x && may_make i taken failed ps x) ≡ true → ended_by app p (Some (record x { made = x.made + 1; failed = failed })) ≡ ended_by app p (Some x)
 made_one bound i taken failed ps true p x m = refl
 made_one bound i taken failed ps false p x m = still_none p x.made x.cleaned (live_whole bound x (first (is_open x) _ (second (is_sound bound x) _ m)) (first (is_sound bound x) _ m)).1
 
+-- one more app
 started_one : (bound a taken : ℕ) (failed : Option Key) (ps : List Pair) (app : Bool) (p : ℕ) (x : Drafted) → (is_sound bound x && may_start a taken failed ps x) ≡ true → ended_by app p (Some (record x { started = x.started + 1; failed = failed })) ≡ ended_by app p (Some x)
 started_one bound a taken failed ps true p x m = still_none p x.started x.stopped (live_whole bound x (first (is_open x) _ (second (is_sound bound x) _ m)) (first (is_sound bound x) _ m)).0
 started_one bound a taken failed ps false p x m = refl
 
 -- ---- entries that end one more
 
+-- one more is ended, and it is the last one that was not
 past_more : (p a e m : ℕ) → a + 1 + e ≡ m → past p m (e + 1) ≡ cond (p == a) 1 0 + past p m e
 past_more p a e m is = grind (arith, nat_tests)
 
+-- an app is stopped
 stopped_one : (a serial : ℕ) (app : Bool) (p : ℕ) (x : Drafted) → may_stop a serial x ≡ true → ended_by app p (Some (record x { stopped = x.stopped + 1 })) ≡ cond (bool_eq app true && (p == a)) 1 0 + ended_by app p (Some x)
 stopped_one a serial true p x m = past_more p a x.stopped x.started (eqb-true (a + 1 + x.stopped) x.started (second (is_over serial x.life) _ m))
 stopped_one a serial false p x m = plus_none _ _ refl
 
+-- an instance is cleaned
 cleaned_one : (i : ℕ) (retired : List ℕ) (app : Bool) (p : ℕ) (x : Drafted) → may_clean i retired x ≡ true → ended_by app p (Some (record x { cleaned = x.cleaned + 1 })) ≡ cond (bool_eq app false && (p == i)) 1 0 + ended_by app p (Some x)
 cleaned_one i retired true p x m = plus_none _ _ refl
 cleaned_one i retired false p x m = past_more p i x.cleaned x.made (eqb-true (i + 1 + x.cleaned) x.made (second (all_stopped x) _ (second (is_done retired x.life) _ m)))
 
 module _ (h g : Holder) (may : Drafted → Bool) (f : Drafted → Drafted) (one : (x : Drafted) → may x ≡ true → ended_by h.app h.place (Some (f x)) ≡ cond (bool_eq h.app g.app && (h.place == g.place)) 1 0 + ended_by h.app h.place (Some x)) where
+  -- in the draft that the holder names
   here : (o : Option Drafted) → holds may o ≡ true → ended_by h.app h.place (option_map f o) ≡ cond (bool_eq h.app g.app && (h.place == g.place)) 1 0 + ended_by h.app h.place o
   here None m = cc
   here (Some x) m = one x m
@@ -95,6 +105,7 @@ module _ (h g : Holder) (may : Drafted → Bool) (f : Drafted → Drafted) (one 
   here_if true o b m = here o m
   here_if false o b m = cc
 
+  -- so in the state
   one_more : (xs : List Drafted) → holds may (slice_get xs g.draft) ≡ true → ended_by h.app h.place (slice_get (change_at f g.draft xs) h.draft) ≡ cond (holder_eq h g) 1 0 + ended_by h.app h.place (slice_get xs h.draft)
   one_more xs m = ⊎_elim
       (λ q. ap (λ z. ended_by h.app h.place (slice_get (change_at f g.draft xs) z)) q.1 ∙ (ap (ended_by h.app h.place) (get_change_same f xs g.draft)
@@ -103,6 +114,7 @@ module _ (h g : Holder) (may : Drafted → Bool) (f : Drafted → Drafted) (one 
 
 -- ---- a history
 
+-- what one entry ends
 step : (h : Holder) (s : State) (e : Entry) → are_sound s ≡ true → allowed s e ≡ true → ended_in h (after s e) ≡ ended h (e ∷ []) + ended_in h s
 step h s (Draft d tree plan) all may = plus_none _ _ (drafted h.app h.place tree plan s.drafts h.draft)
 step h s (Made d i taken failed) all may = plus_none _ _ (kept h.app h.place (λ x. is_sound (bound_of s) x && may_make i taken failed s.pairs x) _ (made_one (bound_of s) i taken failed s.pairs h.app h.place) s.drafts d h.draft (sound_at s d (may_make i taken failed s.pairs) all may))

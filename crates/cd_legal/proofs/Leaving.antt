@@ -39,17 +39,20 @@ conf_at-change f same xs d (Some j) = conf_in-change f same xs d j
 low : (j n : ℕ) → nat_lt (suc j) (suc n) ≡ true → nat_lt j n ≡ true
 low j n e = grind (arith, nat_tests)
 
+-- a new last draft leaves those that are there
 slice_get-push : (xs : List Drafted) (x : Drafted) (j : ℕ) → nat_lt j (length xs) ≡ true → slice_get (xs ++ x ∷ []) j ≡ slice_get xs j
 slice_get-push [] x j e = absurd (grind (arith, nat_tests))
 slice_get-push (y ∷ xs) x zero e = refl
 slice_get-push (y ∷ xs) x (suc j) e = slice_get-push xs x j (low j (length xs) e)
 
+-- and those at all other places
 slice_get-push_other : (xs : List Drafted) (x : Drafted) (j : ℕ) → j ≢ length xs → slice_get (xs ++ x ∷ []) j ≡ slice_get xs j
 slice_get-push_other [] x zero ne = absurd (ne refl)
 slice_get-push_other [] x (suc j) ne = refl
 slice_get-push_other (y ∷ xs) x zero ne = refl
 slice_get-push_other (y ∷ xs) x (suc j) ne = slice_get-push_other xs x j (λ e. ne (ap suc e))
 
+-- so it leaves the trees of those that are there
 conf_at-push : (xs : List Drafted) (x : Drafted) (o : Option ℕ) → holds_if_there (λ j. nat_lt j (length xs)) o ≡ true → conf_at (xs ++ x ∷ []) o ≡ conf_at xs o
 conf_at-push xs x None e = refl
 conf_at-push xs x (Some j) e = ap conf_in (slice_get-push xs x j e)
@@ -61,13 +64,16 @@ at_each test (d ∷ ds) (suc n) all = at_each test ds n (second (test d) _ all)
 
 -- ---- one entry
 
+-- by the serial
 with_confs : (s : State) (drafts : List Drafted) (pairs : List Pair) → ((o : ℕ) → conf_at drafts (slice_get s.published o) ≡ conf_at s.drafts (slice_get s.published o)) → (n : ℕ) → conf_of (record s { drafts = drafts; pairs = pairs }) n ≡ conf_of s n
 with_confs s drafts pairs same zero = refl
 with_confs s drafts pairs same (suc n) = same n
 
+-- the keys of a holder of another draft are among the others' pairs
 keeps_keys : (d : ℕ) (h : Holder) → h.draft ≢ d → (ps qs : List Pair) → pairs_of_others d qs ≡ pairs_of_others d ps → keys_of h qs ≡ keys_of h ps
 keeps_keys d h ne ps qs same = others-keys d h ne qs ∙ (ap (keys_of h) same ∙ sym (others-keys d h ne ps))
 
+-- what is left by drafts and pairs that differ for this draft alone
 leaves : (d : ℕ) (s : State) (drafts : List Drafted) (pairs : List Pair) → ((n : ℕ) → conf_at drafts (slice_get s.published n) ≡ conf_at s.drafts (slice_get s.published n))
     → ((j : ℕ) → j ≢ d → slice_get drafts j ≡ slice_get s.drafts j) → pairs_of_others d pairs ≡ pairs_of_others d s.pairs → Leaves d s (record s { drafts = drafts; pairs = pairs })
 leaves d s drafts pairs trees others same = record {
@@ -82,6 +88,7 @@ leaves d s drafts pairs trees others same = record {
   pairs = same;
 }
 
+-- a change of the draft that keeps its tree
 changes : (d : ℕ) (s : State) (f : Drafted → Drafted) (pairs : List Pair) → ((x : Drafted) → (f x).tree ≡ x.tree) → pairs_of_others d pairs ≡ pairs_of_others d s.pairs → Leaves d s (record s { drafts = change_at f d s.drafts; pairs = pairs })
 changes d s f pairs same others = leaves d s (change_at f d s.drafts) pairs (λ n. conf_at-change f same s.drafts d (slice_get s.published n)) (λ j ne. get_change_other f s.drafts d j ne) others
 
@@ -89,6 +96,7 @@ changes d s f pairs same others = leaves d s (change_at f d s.drafts) pairs (λ 
 pub taking : (d : ℕ) (h : Holder) (ps : List Pair) (ks : List Key) → (h.draft == d) ≡ true → pairs_of_others d (ps ++ pairs_for h ks) ≡ pairs_of_others d ps
 taking d h ps ks own = others-append d ps (pairs_for h ks) ∙ (ap (λ (zs : List Pair). pairs_of_others d ps ++ zs) (others-own d h ks own) ∙ append-nil (pairs_of_others d ps))
 
+-- a new draft
 new_one : (s : State) (x : Drafted) → are_there s ≡ true → Leaves (length s.drafts) s (record s { drafts = s.drafts ++ x ∷ [] })
 new_one s x all = leaves (length s.drafts) s (s.drafts ++ x ∷ []) s.pairs (λ n. conf_at-push s.drafts x (slice_get s.published n) (at_each _ s.published n all)) (λ j ne. slice_get-push_other s.drafts x j ne) refl
 
@@ -96,6 +104,7 @@ new_one s x all = leaves (length s.drafts) s (s.drafts ++ x ∷ []) s.pairs (λ 
 own : (s : State) (e : Entry) (d j : ℕ) → (j == d) ≡ true → Leaves j s (after s e) → Leaves d s (after s e)
 own s e d j is here = subst (λ z. Leaves z s (after s e)) (eqb-true j d is) here
 
+-- so the entry that makes it
 drafted : (s : State) (j : ℕ) (tree : Tree) (plan : Plan) → allowed s (Draft j tree plan) ≡ true → are_there s ≡ true → Leaves j s (after s (Draft j tree plan))
 drafted s j tree plan may all =
     subst (λ z. Leaves z s (after s (Draft j tree plan))) (sym (eqb-true j (length s.drafts) (first (j == length s.drafts) _ may))) (new_one s (new_draft tree plan) all)
@@ -116,14 +125,17 @@ one d s (Halt n) es all legal gone is = cc
 
 -- ---- where it stands in a history
 
+-- the back of a legal history is legal behind its front
 legal-back : (s : State) (xs ys : List Entry) → legal_from s (xs ++ ys) ≡ true → legal_from (state_from s xs) ys ≡ true
 legal-back s [] ys legal = legal
 legal-back s (x ∷ xs) ys legal = legal-back (after s x) xs ys (second (allowed s x) _ legal)
 
+-- and so is its front
 legal-front : (s : State) (xs ys : List Entry) → legal_from s (xs ++ ys) ≡ true → legal_from s xs ≡ true
 legal-front s [] ys legal = refl
 legal-front s (x ∷ xs) ys legal = both (allowed s x) _ (first (allowed s x) _ legal) (legal-front (after s x) xs ys (second (allowed s x) _ legal))
 
+-- a history leaves what its back leaves behind its front
 state_from-append : (s : State) (xs ys : List Entry) → state_from s (xs ++ ys) ≡ state_from (state_from s xs) ys
 state_from-append s [] ys = refl
 state_from-append s (x ∷ xs) ys = state_from-append (after s x) xs ys

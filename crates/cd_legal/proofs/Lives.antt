@@ -28,11 +28,13 @@ ran x = is_published x.life
 abbrev pub is_published_in : State → ℕ → Bool
 is_published_in s d = holds ran (slice_get s.drafts d)
 
+-- none is live and was published
 not_live : (l : Life) → is_live l ≡ true → is_published l ≡ true → is_published Abandoned ≡ true
 not_live Live live is = cc
 not_live (Published n) live is = cc
 not_live Abandoned live is = cc
 
+-- a draft that may be published
 complete : (s : State) (d n from : ℕ) (c : Change) → allowed s (Publish d n from c) ≡ true → holds is_complete (slice_get s.drafts d) ≡ true
 complete s d n from c may = first (holds is_complete (slice_get s.drafts d)) _ (second (not s.halted) _ may)
 
@@ -50,6 +52,7 @@ stays s (Retire n) d may is = is
 stays s (Cleaned j i) d may is = holds_kept ran (may_clean i s.retired) _ (λ x m t. t) s.drafts j d may is
 stays s (Halt n) d may is = is
 
+-- so does a history
 stays_from : (s : State) (log : List Entry) (d : ℕ) → legal_from s log ≡ true → is_published_in s d ≡ true → is_published_in (state_from s log) d ≡ true
 stays_from s [] d legal is = is
 stays_from s (e ∷ es) d legal is = stays_from (after s e) es d (second (allowed s e) _ legal) (stays s e d (first (allowed s e) _ legal) is)
@@ -78,6 +81,7 @@ are_there s = list_all (λ d. nat_lt d (length s.drafts)) s.published
 lower : (d m n : ℕ) → m ≤ n → nat_lt d m ≡ true → nat_lt d n ≡ true
 lower d m n up e = grind (arith, nat_tests)
 
+-- of more drafts
 lower_all : (m n : ℕ) → m ≤ n → (ds : List ℕ) → list_all (λ d. nat_lt d m) ds ≡ true → list_all (λ d. nat_lt d n) ds ≡ true
 lower_all m n up [] all = refl
 lower_all m n up (d ∷ ds) all = both (nat_lt d n) _ (lower d m n up (first (nat_lt d m) _ all)) (lower_all m n up ds (second (nat_lt d m) _ all))
@@ -89,9 +93,11 @@ longer (y ∷ xs) x = let rest = longer xs x in omega arith
 below : (d n : ℕ) → d < n → nat_lt d n ≡ true
 below d n e = grind (arith, nat_tests)
 
+-- a change at one place keeps their number
 same_length : (s : State) (f : Drafted → Drafted) (d : ℕ) (ds : List ℕ) → list_all (λ j. nat_lt j (length s.drafts)) ds ≡ true → list_all (λ j. nat_lt j (length (change_at f d s.drafts))) ds ≡ true
 same_length s f d ds all = subst (λ (n : ℕ). list_all (λ j. nat_lt j n) ds ≡ true) (sym (length_change f s.drafts d)) all
 
+-- one entry leaves them so
 there : (s : State) (e : Entry) → allowed s e ≡ true → are_there s ≡ true → are_there (after s e) ≡ true
 there s (Draft j tree plan) may all = lower_all _ _ (longer s.drafts _) s.published all
 there s (Made j i taken failed) may all = same_length s _ j s.published all
@@ -107,6 +113,7 @@ there s (Retire n) may all = all
 there s (Cleaned j i) may all = same_length s _ j s.published all
 there s (Halt n) may all = all
 
+-- each serial's draft is there after a legal history
 pub there_from : (s : State) (log : List Entry) → legal_from s log ≡ true → are_there s ≡ true → are_there (state_from s log) ≡ true
 there_from s [] legal all = all
 there_from s (e ∷ es) legal all = there_from (after s e) es (second (allowed s e) _ legal) (there s e (first (allowed s e) _ legal) all)

@@ -13,6 +13,7 @@ put : (b : Bool) (p : Pair) (ps qs rs : List Pair) → rs ≡ ps ++ qs → cond 
 put true p ps qs rs e = e
 put false p ps qs rs e = ap (λ zs. p ∷ zs) e
 
+-- of two lists, one behind the other
 pub others-append : (d : ℕ) (ps qs : List Pair) → pairs_of_others d (ps ++ qs) ≡ pairs_of_others d ps ++ pairs_of_others d qs
 others-append d [] qs = refl
 others-append d (p ∷ ps) qs = put (p.holder.draft == d) p (pairs_of_others d ps) (pairs_of_others d qs) _ (others-append d ps qs)
@@ -29,6 +30,7 @@ others-other d h (k ∷ ks) other = ap (λ (z : Bool). cond z (pairs_of_others d
 
 -- ---- a holder's pairs taken away
 
+-- holders that are the same have the same draft
 same_draft : (g h : Holder) → holder_eq g h ≡ true → g.draft ≡ h.draft
 same_draft g h e = eqb-true g.draft h.draft (first (g.draft == h.draft) _ e)
 

@@ -40,6 +40,7 @@ holds_within test (x ∷ xs) (suc i) h = let rest = holds_within test xs i h in 
 
 -- ---- a change, seen from the whole list
 
+-- it has as many elements
 pub length_change : {A : Type 0} (f : A → A) (xs : List A) (d : ℕ) → length (change_at f d xs) ≡ length xs
 length_change f [] d = refl
 length_change f (x ∷ xs) zero = refl

@@ -34,6 +34,7 @@ all_run xs ps = list_all (λ p. runs_in p.holder xs) ps
 
 -- ---- lists of pairs
 
+-- a change that lets all run on
 still_run : (xs ys : List Drafted) → ((h : Holder) → runs_in h xs ≡ true → runs_in h ys ≡ true) → (ps : List Pair) → all_run xs ps ≡ true → all_run ys ps ≡ true
 still_run xs ys keeps [] all = refl
 still_run xs ys keeps (p ∷ ps) all = both (runs_in p.holder ys) _ (keeps p.holder (first (runs_in p.holder xs) _ all)) (still_run xs ys keeps ps (second (runs_in p.holder xs) _ all))
@@ -42,14 +43,17 @@ others_one : (b : Bool) (ys : List Drafted) (p : Pair) (ws : List Pair) → (b �
 others_one true ys p ws here all = all
 others_one false ys p ws here all = both (runs_in p.holder ys) _ (here refl) all
 
+-- a change that lets all but one holder run on, whose pairs go
 others_run : (g : Holder) (xs ys : List Drafted) → ((h : Holder) → holder_eq g h ≡ false → runs_in h xs ≡ true → runs_in h ys ≡ true) → (ps : List Pair) → all_run xs ps ≡ true → all_run ys (without_holder g ps) ≡ true
 others_run g xs ys keeps [] all = refl
 others_run g xs ys keeps (p ∷ ps) all = others_one (holder_eq g p.holder) ys p (without_holder g ps) (λ ne. keeps p.holder ne (first (runs_in p.holder xs) _ all)) (others_run g xs ys keeps ps (second (runs_in p.holder xs) _ all))
 
+-- the pairs of a holder that runs
 own_run : (h : Holder) (ys : List Drafted) → runs_in h ys ≡ true → (ks : List Key) → all_run ys (pairs_for h ks) ≡ true
 own_run h ys here [] = refl
 own_run h ys here (k ∷ ks) = both (runs_in h ys) _ here (own_run h ys here ks)
 
+-- so behind pairs that are there
 taken_run : (h : Holder) (ys : List Drafted) (ps : List Pair) (ks : List Key) → all_run ys ps ≡ true → runs_in h ys ≡ true → all_run ys (ps ++ pairs_for h ks) ≡ true
 taken_run h ys ps ks all here = list_all-append (λ (p : Pair). runs_in p.holder ys) ps (pairs_for h ks) ∙ both (all_run ys ps) _ all (own_run h ys here ks)
 
@@ -61,14 +65,17 @@ up p e m is = grind (arith, nat_tests)
 last : (i e m : ℕ) → i ≡ m → e ≡ 0 → nat_lt (i + e) (m + 1) ≡ true
 last i e m is none = grind (arith, nat_tests)
 
+-- one more instance keeps those that run
 made_keeps : (app : Bool) (p : ℕ) (failed : Option Key) (x : Drafted) → runs app p x ≡ true → runs app p (record x { made = x.made + 1; failed = failed }) ≡ true
 made_keeps true p failed x is = is
 made_keeps false p failed x is = up p x.cleaned x.made is
 
+-- one more app does
 started_keeps : (app : Bool) (p : ℕ) (failed : Option Key) (x : Drafted) → runs app p x ≡ true → runs app p (record x { started = x.started + 1; failed = failed }) ≡ true
 started_keeps true p failed x is = up p x.stopped x.started is
 started_keeps false p failed x is = is
 
+-- and it runs itself
 made_runs : (bound i taken : ℕ) (failed : Option Key) (ps : List Pair) (x : Drafted) → (is_sound bound x && may_make i taken failed ps x) ≡ true → runs false i (record x { made = x.made + 1; failed = failed }) ≡ true
 made_runs bound i taken failed ps x m =
     let may = second (is_sound bound x) _ m in
@@ -81,13 +88,16 @@ started_runs bound a taken failed ps x m =
 
 -- ---- one more ended
 
+-- the last one is ended: the others run on
 next_down : (p a e m : ℕ) → a ≢ p → a + 1 + e ≡ m → nat_lt (p + e) m ≡ true → nat_lt (p + (e + 1)) m ≡ true
 next_down p a e m ne is t = grind (arith, nat_tests)
 
+-- an app is stopped
 stopped_keeps : (a serial : ℕ) (app : Bool) (p : ℕ) (x : Drafted) → (app && (a == p)) ≡ false → may_stop a serial x ≡ true → runs app p x ≡ true → runs app p (record x { stopped = x.stopped + 1 }) ≡ true
 stopped_keeps a serial true p x ne m t = next_down p a x.stopped x.started (eqb-false a p ne) (eqb-true (a + 1 + x.stopped) x.started (second (is_over serial x.life) _ m)) t
 stopped_keeps a serial false p x ne m t = t
 
+-- an instance is cleaned
 cleaned_keeps : (i : ℕ) (retired : List ℕ) (app : Bool) (p : ℕ) (x : Drafted) → (not app && (i == p)) ≡ false → may_clean i retired x ≡ true → runs app p x ≡ true → runs app p (record x { cleaned = x.cleaned + 1 }) ≡ true
 cleaned_keeps i retired true p x ne m t = t
 cleaned_keeps i retired false p x ne m t = next_down p i x.cleaned x.made (eqb-false i p ne) (eqb-true (i + 1 + x.cleaned) x.made (second (all_stopped x) _ (second (is_done retired x.life) _ m))) t
@@ -105,9 +115,11 @@ module _ (g : Holder) (may : Drafted → Bool) (f : Drafted → Drafted) (keeps 
 
 -- ---- a history
 
+-- a change that keeps what any holder names
 unchanged : (s : State) (d : ℕ) (may : Drafted → Bool) (f : Drafted → Drafted) → ((app : Bool) (p : ℕ) (x : Drafted) → runs app p x ≡ true → runs app p (f x) ≡ true) → holds may (slice_get s.drafts d) ≡ true → all_run s.drafts s.pairs ≡ true → all_run (change_at f d s.drafts) s.pairs ≡ true
 unchanged s d may f keeps m all = still_run s.drafts (change_at f d s.drafts) (λ h t. holds_kept (runs h.app h.place) may f (λ x n u. keeps h.app h.place x u) s.drafts d h.draft m t) s.pairs all
 
+-- one entry leaves them so
 run : (s : State) (e : Entry) → are_sound s ≡ true → allowed s e ≡ true → all_run s.drafts s.pairs ≡ true → all_run (after s e).drafts (after s e).pairs ≡ true
 run s (Draft d tree plan) fine may all = still_run s.drafts _ (λ h t. holds_push (runs h.app h.place) _ s.drafts h.draft t) s.pairs all
 run s (Made d i taken failed) fine may all =

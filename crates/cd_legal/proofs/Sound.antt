@@ -20,8 +20,8 @@ use Rattle.cd_legal.proofs.Histories.{both, first, second}
 -- ---- drafts
 
 -- of a live draft nothing is stopped or cleaned
-abbrev pub is_whole_while_live : Drafted → Bool
-is_whole_while_live x = not (is_live x.life) || ((x.stopped == 0) && (x.cleaned == 0))
+abbrev pub is_unended_if_live : Drafted → Bool
+is_unended_if_live x = not (is_live x.life) || ((x.stopped == 0) && (x.cleaned == 0))
 
 -- a published draft has a serial below this one
 abbrev pub is_below : ℕ → Life → Bool
@@ -31,7 +31,7 @@ is_below bound Abandoned = true
 
 -- both
 abbrev pub is_sound : ℕ → Drafted → Bool
-is_sound bound x = is_whole_while_live x && is_below bound x.life
+is_sound bound x = is_unended_if_live x && is_below bound x.life
 
 -- below which the serials of published drafts are: the halt's own is none of them
 abbrev pub bound_of : State → ℕ
@@ -41,6 +41,7 @@ bound_of s = cond s.halted s.serial (s.serial + 1)
 abbrev pub are_sound : State → Bool
 are_sound s = list_all (is_sound (bound_of s)) s.drafts
 
+-- a change at one place keeps a test of all, where the element that is changed passes another one
 all_changed : (test may : Drafted → Bool) (f : Drafted → Drafted) → ((x : Drafted) → may x ≡ true → test x ≡ true → test (f x) ≡ true) → (xs : List Drafted) (d : ℕ) → holds may (slice_get xs d) ≡ true → list_all test xs ≡ true → list_all test (change_at f d xs) ≡ true
 all_changed test may f keeps [] d m all = refl
 all_changed test may f keeps (x ∷ xs) zero m all = both (test (f x)) _ (keeps x m (first (test x) _ all)) (second (test x) _ all)
@@ -57,6 +58,7 @@ done ns b Live r t is e = cc
 done ns b (Published m) r t is e = e
 done ns b Abandoned r t is e = e
 
+-- a higher bound
 raised : (m b c : ℕ) → b ≤ c → nat_lt m b ≡ true → nat_lt m c ≡ true
 raised m b c up e = grind (arith, nat_tests)
 
@@ -69,11 +71,12 @@ raised_all : (b c : ℕ) (xs : List Drafted) → b ≤ c → list_all (is_sound 
 raised_all b c [] up all = refl
 raised_all b c (x ∷ xs) up all =
     let here = first (is_sound b x) _ all in
-    both (is_sound c x) _ (both (is_whole_while_live x) _ (first (is_whole_while_live x) _ here) (raised_life b c x.life up (second (is_whole_while_live x) _ here))) (raised_all b c xs up (second (is_sound b x) _ all))
+    both (is_sound c x) _ (both (is_unended_if_live x) _ (first (is_unended_if_live x) _ here) (raised_life b c x.life up (second (is_unended_if_live x) _ here))) (raised_all b c xs up (second (is_sound b x) _ all))
 
 more : (b n : ℕ) → n + 1 ≤ b → nat_lt n b ≡ true
 more b n e = grind (arith, nat_tests)
 
+-- before the halt the bound is above the serial
 running : (b : Bool) (n : ℕ) → not b ≡ true → cond b n (n + 1) ≡ n + 1
 running true n e = cc
 running false n e = refl
@@ -90,6 +93,7 @@ published s d n from c may all =
     all_changed (is_sound (cond s.halted n (n + 1))) is_complete _ (λ x m t. more (cond s.halted n (n + 1)) n (omega (arith, new))) s.drafts d (first (holds is_complete (slice_get s.drafts d)) _ (second (not s.halted) _ may))
     (raised_all (bound_of s) (cond s.halted n (n + 1)) s.drafts (omega (arith, old, new, is, next)) all)
 
+-- the halt takes the serial that the bound left free
 halted : (s : State) (n : ℕ) → allowed s (Halt n) ≡ true → are_sound s ≡ true → are_sound (after s (Halt n)) ≡ true
 halted s n may all =
     let old = running s.halted s.serial (first (not s.halted) _ may) in
@@ -117,6 +121,7 @@ sound_from s (e ∷ es) legal all = sound_from (after s e) es (second (allowed s
 
 -- ---- at a place
 
+-- what holds of all, and what holds at a place
 at : (test : Drafted → Bool) (xs : List Drafted) (d : ℕ) (may : Drafted → Bool) → list_all test xs ≡ true → holds may (slice_get xs d) ≡ true → holds (λ x. test x && may x) (slice_get xs d) ≡ true
 at test [] d may all m = m
 at test (x ∷ xs) zero may all m = both (test x) _ (first (test x) _ all) m
@@ -126,6 +131,7 @@ at test (x ∷ xs) (suc d) may all m = at test xs d may (second (test x) _ all) 
 pub sound_at : (s : State) (d : ℕ) (may : Drafted → Bool) → are_sound s ≡ true → holds may (slice_get s.drafts d) ≡ true → holds (λ x. is_sound (bound_of s) x && may x) (slice_get s.drafts d) ≡ true
 sound_at s d may all m = at (is_sound (bound_of s)) s.drafts d may all m
 
+-- by its life
 nothing_ended : (l : Life) (b st cl : ℕ) → is_live l ≡ true → ((not (is_live l) || ((st == 0) && (cl == 0))) && is_below b l) ≡ true → (st ≡ 0) × (cl ≡ 0)
 nothing_ended Live b st cl live e = let h = first ((st == 0) && (cl == 0)) true e in (eqb-true st 0 (first (st == 0) _ h), eqb-true cl 0 (second (st == 0) _ h))
 nothing_ended (Published n) b st cl live e = absurd (let no_life : false ≡ true = live in cc)

@@ -29,9 +29,11 @@ undo x = new_draft x.tree x.plan
 abbrev undone : ℕ → State → State
 undone d s = record s { drafts = change_at undo d s.drafts; pairs = pairs_of_others d s.pairs }
 
+-- the same drafts and the same pairs
 with_parts : (s : State) (xs ys : List Drafted) (ps qs : List Pair) → xs ≡ ys → ps ≡ qs → record s { drafts = xs; pairs = ps } ≡ record s { drafts = ys; pairs = qs }
 with_parts s xs ys ps qs x p = ap (λ (z : List Drafted). record s { drafts = z; pairs = ps }) x ∙ ap (λ (z : List Pair). record s { drafts = ys; pairs = z }) p
 
+-- what it says of an entry to be left out, or to stay
 own : (b : Bool) → (not b || false) ≡ false → b ≡ true
 own true is = refl
 own false is = cc
@@ -46,12 +48,15 @@ apart j d is = eqb-false j d (other (j == d) is)
 -- ---- an entry that is left out
 
 module _ (d : ℕ) (s : State) where
+  -- at the draft's own number
   again : (e : Entry) (j : ℕ) → (j == d) ≡ true → undone j (after s e) ≡ undone j s → undone d (after s e) ≡ undone d s
   again e j is here = subst (λ z. undone z (after s e) ≡ undone z s) (eqb-true j d is) here
 
+-- a change of the draft, and of its pairs
 changed : (s : State) (j : ℕ) (f : Drafted → Drafted) (ps : List Pair) → ((x : Drafted) → undo (f x) ≡ undo x) → pairs_of_others j ps ≡ pairs_of_others j s.pairs → undone j (record s { drafts = change_at f j s.drafts; pairs = ps }) ≡ undone j s
 changed s j f ps same p = with_parts s _ _ _ _ (change_again f undo same s.drafts j) p
 
+-- it does not show where nothing came of the draft
 left_out : (d : ℕ) (s : State) (e : Entry) (es : List Entry) → legal_from s (e ∷ es) ≡ true → is_abandoned_in (state_from (after s e) es) d ≡ true → (not (is_entry_of d e) || is_draft e) ≡ false → undone d (after s e) ≡ undone d s
 left_out d s (Draft j tree plan) es legal gone is = absurd (let e : true ≡ false = sym (always (j == d)) ∙ is in cc)
   where
@@ -71,12 +76,14 @@ left_out d s (Halt n) es legal gone is = cc
 
 -- ---- an entry that stays: what it leaves
 
+-- a holder of another draft takes the same keys
 takes : (d : ℕ) (h : Holder) (ps : List Pair) (ks ls : List Key) → (h.draft == d) ≡ false → ks ≡ ls → pairs_of_others d ps ++ pairs_for h ks ≡ pairs_of_others d (ps ++ pairs_for h ls)
 takes d h ps ks ls other same = ap (λ (z : List Key). pairs_of_others d ps ++ pairs_for h z) same ∙ (ap (λ (z : List Pair). pairs_of_others d ps ++ z) (sym (others-other d h ls other)) ∙ sym (others-append d ps (pairs_for h ls)))
 
 same_keys : (keys : Plan → List (List Key)) (i taken : ℕ) (o p : Option Drafted) → o ≡ p → take taken (keys_for keys i o) ≡ take taken (keys_for keys i p)
 same_keys keys i taken o p e = ap (λ (z : Option Drafted). take taken (keys_for keys i z)) e
 
+-- it leaves the same, but for the draft
 stayed : (d : ℕ) (s : State) (e : Entry) → (not (is_entry_of d e) || is_draft e) ≡ true → after (undone d s) e ≡ undone d (after s e)
 stayed d s (Draft j tree plan) is = with_parts s _ _ (pairs_of_others d s.pairs) _ (change_push undo (new_draft tree plan) refl s.drafts d) refl
 stayed d s (Made j i taken failed) is =
@@ -96,10 +103,12 @@ stayed d s (Halt n) is = refl
 
 -- ---- an entry that stays: that it is allowed
 
+-- keys fit where there are fewer pairs
 fits : (d : ℕ) (ps : List Pair) (keys : List Key) (taken : ℕ) (failed : Option Key) → keys_fit (keys_in ps) keys taken failed ≡ true → keys_fit (keys_in (pairs_of_others d ps)) keys taken failed ≡ true
 fits d ps keys taken None fit = fit
 fits d ps keys taken (Some key) fit = both (holds (key_eq key) (slice_get keys taken)) _ (first (holds (key_eq key) (slice_get keys taken)) _ fit) (others-none d key (take taken keys) ps (second (holds (key_eq key) (slice_get keys taken)) _ fit))
 
+-- one part of a condition grows weaker
 deeper : (a b b' : Bool) → (b ≡ true → b' ≡ true) → (a && b) ≡ true → (a && b') ≡ true
 deeper true b b' f e = f e
 deeper false b b' f e = e
@@ -107,12 +116,15 @@ deeper false b b' f e = e
 shallow : (a a' b : Bool) → (a ≡ true → a' ≡ true) → (a && b) ≡ true → (a' && b) ≡ true
 shallow a a' b f e = both a' b (f (first a b e)) (second a b e)
 
+-- so may an instance be made
 makes : (d i taken : ℕ) (failed : Option Key) (ps : List Pair) (x : Drafted) → may_make i taken failed ps x ≡ true → may_make i taken failed (pairs_of_others d ps) x ≡ true
 makes d i taken failed ps x = deeper (is_open x) _ _ (deeper (i == x.made) _ _ (deeper (nat_lt i (length x.plan.modules)) _ _ (fits d ps (keys_at (module_keys x.plan) i) taken failed)))
 
+-- and an app be started
 starts : (d a taken : ℕ) (failed : Option Key) (ps : List Pair) (x : Drafted) → may_start a taken failed ps x ≡ true → may_start a taken failed (pairs_of_others d ps) x ≡ true
 starts d a taken failed ps x = deeper (is_open x) _ _ (deeper (x.made == length x.plan.modules) _ _ (deeper (a == x.started) _ _ (deeper (nat_lt a (length x.plan.apps)) _ _ (fits d ps (keys_at (app_keys x.plan) a) taken failed))))
 
+-- of a draft of which nothing came each app is stopped
 stops : (xs : List Drafted) (d j : ℕ) → holds_if_there all_stopped (slice_get xs j) ≡ true → holds_if_there all_stopped (slice_get (change_at undo d xs) j) ≡ true
 stops [] d j e = e
 stops (x ∷ xs) zero zero e = refl
@@ -128,6 +140,7 @@ module _ (d : ℕ) (s : State) where
   elsewhere : (j : ℕ) → j ≢ d → slice_get s.drafts j ≡ slice_get (change_at undo d s.drafts) j
   elsewhere j ne = sym (get_change_other undo s.drafts d j ne)
 
+  -- all that is allowed stays so
   still : (e : Entry) → (not (is_entry_of d e) || is_draft e) ≡ true → allowed s e ≡ true → allowed (undone d s) e ≡ true
   still (Draft j tree plan) is may = ap (λ (n : ℕ). (j == n) && nat_lt j MAX_DRAFTS) (length_change undo s.drafts d) ∙ may
   still (Made j i taken failed) is may = holds_weaker (may_make i taken failed s.pairs) _ (makes d i taken failed s.pairs) (slice_get (change_at undo d s.drafts) j) (ap (holds (may_make i taken failed s.pairs)) (sym (elsewhere j (apart j d is))) ∙ may)
@@ -146,6 +159,7 @@ module _ (d : ℕ) (s : State) where
 abbrev Comes : ℕ → State → List Entry → List Entry → Type 0
 Comes d s log short = (legal_from (undone d s) short ≡ true) × (state_from (undone d s) short ≡ undone d (state_from s log))
 
+-- one entry, left out or not
 step : (d : ℕ) (s : State) (e : Entry) (es : List Entry) (b : Bool) → (not (is_entry_of d e) || is_draft e) ≡ b → legal_from s (e ∷ es) ≡ true → is_abandoned_in (state_from (after s e) es) d ≡ true
     → Comes d (after s e) es (without_draft d es) → Comes d s (e ∷ es) (cond b (e ∷ without_draft d es) (without_draft d es))
 step d s e es true is legal gone rest =
@@ -157,14 +171,17 @@ step d s e es false is legal gone rest =
     let same = sym (left_out d s e es legal gone is) in
     (ap (λ (t : State). legal_from t (without_draft d es)) same ∙ rest.0, ap (λ (t : State). state_from t (without_draft d es)) same ∙ rest.1)
 
+-- the history without them is legal, and leaves the state in which nothing came of the draft
 comes : (d : ℕ) (s : State) (log : List Entry) → legal_from s log ≡ true → is_abandoned_in (state_from s log) d ≡ true → Comes d s log (without_draft d log)
 comes d s [] legal gone = (refl, refl)
 comes d s (e ∷ es) legal gone = step d s e es (not (is_entry_of d e) || is_draft e) refl legal gone (comes d (after s e) es (second (allowed s e) _ legal) gone)
 
+-- each serial has the same configuration
 same_confs : (d : ℕ) (s : State) (n : ℕ) → conf_of s n ≡ conf_of (undone d s) n
 same_confs d s zero = refl
 same_confs d s (suc n) = sym (conf_at-change undo (λ x. refl) s.drafts d (slice_get s.published n))
 
+-- such a state differs in nothing else
 nothing_else : (d : ℕ) (s : State) → Leaves d (undone d s) s
 nothing_else d s = record {
   serial = refl;

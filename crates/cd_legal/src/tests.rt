@@ -1,5 +1,6 @@
 use crate::{
-    Change, Drafted, Entry, Life, OpenTicket, Plan, PlanApp, PlanModule, ReplayFault, State, replay,
+    Change, Drafted, Entry, Life, OpenTicket, Plan, PlanApp, PlanModule, ReplayFault, State,
+    replay, what_is_over_is_whole,
 };
 use cd_outside::{Address, Key};
 use cd_text::{List, NoMemory, Text};
@@ -279,4 +280,12 @@ fn tickets_are_those_of_requests_that_run(rt: HostRuntime) -> Result<(), Fail> {
     ];
     assert_eq!(rt; state.tickets.as_slice(), [first, last].as_slice());
     Ok(())
+}
+
+// Its premises can be met: nothing was published, so the opening configuration is all there is to retire.
+#[test]
+fn a_host_that_halts_at_once_is_over(rt: HostRuntime) {
+    let log = [Entry::Halt(1), Entry::Retire(0)];
+    what_is_over_is_whole(&log);
+    assert!(rt; !log.is_empty());
 }
