@@ -238,7 +238,8 @@ pub fn caddy_main<R: Threads + Wait + Sync, S: Source, O: Sink, F: Fixtures + Se
     // Want of memory comes before a run, and then nothing was done, or at its last line.
     ensures memory { result.status ≡ 5
         → (IsUntouched lanes result.lanes result.answered result.published result.cut × (O.holds out.new ≡ O.holds out.old))
-        ⊎ (Ran (S.left config.old) (S.left config.new) (EachServed L.faults L.past result.status result.answered result.cut lanes result.lanes)
+        ⊎ ((result.published ≡ 1)
+        × Ran (S.left config.old) (S.left config.new) (EachServed L.faults L.past result.status result.answered result.cut lanes result.lanes)
         × Wrote (run_text result.answered result.published) (result.status ≡ 0) (O.holds out.old) (O.holds out.new)) }
     ensures untouched { (result.status ≡ 1) ⊎ (result.status ≡ 2) ⊎ (result.status ≡ 3) → IsUntouched lanes result.lanes result.answered result.published result.cut }
 {
