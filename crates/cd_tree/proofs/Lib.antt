@@ -4,6 +4,7 @@ pub mod Outcomes
 pub mod Readings
 pub mod Rising
 pub mod Soundness
+pub mod Placing
 pub mod Converted
 pub mod Found
 pub mod Joined

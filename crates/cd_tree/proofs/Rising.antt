@@ -83,7 +83,7 @@ rise_put_at Less k l d e ms is x y h r later = (x, (is, below_all k l ms is h), 
 rise_put_at Equal k l d e ms is x y h r later = (x, h, r)
 rise_put_at Greater k l d e ms is x y h r later = (y, below_put l k d ms (reversed k l is) h, later)
 
-rise_put : (k : List ℕ) (d : json.Data) (ms : json.Members) → Rises d → KeysRise ms → KeysRise (json.put k d ms)
+pub rise_put : (k : List ℕ) (d : json.Data) (ms : json.Members) → Rises d → KeysRise ms → KeysRise (json.put k d ms)
 rise_put k d json.no_members x r = (x, tt, tt)
 rise_put k d (json.member l e ms) x r = rise_put_at (slice_cmp nat_cmp k l) k l d e ms refl x r.0 r.1 r.2 (rise_put k d ms x r.2)
 
@@ -128,7 +128,7 @@ number_in_range s n e = signed_in_range (slice_index s 0 == minus) s n e
 -- ---- what is read rises
 
 mutual
-  json_rises : (j : raw.Json) (d : json.Data) → of_json j ≡ Some d → Rises d
+  pub json_rises : (j : raw.Json) (d : json.Data) → of_json j ≡ Some d → Rises d
   json_rises raw.null d e = let is : json.null ≡ d = cc in subst Rises is tt
   json_rises (raw.boolean b) d e = let is : json.boolean b ≡ d = cc in subst Rises is tt
   json_rises (raw.number s) d e = let m = mapped json.number (number_of s) d e in subst Rises m.2 (number_in_range s m.0 m.1)
@@ -158,7 +158,7 @@ read_rises b d e =
 
 -- ---- and so does its tree
 
-below_members : (k : List ℕ) (ds : json.Members) (ms : List Member) → of_members ds ≡ Ok ms → IsBelow k ds → list_all (λ later. is_below k later.0) (map ordered_member ms) ≡ true
+pub below_members : (k : List ℕ) (ds : json.Members) (ms : List Member) → of_members ds ≡ Ok ms → IsBelow k ds → list_all (λ later. is_below k later.0) (map ordered_member ms) ≡ true
 below_members k json.no_members ms e h = let is : [] ≡ ms = cc in ap (λ us. list_all (λ later. is_below k later.0) (map ordered_member us)) (sym is)
 below_members k (json.member l d ds) ms e h =
     let c = chained (of_reading d) (λ value. of_members ds ▷ λ rest. Ok (roll-Member (record { key = l; value = value }) ∷ rest)) ms e in

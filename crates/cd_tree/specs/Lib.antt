@@ -1,3 +1,4 @@
+pub mod Direct
 pub mod Fields
 pub mod Path
 pub mod Reading

@@ -14,6 +14,7 @@
 
 mod converting;
 mod copies;
+mod direct;
 mod equality;
 mod fault;
 mod fields;

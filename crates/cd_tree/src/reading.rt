@@ -6,6 +6,7 @@ ghost use Rattle.cd_tree.specs.Tree.{IsSound};
 ghost use Rattle.std.specs.Result.{result_map_both};
 
 use crate::converting::tree_from;
+use crate::direct::read_directly;
 use crate::fault::TreeFault;
 use crate::limits::{MAX_DEPTH, MAX_TEXT_BYTES};
 use crate::nested::is_deeper;
@@ -21,6 +22,9 @@ pub fn read(alloc: Global, bytes: &[u8]) -> Result<Tree, TreeFault>
 {
     if is_too_long(bytes.len()) {
         return Err(TreeFault::TooLong);
+    }
+    if let Some(tree) = read_directly(alloc, bytes) {
+        return Ok(tree);
     }
     let value = parse(alloc, bytes)?;
     if is_deeper(&value, MAX_DEPTH) {

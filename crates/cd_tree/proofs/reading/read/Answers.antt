@@ -11,6 +11,11 @@ use Rattle.cd_tree.proofs.reading.read.Goals as goal
 pub returns-then-is_too_long-clause-exact : goal.returns-then-is_too_long-clause-exact
 returns-then-is_too_long-clause-exact c _ = too_long c.args.bytes.now (c.if-is_too_long.ensures.0 (search rules))
 
+pub returns-in-Some-clause-sound : goal.returns-in-Some-clause-sound
+returns-in-Some-clause-sound c =
+    let short = not_above MAX_TEXT_BYTES (length c.args.bytes.now) c.if-is_too_long.ensures.1 in
+    tree_of-sound c.args.bytes.now c.in-Some.tree (c.in-Some.ensures short)
+
 pub returns-in_err-value-clause-exact : goal.returns-in_err-value-clause-exact
 returns-in_err-value-clause-exact c =
     let short = not_above MAX_TEXT_BYTES (length c.args.bytes.now) c.if-is_too_long.ensures.1 in
