@@ -1,5 +1,5 @@
 -- A value that is read directly goes to its place among those read before it.
-use Rattle.std.proofs.Common.{◌≡◌, ℕ, zero, suc, ◌<◌, ◌≤◌, ◌-◌, max, List, [], ◌∷◌, ◌++◌, length, get_or, slice_get, Bool, true, Option, Some, None, Ok, Ordering, Less, Equal, Greater, refl, sym, ap, ◌∙◌, subst, arith}
+use Rattle.std.proofs.Common.{◌≡◌, ℕ, zero, suc, ◌<◌, ◌≤◌, ◌-◌, List, [], ◌∷◌, length, get_or, slice_get, Bool, true, Some, Ok, Ordering, Less, Equal, Greater, refl, sym, ap, ◌∙◌, subst, arith}
 use Rattle.std.specs.Prelude.{IsTrue, option_map, option_and_then}
 use Rattle.std.specs.List.{insert}
 use Rattle.std.specs.Ordering.{nat_cmp, match_ordering, ordering_reverse, is_lt}
@@ -7,7 +7,7 @@ use Rattle.std.specs.Cmp.Lexicographic.{slice_cmp}
 use Rattle.std.proofs.lemmas.Cmp.{nat_list_cmp_total}
 use Rattle.json.specs.Json as raw
 use Rattle.serde_json.specs.Data as json
-use Rattle.serde_json.specs.Read.{number_of, of_json, of_items as items_of_json, of_members as members_of_json}
+use Rattle.serde_json.specs.Read.{number_of, of_items as items_of_json, of_members as members_of_json}
 use Rattle.cd_text.specs.Steps.{◌▷◌}
 use Rattle.cd_tree.specs.Direct.{Fits, IsTreeOf, AreTreesOf, AreMembersOf, GoesAt}
 use Rattle.cd_tree.specs.Reading.{of_reading, of_items, of_members}

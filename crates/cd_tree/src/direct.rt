@@ -13,14 +13,14 @@ use json::{Reader, Scratch, Value};
 use std::alloc::Global;
 use std::cmp::Ordering;
 
-/// How many levels serde_json reads.
+/// How many levels a text may nest that is JSON by the grammar of serde_json.
 const MAX_LEVELS: usize = 127;
 
-/// How far from the end of its object a key is put among those read before it.
+/// How many of the keys read before it a key may pass. More would take time that grows with the square of their number.
 const NEAR: usize = 32;
 
-/// The tree of a text that most are: it has one, no key stands twice in an object, and no key goes far in front of one that
-/// stands before it. `None` says nothing of the text: it has to be read the long way.
+/// The tree of a text as most are: it has one, no key stands twice in an object, and each key goes near the end of those before
+/// it. It needs one pass over borrowed texts. `None` says nothing of the text, not even that it has no tree.
 pub(crate) fn read_directly(alloc: Global, bytes: &[u8]) -> Option<Tree>
     ensures { IfSome result (λ tree. length bytes.now ≤ MAX_TEXT_BYTES → tree_of bytes.now ≡ Ok tree) }
 {

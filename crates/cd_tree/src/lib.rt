@@ -4,6 +4,9 @@
 //! grammar and the numbers that serde_json states. Every tree that it gives is sound (specs/Tree.antt): keys rise in each
 //! object, and nesting and compact text stay within `MAX_DEPTH` and `MAX_TEXT_BYTES`.
 //!
+//! Most texts are read directly (direct.rt). What that leaves open, as a key that stands twice or a fault, is found the long
+//! way, over serde_json's values (reading.rt, nested.rt, converting.rt).
+//!
 //! `print` gives the compact text of a sound tree, which reads back as that tree; `reads_back` says the same of a tree that is
 //! not printed. `copy` gives an equal tree, and `equal` tells whether two are equal. `Fields` lends the members of an object
 //! by their names, and a fault of it names the `Path` where it is. What is lent from a sound object is sound.

@@ -23,6 +23,7 @@ pub fn read(alloc: Global, bytes: &[u8]) -> Result<Tree, TreeFault>
     if is_too_long(bytes.len()) {
         return Err(TreeFault::TooLong);
     }
+    // Most texts take this way. What it leaves open is found below.
     if let Some(tree) = read_directly(alloc, bytes) {
         return Ok(tree);
     }

@@ -1,4 +1,4 @@
-use Rattle.std.proofs.Common.{◌≡◌, ◌+◌, ◌-◌, ◌<◌, ◌≤◌, List, [], ◌∷◌, ◌++◌, length, drop, append_assoc, append-nil, sym, ap, ◌∙◌, subst, arith, rules}
+use Rattle.std.proofs.Common.{◌≡◌, ◌+◌, List, [], ◌∷◌, ◌++◌, drop, append_assoc, append-nil, sym, ap, ◌∙◌, subst, arith, rules}
 use Rattle.std.specs.List.{insert}
 use Rattle.std.proofs.lemmas.List.{drop_all}
 use Rattle.json.specs.Json as raw
@@ -9,7 +9,7 @@ use Rattle.cd_tree.specs.Direct.{IsTreeOf, AreTreesOf, GoesAt}
 use Rattle.cd_tree.specs.declared.tree.Member.{Member, roll-Member}
 use Rattle.cd_tree.specs.declared.tree.Tree as tree
 use Rattle.cd_tree.specs.declared.tree.Tree.{Tree, Null, Items, Object}
-use Rattle.cd_tree.proofs.Placing.{one_item, no_items_left, Placed, none_placed, one_placed, all_placed, of_array, of_object, of_digits, of_text, of_truth, of_null}
+use Rattle.cd_tree.proofs.Placing.{one_item, no_items_left, Placed, none_placed, one_placed, of_array, of_object, of_digits, of_text, of_truth, of_null}
 use Rattle.cd_tree.proofs.Trees.{drop-element}
 use Rattle.cd_tree.proofs.direct.+directly.Goals as goal
 

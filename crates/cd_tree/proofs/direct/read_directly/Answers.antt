@@ -1,4 +1,4 @@
-use Rattle.std.proofs.Common.{◌≡◌, ◌≤◌, [], length, Some, subst, sym, ap, ◌∙◌, arith, rules}
+use Rattle.std.proofs.Common.{◌≡◌, ◌≤◌, [], length, Some, subst, sym, ap, ◌∙◌, rules}
 use Rattle.std.specs.Prelude.{Ok, IfOk, IsUtf8}
 use Rattle.json.specs.Json.{value}
 use Rattle.json.specs.Lex.{tokens}
