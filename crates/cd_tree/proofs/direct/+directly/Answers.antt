@@ -51,7 +51,7 @@ members_directly-loop-member-preserved t c =
     let left = members_view (drop (l.member-index + 1) xs) in
     let step : drop l.member-index xs ≡ m ∷ drop (l.member-index + 1) xs = drop-element xs l.member-index m (omega arith) c.member-item.is in
     let so : Placed levels all (raw.member m.0.now (value_view m.1) left) l.found = subst (λ zs. Placed levels all (members_view zs) l.found) step l.invariant in
-    let at : GoesAt m.0.now l.found c.in_ok-place.place = subst (λ (ms : List Member). GoesAt m.0.now ms c.in_ok-place.place) c.as_slice.ensures c.in_ok-place.ensures in
+    let at : GoesAt m.0.now l.found c.in_ok-place.place = search rules in
     let key : c.in_ok-key.key ≡ m.0.now = search rules in
     let inserted : c.insert.new.self ≡ insert l.found c.in_ok-place.place (roll-Member (record { key = c.in_ok-key.key; value = c.in_ok-value.value })) = search rules in
     subst (λ (ms : List Member). Placed levels all left ms) (ap (λ k. insert l.found c.in_ok-place.place (roll-Member (record { key = k; value = c.in_ok-value.value }))) (sym key) ∙ sym inserted)
