@@ -1,5 +1,5 @@
 mod Told
-mod Puts
+mod Going
 mod Serving
 mod Adding
 mod Causes

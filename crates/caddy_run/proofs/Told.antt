@@ -41,26 +41,26 @@ no_change (Some p) = ap Some (ap (λ (cs : List Connection). record p { connecti
     same (c ∷ d ∷ ds) = ap (λ zs. c ∷ zs) (same (d ∷ ds))
 
 -- more bytes were taken
-pub taking : (taken piece new : List ℕ) (first then now : Option Past) → then ≡ option_map (with_connection (after_all taken false [])) first → now ≡ option_map (with_connection (λ c. record c { taken = c.taken ++ piece })) then → new ≡ taken ++ piece → now ≡ option_map (with_connection (after_all new false [])) first
-taking taken piece new first then now one two is =
-    both_changes (after_all taken false []) (λ c. record c { taken = c.taken ++ piece }) (after_all new false []) first then now one two
-    (λ c. ap (λ (t : List ℕ). record (after_all [] false [] c) { taken = t }) (append_assoc c.taken taken piece ∙ ap (λ (x : List ℕ). c.taken ++ x) (sym is)))
+pub taking : (taken piece put : List ℕ) (ended : Bool) (first then now : Option Past) → then ≡ option_map (with_connection (after_all taken ended put)) first → now ≡ option_map (with_connection (λ c. record c { taken = c.taken ++ piece })) then → now ≡ option_map (with_connection (after_all (taken ++ piece) ended put)) first
+taking taken piece put ended first then now one two =
+    both_changes (after_all taken ended put) (λ c. record c { taken = c.taken ++ piece }) (after_all (taken ++ piece) ended put) first then now one two
+    (λ c. ap (λ (t : List ℕ). record (after_all taken ended put c) { taken = t }) (append_assoc c.taken taken piece))
 
 -- the end was seen
-pub ending : (taken : List ℕ) (first then now : Option Past) → then ≡ option_map (with_connection (after_all taken false [])) first → now ≡ option_map (with_connection (λ c. record c { ended = true })) then → now ≡ option_map (with_connection (after_all taken true [])) first
-ending taken first then now one two =
-    both_changes (after_all taken false []) (λ c. record c { ended = true }) (after_all taken true []) first then now one two
-    (λ c. ap (λ (b : Bool). record (after_all taken true [] c) { ended = b }) (or_true c.ended))
+pub ending : (taken put : List ℕ) (first then now : Option Past) → then ≡ option_map (with_connection (after_all taken false put)) first → now ≡ option_map (with_connection (λ c. record c { ended = true })) then → now ≡ option_map (with_connection (after_all taken true put)) first
+ending taken put first then now one two =
+    both_changes (after_all taken false put) (λ c. record c { ended = true }) (after_all taken true put) first then now one two
+    (λ c. ap (λ (b : Bool). record (after_all taken true put c) { ended = b }) (or_true c.ended))
   where
     or_true : (b : Bool) → true ≡ (b || true)
     or_true true = refl
     or_true false = refl
 
 -- this was put
-pub putting : (taken : List ℕ) (ended : Bool) (part : List ℕ) (first then now : Option Past) → then ≡ option_map (with_connection (after_all taken ended [])) first → now ≡ option_map (with_connection (λ c. record c { put = c.put ++ part })) then → now ≡ option_map (with_connection (after_all taken ended part)) first
-putting taken ended part first then now one two =
-    both_changes (after_all taken ended []) (λ c. record c { put = c.put ++ part }) (after_all taken ended part) first then now one two
-    (λ c. ap (λ (b : List ℕ). record (after_all taken ended [] c) { put = b }) (append_assoc c.put [] part))
+pub putting : (taken put part : List ℕ) (ended : Bool) (first then now : Option Past) → then ≡ option_map (with_connection (after_all taken ended put)) first → now ≡ option_map (with_connection (λ c. record c { put = c.put ++ part })) then → now ≡ option_map (with_connection (after_all taken ended (put ++ part))) first
+putting taken put part ended first then now one two =
+    both_changes (after_all taken ended put) (λ c. record c { put = c.put ++ part }) (after_all taken ended (put ++ part)) first then now one two
+    (λ c. ap (λ (b : List ℕ). record (after_all taken ended put c) { put = b }) (append_assoc c.put put part))
 
 -- nothing was put
 pub put_none : (first : Option Past) → first ≡ option_map (with_connection (λ c. record c { put = c.put ++ [] })) first

@@ -1,13 +1,12 @@
 -- The counts of a run with one more connection.
-use Rattle.cd_outside.specs.Counts.{raised}
+use Rattle.std.specs.Prelude.{◌+◌, min, if◌then◌else◌}
+use Rattle.cd_outside.specs.Counts.{count_end, raised}
 use Rattle.caddy_run.specs.declared.counts.Counts.{Counts}
-use Rattle.caddy_run.specs.declared.way.Way.{Way}
-use Rattle.caddy_run.specs.declared.way.Way.TheVariants as way
+use Rattle.caddy_run.specs.declared.way.Ending.{Ending}
+use Rattle.caddy_run.specs.Connections.{is_cut}
 
-abbrev pub counted : Way → Counts → Counts
-counted way.Answered counts = record counts { answered = raised counts.answered }
-counted way.Refused counts = counts
-counted way.Clean counts = counts
-counted way.Failed counts = counts
-counted way.NoMemory counts = record counts { cut = raised counts.cut }
-counted way.Dropped counts = counts
+abbrev pub counted : Ending → Counts → Counts
+counted ending counts = record {
+  answered = min (counts.answered + ending.answered) count_end;
+  cut = if is_cut ending.way then raised counts.cut else counts.cut;
+}

@@ -3,6 +3,7 @@ pub mod Site
 pub mod StaticResponse
 pub mod Replies
 pub mod Connections
+pub mod Going
 pub mod Counted
 pub mod Config
 pub mod Output

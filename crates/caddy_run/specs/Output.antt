@@ -1,6 +1,5 @@
 -- What is written on the program's own output.
 use Rattle.std.specs.Prelude.{◌≡◌, ◌++◌, ℕ, List, codes, decimal, Option, option_map}
-use Rattle.caddy_run.specs.Connections.{IsFrontOf}
 
 abbrev pub serving_line : List ℕ
 serving_line = codes "serving initial configuration\n"
@@ -18,6 +17,10 @@ refused_line words = codes "refused: " ++ words ++ codes "\n"
 
 abbrev pub read_fault_line : List ℕ
 read_fault_line = codes "read fault\n"
+
+-- the whole begins so
+abbrev pub IsFrontOf : List ℕ → List ℕ → Type 0
+IsFrontOf front whole = (rest : List ℕ) × (whole ≡ front ++ rest)
 
 -- a sink was given a text from the front of the whole, and all of it if `complete`
 pub record Wrote (whole : List ℕ) (complete : Type 0) (old new : Option (List ℕ)) : Type 0 where

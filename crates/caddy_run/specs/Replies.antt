@@ -1,27 +1,46 @@
--- What is put on a connection, by all the bytes that were taken from it.
-use Rattle.std.specs.Prelude.{◌≡◌, ◌≢◌, ◌⊎◌, ℕ, false, List, []}
+-- What is put on a connection, by the requests that are answered on it.
+use Rattle.std.specs.Prelude.{◌≡◌, ◌<◌, ◌⊎◌, ◌||◌, ℕ, Bool, not, List, [], ◌∷◌, ◌++◌, length, take, codes}
+use Rattle.std.specs.List.{flat_map, list_all}
+use Rattle.std.specs.Str.{bytes_eq}
 use Rattle.cd_wire.specs.declared.answer.Answer.{Answer}
 use Rattle.cd_wire.specs.declared.request.Request.{Request}
-use Rattle.cd_wire.specs.OneRequest.{IsRequest}
+use Rattle.cd_wire.specs.declared.fault.WireFault.{WireFault}
+use Rattle.cd_wire.specs.Faults.{status_of}
 use Rattle.cd_wire.specs.Render.{render, refusal_bytes}
+use Rattle.cd_wire.specs.Requests.{BeginsRequest, HasNoRequest, HasTail, refused}
 
--- the bytes are a request, and this is the answer to it, as it is put
-pub record IsAnswered (answer : Answer) (taken put : List ℕ) : Type 0 where
-  pub request : Request
-  pub asked : IsRequest taken request
-  pub told : put ≡ render answer false request.close
+-- the request is HEAD, whose answer has no body (RFC 9110, section 9.3.2)
+abbrev pub is_head : Request → Bool
+is_head request = bytes_eq request.method (codes "HEAD")
 
--- the bytes are no request, and what is put is the fixed answer to those
-pub record IsRefused (taken put : List ℕ) : Type 0 where
-  pub some : taken ≢ []
-  pub none : (request : Request) → ¬ (IsRequest taken request)
-  pub told : put ≡ refusal_bytes 501
+-- the answer to a request, as it is put
+abbrev pub answer_to : Answer → Request → List ℕ
+answer_to answer request = render answer (is_head request) request.close
 
--- no bytes ask for nothing
-pub record IsUnasked (taken put : List ℕ) : Type 0 where
-  pub none : taken ≡ []
-  pub told : put ≡ []
+-- the answers to these requests, one behind the other
+abbrev pub answers_to : Answer → List Request → List ℕ
+answers_to answer requests = flat_map (answer_to answer) requests
 
--- what is put in the end, if nothing goes wrong
-abbrev pub IsReply : Answer → List ℕ → List ℕ → Type 0
-IsReply answer taken put = IsAnswered answer taken put ⊎ IsRefused taken put ⊎ IsUnasked taken put
+-- the connection ends behind the answer to this request, since one of the two says so
+abbrev pub closes : Answer → Request → Bool
+closes answer request = answer.close || request.close
+
+-- it ends behind none of these
+abbrev pub none_closes : Answer → List Request → Bool
+none_closes answer requests = list_all (λ request. not (closes answer request)) requests
+
+-- the fixed answer to bytes that are refused
+abbrev pub refusal_to : WireFault → List ℕ
+refusal_to fault = refusal_bytes (status_of fault)
+
+-- less than all of the whole, from its front
+abbrev pub IsCutOff : List ℕ → List ℕ → Type 0
+IsCutOff part whole = (count : ℕ) × (count < length whole) × (part ≡ take count whole)
+
+-- what was put behind whole answers where a connection was cut short, whose bytes begin so behind the answered requests:
+-- nothing, or a part of the answer to the next request, or a part of the answer to what is refused there
+abbrev pub IsPart : Answer → List ℕ → Bool → List ℕ → Type 0
+IsPart answer rest ended part =
+    (part ≡ [])
+    ⊎ ((request : Request) × (after : List ℕ) × BeginsRequest rest request after × IsCutOff part (answer_to answer request))
+    ⊎ ((fault : WireFault) × HasNoRequest rest × HasTail rest ended (refused fault) × IsCutOff part (refusal_to fault))

@@ -1,39 +1,55 @@
-ghost use Rattle.std.specs.Prelude.{◌≡◌, ◌≤◌, ◌++◌, List, ℕ, true, false, option_map, IsTrue, ◌↔◌, IfOk, IfSome, IfNone};
+ghost use Rattle.std.specs.Prelude.{◌≡◌, ◌≤◌, ◌++◌, List, ℕ, true, false, Some, Option, option_map, IsTrue, ◌↔◌};
+ghost use Rattle.cd_outside.specs.declared.past.Past.{Past};
 ghost use Rattle.cd_outside.specs.Counts.{Rose};
 ghost use Rattle.cd_outside.specs.Given.{IsGivenOf};
 ghost use Rattle.cd_outside.specs.Past.{after_put};
-ghost use Rattle.cd_wire.specs.declared.request.Request.{Request as Asked};
-ghost use Rattle.cd_wire.specs.OneRequest.{IsRequest};
-ghost use Rattle.caddy_run.specs.Replies.{IsAnswered};
-ghost use Rattle.caddy_run.specs.Connections.{Served, Puts, stdio_address};
+ghost use Rattle.cd_wire.specs.Requests.{BeginsRequest, HasNoRequest, HasTail, refused};
+ghost use Rattle.caddy_run.specs.Replies.{is_head, closes};
+ghost use Rattle.caddy_run.specs.Connections.{Served, stdio_address};
+ghost use Rattle.caddy_run.specs.Going.{Going, Over, Goes};
 
-use crate::reading::{Stop, read_connection};
-use crate::way::Way;
-use cd_outside::{Address, Given, Lane};
-use cd_text::{NoMemory, Octets};
-use cd_wire::{Answer, one_request, refusal, render};
+use crate::way::{Ending, Way};
+use cd_outside::{Address, Given, Lane, Taken};
+use cd_text::NoMemory;
+use cd_wire::{Answer, Intake, Next, Request, WireFault, refusal, render, splits_stay};
 use std::alloc::Global;
+use std::sync::Wait;
+
+/// What is known of a connection while it is served.
+#[derive(Drop)]
+struct Session {
+    /// The bytes that came and were not yet taken by a request.
+    intake: Intake,
+    /// Whether its end was seen.
+    ended: bool,
+    /// How many of its requests were answered. It stays at 2^64 - 1.
+    answered: u64,
+}
 
 /// Serves the connection that is there, which came to this address, and ends it.
-pub fn serve_connection<L: Lane>(
+pub fn serve_connection<R: Wait, L: Lane>(
+    rt: &R,
     alloc: Global,
     answer: &Answer,
     address: &Address,
     lane: &mut L,
-) -> Way
+) -> Ending
     requires { L.busy lane.old ≡ true }
     ensures busy { L.busy lane.new ≡ false }
-    ensures served { Served answer.now address.now result (L.past lane.old) (L.past lane.new) }
+    ensures served { Served answer.now address.now result.way result.answered (L.past lane.old) (L.past lane.new) }
     ensures later { L.faults lane.old ≤ L.faults lane.new }
-    ensures failed { result ≡ Way.Failed → Rose (L.faults lane.old) (L.faults lane.new) }
+    ensures failed { result.way ≡ Way.Failed → Rose (L.faults lane.old) (L.faults lane.new) }
 {
     if !is_stdio(address) {
         lane.end();
-        return Way::Dropped;
+        return Ending {
+            way: Way::Dropped,
+            answered: 0,
+        };
     }
-    let way = answer_connection(alloc, answer, address, lane);
+    let ending = answer_all(rt, alloc, answer, lane);
     lane.end();
-    way
+    ending
 }
 
 // Whether this is the address of standard input and output.
@@ -43,62 +59,163 @@ fn is_stdio(address: &Address) -> bool
     address.host.equals("stdio") && address.port == 0
 }
 
-// Reads the connection and puts the reply.
-fn answer_connection<L: Lane>(
-    alloc: Global,
-    answer: &Answer,
-    address: &Address,
-    lane: &mut L,
-) -> Way
-    requires busy { L.busy lane.old ≡ true }
-    requires here { address.now ≡ stdio_address }
-    ensures busy { L.busy lane.new ≡ true }
-    ensures served { Served answer.now address.now result (L.past lane.old) (L.past lane.new) }
-    ensures later { L.faults lane.old ≤ L.faults lane.new }
-    ensures failed { result ≡ Way.Failed → Rose (L.faults lane.old) (L.faults lane.new) }
-{
-    let mut taken = Octets::new(alloc);
-    match read_connection(lane, &mut taken) {
-        Err(Stop::Failed) => return Way::Failed,
-        Err(Stop::NoMemory) => return Way::NoMemory,
-        Ok(()) => {}
-    }
-    reply(alloc, answer, taken.as_slice(), lane)
-}
-
-// Puts the reply to all the bytes that were taken.
-fn reply<L: Lane>(alloc: Global, answer: &Answer, taken: &[u8], lane: &mut L) -> Way
+// Answers the requests of the connection, one after another, until it ends.
+fn answer_all<R: Wait, L: Lane>(rt: &R, alloc: Global, answer: &Answer, lane: &mut L) -> Ending
     requires { L.busy lane.old ≡ true }
     ensures busy { L.busy lane.new ≡ true }
-    ensures put { (put : List ℕ) × Puts answer.now taken.now result put × (L.past lane.new ≡ option_map (after_put put) (L.past lane.old)) }
+    ensures over { Over answer.now result.way result.answered (L.past lane.old) (L.past lane.new) }
     ensures later { L.faults lane.old ≤ L.faults lane.new }
-    ensures failed { result ≡ Way.Failed → Rose (L.faults lane.old) (L.faults lane.new) }
+    ensures failed { result.way ≡ Way.Failed → Rose (L.faults lane.old) (L.faults lane.new) }
 {
-    if taken.is_empty() {
-        return Way::Clean;
+    let mut session = Session {
+        intake: Intake::new(alloc),
+        ended: false,
+        answered: 0,
+    };
+    for _ in rt.forever() {
+        if let Some(way) = go_on(alloc, answer, &mut session, lane) {
+            return Ending {
+                way,
+                answered: session.answered,
+            };
+        }
     }
-    match answer_to(alloc, answer, taken) {
-        Ok(Some(bytes)) => match put(lane, bytes.as_slice()) {
-            Given::All => Way::Answered,
-            Given::Failed => Way::Failed,
-        },
-        Ok(None) => match put(lane, refusal(501)) {
-            Given::All => Way::Refused,
-            Given::Failed => Way::Failed,
-        },
-        Err(NoMemory) => Way::NoMemory,
+    unreachable!()
+}
+
+// Answers the next request, or reads more bytes, or tells how the connection ended.
+fn go_on<L: Lane>(
+    alloc: Global,
+    answer: &Answer,
+    session: &mut Session,
+    lane: &mut L,
+) -> Option<Way>
+    requires { L.busy lane.old ≡ true }
+    ensures busy { L.busy lane.new ≡ true }
+    ensures goes { (first : Option Past)
+        → Going answer.now session.old.intake session.old.ended session.old.answered first (L.past lane.old)
+        → Goes answer.now result session.new first (L.past lane.new) }
+    ensures later { L.faults lane.old ≤ L.faults lane.new }
+    ensures failed { result ≡ Some Way.Failed → Rose (L.faults lane.old) (L.faults lane.new) }
+{
+    splits_stay();
+    match session.intake.next(session.ended) {
+        Ok(Next::Request(request)) => answer_request(alloc, answer, &request, session, lane),
+        Ok(Next::More) => read_more(session, lane),
+        Ok(Next::End) => Some(Way::Clean),
+        Ok(Next::Cut) => Some(Way::Cut),
+        Ok(Next::Refused(fault)) => Some(refuse(fault, session, lane)),
+        Err(NoMemory) => Some(Way::NoMemory),
     }
 }
 
-// The answer to the request that the bytes are, as it is put, or `None` where they are no request.
-fn answer_to(alloc: Global, answer: &Answer, taken: &[u8]) -> Result<Option<Octets>, NoMemory>
-    ensures some { IfOk result (λ found. IfSome found (IsAnswered answer.now taken.now)) }
-    ensures none { IfOk result (λ found. IfNone found ((request : Asked) → ¬ (IsRequest taken.now request))) }
+fn is_head(request: &Request) -> bool
+    ensures { result ≡ is_head request.now }
 {
-    let Some(request) = one_request(alloc, taken)? else {
-        return Ok(None);
+    request.method.equals("HEAD")
+}
+
+// Whether the connection ends behind the answer.
+fn closes(answer: &Answer, request: &Request) -> bool
+    ensures { result ≡ closes answer.now request.now }
+{
+    answer.close || request.close
+}
+
+// Answers a request that was just taken off the front of what was left.
+fn answer_request<L: Lane>(
+    alloc: Global,
+    answer: &Answer,
+    request: &Request,
+    session: &mut Session,
+    lane: &mut L,
+) -> Option<Way>
+    requires { L.busy lane.old ≡ true }
+    ensures busy { L.busy lane.new ≡ true }
+    ensures goes { (first : Option Past) (left : List ℕ)
+        → Going answer.now left session.old.ended session.old.answered first (L.past lane.old)
+        → BeginsRequest left request.now session.old.intake
+        → Goes answer.now result session.new first (L.past lane.new) }
+    ensures later { L.faults lane.old ≤ L.faults lane.new }
+    ensures failed { result ≡ Some Way.Failed → Rose (L.faults lane.old) (L.faults lane.new) }
+{
+    splits_stay();
+    let Ok(bytes) = render(alloc, answer, is_head(request), request.close) else {
+        return Some(Way::NoMemory);
     };
-    Ok(Some(render(alloc, answer, false, request.close)?))
+    match put(lane, bytes.as_slice()) {
+        Given::Failed => return Some(Way::Failed),
+        Given::All => {}
+    }
+    session.answered = session.answered.saturating_add(1);
+    if closes(answer, request) {
+        return Some(Way::Closed);
+    }
+    None
+}
+
+// Reads the next bytes of the connection, whose end was not seen.
+fn read_more<L: Lane>(session: &mut Session, lane: &mut L) -> Option<Way>
+    requires busy { L.busy lane.old ≡ true }
+    requires more { session.old.ended ≡ false }
+    ensures busy { L.busy lane.new ≡ true }
+    ensures goes { (answer : Answer) (first : Option Past)
+        → Going answer session.old.intake session.old.ended session.old.answered first (L.past lane.old)
+        → Goes answer result session.new first (L.past lane.new) }
+    ensures later { L.faults lane.old ≤ L.faults lane.new }
+    ensures failed { result ≡ Some Way.Failed → Rose (L.faults lane.old) (L.faults lane.new) }
+{
+    splits_stay();
+    if session.intake.is_empty() {
+        lane.rest();
+    }
+    take_more(session, lane)
+}
+
+// The same, once the lane knows whether all was answered.
+fn take_more<L: Lane>(session: &mut Session, lane: &mut L) -> Option<Way>
+    requires busy { L.busy lane.old ≡ true }
+    requires more { session.old.ended ≡ false }
+    ensures busy { L.busy lane.new ≡ true }
+    ensures goes { (answer : Answer) (first : Option Past)
+        → Going answer session.old.intake session.old.ended session.old.answered first (L.past lane.old)
+        → Goes answer result session.new first (L.past lane.new) }
+    ensures later { L.faults lane.old ≤ L.faults lane.new }
+    ensures failed { result ≡ Some Way.Failed → Rose (L.faults lane.old) (L.faults lane.new) }
+{
+    splits_stay();
+    let mut buffer = [0u8; 4_096];
+    match lane.read(&mut buffer) {
+        Taken::Bytes(count) => {
+            match session.intake.push(&buffer[..count]) {
+                Ok(()) => None,
+                Err(NoMemory) => Some(Way::NoMemory),
+            }
+        }
+        Taken::End => {
+            session.ended = true;
+            None
+        }
+        Taken::Failed => Some(Way::Failed),
+    }
+}
+
+// Answers what is refused behind the requests that were answered.
+fn refuse<L: Lane>(fault: WireFault, session: &Session, lane: &mut L) -> Way
+    requires { L.busy lane.old ≡ true }
+    ensures busy { L.busy lane.new ≡ true }
+    ensures goes { (answer : Answer) (first : Option Past)
+        → Going answer session.now.intake session.now.ended session.now.answered first (L.past lane.old)
+        → HasNoRequest session.now.intake → HasTail session.now.intake session.now.ended (refused fault)
+        → Over answer result session.now.answered first (L.past lane.new) }
+    ensures later { L.faults lane.old ≤ L.faults lane.new }
+    ensures failed { result ≡ Way.Failed → Rose (L.faults lane.old) (L.faults lane.new) }
+{
+    splits_stay();
+    match put(lane, refusal(fault.status())) {
+        Given::All => Way::Refused(fault),
+        Given::Failed => Way::Failed,
+    }
 }
 
 // Puts these bytes, which may be none.

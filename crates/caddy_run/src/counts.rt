@@ -1,7 +1,6 @@
-ghost use Rattle.std.specs.Prelude.{◌≡◌, ◌+◌, min};
-ghost use Rattle.cd_outside.specs.Counts.{raised};
+ghost use Rattle.std.specs.Prelude.{◌≡◌};
 
-use crate::way::Way;
+use crate::way::{Ending, Way};
 
 /// How many requests were answered, and how many connections were cut short for want of memory. Each stays at its end.
 #[derive(Clone, Copy, Debug)]
@@ -23,14 +22,14 @@ impl Counts {
         }
     }
 
-    /// Counts a connection that ended in this way.
-    pub fn add(&mut self, way: Way)
-        ensures { self.new ≡ counted way self.old }
+    /// Counts a connection that ended so.
+    pub fn add(&mut self, ending: Ending)
+        ensures { self.new ≡ counted ending self.old }
     {
-        match way {
-            Way::Answered => self.answered = self.answered.saturating_add(1),
+        self.answered = self.answered.saturating_add(ending.answered);
+        match ending.way {
             Way::NoMemory => self.cut = self.cut.saturating_add(1),
-            Way::Refused | Way::Clean | Way::Failed | Way::Dropped => {}
+            Way::Clean | Way::Cut | Way::Refused(_) | Way::Closed | Way::Failed | Way::Dropped => {}
         }
     }
 }

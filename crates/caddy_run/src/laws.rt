@@ -8,5 +8,5 @@ ghost use Rattle.caddy_run.specs.Connections.{Added, is_early};
 /// together no more than the rises of the lane's faults and the connections that were cut for want of memory.
 pub fn every_mishap_has_its_cause()
     ensures { (answer : Answer) (p : Past) (q : Past) (before : ℕ) (now : ℕ) (answered : ℕ) (cut : ℕ) (added : Added answer p q before now answered cut)
-        → Covers (count_by is_early added.ways + (q.accept_faults - p.accept_faults)) before now cut }
+        → Covers (count_by (λ outcome. is_early outcome.how) added.outcomes + (q.accept_faults - p.accept_faults)) before now cut }
 {}

@@ -5,7 +5,7 @@
 //! config_file.rt). These tell nothing of content, so no contract speaks of what a stream or a file holds.
 //!
 //! The modules in between read the configuration (config.rt), find what it serves (site.rt, static_response.rt), serve the
-//! connections of a lane one after another (serve.rt, connection.rt, reading.rt), count them (counts.rt), and say what was
+//! connections of a lane one after another (serve.rt, connection.rt), count them (counts.rt), and say what was
 //! done (output.rt).
 #![tactic(auto)]
 
@@ -18,7 +18,6 @@ mod console;
 mod counts;
 mod laws;
 mod output;
-mod reading;
 mod refusal;
 mod serve;
 mod site;

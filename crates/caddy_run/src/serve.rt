@@ -20,7 +20,7 @@ pub fn serve_all<R: Wait, L: Lane>(rt: &R, alloc: Global, answer: &Answer, lane:
     for _ in rt.forever() {
         match lane.accept() {
             Accepted::Connection(address) => {
-                counts.add(serve_connection(alloc, answer, &address, lane));
+                counts.add(serve_connection(rt, alloc, answer, &address, lane));
             }
             Accepted::Ended | Accepted::Failed => return counts,
         }

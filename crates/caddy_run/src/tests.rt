@@ -17,8 +17,7 @@ const GET: &str = "GET / HTTP/1.1\r\nHost: a\r\n\r\n";
 const HI: &str =
     "HTTP/1.1 200 OK\r\nContent-Type: text/plain; charset=utf-8\r\nServer: Caddy\r\nContent-Length: 2\r\n\r\nhi";
 
-const UNKNOWN: &str =
-    "HTTP/1.1 501 Not Implemented\r\nContent-Length: 0\r\nConnection: close\r\n\r\n";
+const BAD: &str = "HTTP/1.1 400 Bad Request\r\nContent-Length: 0\r\nConnection: close\r\n\r\n";
 
 const SERVED_0: &str = "serving initial configuration\nserved 0 requests under 1 configurations\n";
 
@@ -177,34 +176,113 @@ fn answers_hello_with_the_exact_bytes(rt: HostRuntime) -> Result<(), NoMemory> {
     Ok(())
 }
 
-#[test]
-fn one_connection_is_answered_by_all_its_bytes(rt: HostRuntime) -> Result<(), NoMemory> {
-    for (bytes, answer, out, answered) in [
-        (GET, HI, SERVED_1, 1),
-        ("", "", SERVED_0, 0),
-        ("POST / HTTP/1.1\r\nHost: a\r\n\r\n", UNKNOWN, SERVED_0, 0),
-        ("GET / HTTP/1.1\r\nHost: a\r\n", UNKNOWN, SERVED_0, 0),
-        ("GET / HTTP/1.1\r\n\r\n", UNKNOWN, SERVED_0, 0),
-        ("GET /?q HTTP/1.1\r\nHost: b\r\n\r\n", HI, SERVED_1, 1),
-    ] {
-        let script = one_call(rt.alloc(), bytes.as_bytes())?;
-        let outcome = serve(&rt, rt.alloc(), script, NOTHING_FAILS)?;
-        check(&rt, &outcome, 0, out, answered);
+// Serves one connection that gives these bytes, whole and then byte by byte, and compares what it is answered.
+fn check_connection<R: Threads + Wait + Sync + Abort>(
+    rt: &R,
+    alloc: Global,
+    bytes: &str,
+    answer: &str,
+    out: &str,
+    answered: u64,
+) -> Result<(), NoMemory> {
+    for size in [100_000, 1] {
+        let mut script = List::new(alloc);
+        script.push(call(alloc, "stdio", bytes.as_bytes(), size)?)?;
+        let outcome = serve(rt, alloc, script, NOTHING_FAILS)?;
+        check(rt, &outcome, 0, out, answered);
         assert_eq!(rt; put(&outcome, 0), answer.as_bytes(), "at {bytes:?}");
     }
     Ok(())
 }
 
 #[test]
-fn more_bytes_than_a_request_has_end_the_reading(rt: HostRuntime) -> Result<(), NoMemory> {
+fn one_request_or_none_is_answered(rt: HostRuntime) -> Result<(), NoMemory> {
+    let too_long =
+        "HTTP/1.1 413 Payload Too Large\r\nContent-Length: 0\r\nConnection: close\r\n\r\n";
+    let coded = "HTTP/1.1 501 Not Implemented\r\nContent-Length: 0\r\nConnection: close\r\n\r\n";
+    let no_body =
+        "HTTP/1.1 200 OK\r\nContent-Type: text/plain; charset=utf-8\r\nServer: Caddy\r\nContent-Length: 2\r\n\r\n";
+    for (bytes, answer, out, answered) in [
+        (GET, HI, SERVED_1, 1),
+        ("", "", SERVED_0, 0),
+        (
+            "POST /?q HTTP/1.1\r\nHost: b\r\nContent-Length: 2\r\n\r\nno",
+            HI,
+            SERVED_1,
+            1,
+        ),
+        ("HEAD / HTTP/1.1\r\nHost: a\r\n\r\n", no_body, SERVED_1, 1),
+        ("GET / HTTP/1.1\r\nHost: a\r\n", BAD, SERVED_0, 0),
+        ("GET / HTTP/1.1\r\n\r\n", BAD, SERVED_0, 0),
+        ("GET /%zz HTTP/1.1\r\nHost: a\r\n\r\n", BAD, SERVED_0, 0),
+        (
+            "GET / HTTP/1.1\r\nHost: a\r\nContent-Length: 1048577\r\n\r\n",
+            too_long,
+            SERVED_0,
+            0,
+        ),
+        (
+            "GET / HTTP/1.1\r\nHost: a\r\nTransfer-Encoding: gzip\r\n\r\n",
+            coded,
+            SERVED_0,
+            0,
+        ),
+        (
+            "GET / HTTP/1.1\r\nHost: a\r\nContent-Length: 5\r\n\r\nabc",
+            "",
+            SERVED_0,
+            0,
+        ),
+    ] {
+        check_connection(&rt, rt.alloc(), bytes, answer, out, answered)?;
+    }
+    Ok(())
+}
+
+#[test]
+fn all_requests_of_a_connection_are_answered(rt: HostRuntime) -> Result<(), NoMemory> {
+    let closed =
+        "HTTP/1.1 200 OK\r\nContent-Type: text/plain; charset=utf-8\r\nServer: Caddy\r\nContent-Length: 2\r\nConnection: close\r\n\r\nhi";
+    let closing = "GET / HTTP/1.1\r\nHost: a\r\nConnection: x, Close\r\n\r\n";
+    let old = "GET / HTTP/1.0\r\n\r\n";
+    let cut = "GET / HTTP/1.1\r\nHost: a\r\nContent-Length: 5\r\n\r\nabc";
+    for (requests, answers, out, answered) in [
+        ([GET, GET, ""], [HI, HI, ""], SERVED_2, 2),
+        ([GET, closing, GET], [HI, closed, ""], SERVED_2, 2),
+        ([old, GET, ""], [closed, "", ""], SERVED_1, 1),
+        (
+            [GET, "GET / HTTP/1.1\r\n\r\n", GET],
+            [HI, BAD, ""],
+            SERVED_1,
+            1,
+        ),
+        ([GET, GET, cut], [HI, HI, ""], SERVED_2, 2),
+        ([GET, "\r\n", ""], [HI, BAD, ""], SERVED_1, 1),
+    ] {
+        let requests = requests.concat(rt.alloc()).or(Err(NoMemory))?;
+        let answers = answers.concat(rt.alloc()).or(Err(NoMemory))?;
+        check_connection(
+            &rt,
+            rt.alloc(),
+            requests.as_str(),
+            answers.as_str(),
+            out,
+            answered,
+        )?;
+    }
+    Ok(())
+}
+
+#[test]
+fn bytes_that_become_no_head_are_refused_at_the_limit(rt: HostRuntime) -> Result<(), NoMemory> {
     let bytes = vec![in rt.alloc(); b'a'; 40_000].or(Err(NoMemory))?;
     let script = one_call(rt.alloc(), bytes.as_slice())?;
     let outcome = serve(&rt, rt.alloc(), script, NOTHING_FAILS)?;
     check(&rt, &outcome, 0, SERVED_0, 0);
-    assert_eq!(rt; put(&outcome, 0), UNKNOWN.as_bytes());
+    assert_eq!(rt; put(&outcome, 0), BAD.as_bytes());
     let lane = outcome.ended.lanes.get(0).ok_or(NoMemory)?;
     let connection = lane.past().connections.get(0).ok_or(NoMemory)?;
-    assert_eq!(rt; connection.taken.len(), 20_480);
+    assert_eq!(rt; connection.taken.len(), 16_384);
     assert!(rt; !connection.ended);
     Ok(())
 }
@@ -225,7 +303,7 @@ fn every_connection_is_served_and_one_that_came_elsewhere_is_not_answered(
     let script = several(rt.alloc())?;
     let outcome = serve(&rt, rt.alloc(), script, NOTHING_FAILS)?;
     check(&rt, &outcome, 0, SERVED_2, 2);
-    for (place, answer) in [(0, HI), (1, ""), (2, UNKNOWN), (3, HI)] {
+    for (place, answer) in [(0, HI), (1, ""), (2, BAD), (3, HI)] {
         assert_eq!(rt;
             put(&outcome, place),
             answer.as_bytes(),
@@ -374,7 +452,7 @@ fn a_configuration_may_have_so_many_bytes_and_no_more(rt: HostRuntime) -> Result
 }
 
 // The source is read twice, once for its end, and the output is written twice. The calls of the lane are: accept, a read, a
-// read that sees the end, a write, and an accept that sees the end.
+// write, a read that sees the end, and an accept that sees the end.
 #[test]
 fn each_call_of_each_device_fails_in_turn(rt: HostRuntime) -> Result<(), NoMemory> {
     let first = "serving initial configuration\n";
@@ -388,7 +466,7 @@ fn each_call_of_each_device_fails_in_turn(rt: HostRuntime) -> Result<(), NoMemor
         (NEVER, NEVER, 0, 0, SERVED_0, "no connection", 0),
         (NEVER, NEVER, 1, 0, SERVED_0, "", 0),
         (NEVER, NEVER, 2, 0, SERVED_0, "", 0),
-        (NEVER, NEVER, 3, 0, SERVED_0, "", 0),
+        (NEVER, NEVER, 3, 0, SERVED_1, HI, 1),
         (NEVER, NEVER, 4, 0, SERVED_1, HI, 1),
         (NEVER, NEVER, 5, 0, SERVED_1, HI, 1),
     ] {

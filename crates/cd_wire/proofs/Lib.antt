@@ -1,5 +1,10 @@
-pub mod FieldLemmas
+pub mod RequestLaws
 pub mod HeadLemmas
+pub mod FrontLemmas
+pub mod TakingLemmas
+pub mod NumberLemmas
+pub mod FieldLemmas
 pub mod OrderLemmas
 pub mod RenderLemmas
-pub mod RequestLaws
+pub mod MemberLemmas
+pub mod TailLaws

@@ -1,10 +1,10 @@
--- When bytes are the head of a request, and what is kept of it (RFC 9112, sections 2 to 5). The grammar is that of
--- `httparse`, which also takes a line that ends in LF alone, and empty lines before the first.
-use Rattle.std.specs.Prelude.{◌≡◌, ℕ, ◌≤◌, List, [], length, map}
+-- When an input begins with the head of a request, and what is kept of it (RFC 9112, sections 2 to 5). The grammar is that of
+-- `httparse`, which also takes a line that ends in LF alone, and empty lines before the first: these belong to the head.
+use Rattle.std.specs.Prelude.{◌≡◌, ℕ, ◌≤◌, List, ◌++◌, length, map}
 use Rattle.std.specs.Char.{to_ascii_lowercase}
-use Rattle.httparse.specs.Grammar.{RequestHead, ReadsRequest}
+use Rattle.httparse.specs.Grammar.{RequestHead, print_request, ReadsRequest}
 use Rattle.httparse.specs.Spans.{name_and_value}
-use Rattle.cd_wire.specs.declared.head.TheConstants.{MAX_HEAD_BYTES, MAX_HEAD_FIELDS}
+use Rattle.cd_wire.specs.declared.limits.TheConstants.{MAX_HEAD_BYTES, MAX_HEAD_FIELDS}
 use Rattle.cd_wire.specs.declared.fields.Field.{Field}
 use Rattle.cd_wire.specs.declared.head.Head.{Head}
 
@@ -21,10 +21,18 @@ head_of lines = record {
   fields = map field_of (map name_and_value lines.fields);
 }
 
--- the bytes are the lines of this head, within the limits, and nothing stands behind them
-pub record IsHead (bytes : List ℕ) (head : Head) : Type 0 where
+-- the input begins with the lines of this head, within the limits, and then comes this rest
+pub record BeginsHead (input : List ℕ) (head : Head) (rest : List ℕ) : Type 0 where
   pub lines : RequestHead
-  pub reads : ReadsRequest bytes lines []
-  pub short : length bytes ≤ MAX_HEAD_BYTES
+  pub reads : ReadsRequest input lines rest
+  pub short : length (print_request lines) ≤ MAX_HEAD_BYTES
   pub few : length lines.fields ≤ MAX_HEAD_FIELDS
   pub is : head ≡ head_of lines
+
+-- the input begins with no head
+abbrev pub HasNoHead : List ℕ → Type 0
+HasNoHead input = (head : Head) (rest : List ℕ) → ¬ (BeginsHead input head rest)
+
+-- no input that begins so begins with a head
+abbrev pub NeverHasHead : List ℕ → Type 0
+NeverHasHead input = (more : List ℕ) → HasNoHead (input ++ more)

@@ -1,4 +1,9 @@
 pub mod Fields
 pub mod Heads
-pub mod OneRequest
+pub mod Targets
+pub mod Framing
+pub mod Bodies
+pub mod Requests
+pub mod Taking
+pub mod Faults
 pub mod Render

@@ -1,18 +1,13 @@
-ghost use Rattle.std.specs.Prelude.{◌≡◌, map, IfOk, IfSome, IfNone};
+ghost use Rattle.std.specs.Prelude.{◌≡◌, ◌≤◌, length, map, take, IfOk};
 ghost use Rattle.httparse.specs.Borrowed.{header_parts};
-ghost use Rattle.cd_wire.specs.Heads.{IsHead, field_of};
-ghost use Rattle.cd_wire.specs.declared.head.Head.{Head};
+ghost use Rattle.cd_wire.specs.Heads.{field_of};
+ghost use Rattle.cd_wire.specs.Taking.{IsHeadRead, IsFrontRead};
 
 use crate::Field;
+use crate::limits::{MAX_HEAD_BYTES, MAX_HEAD_FIELDS};
 use cd_text::{List, NoMemory, Octets, Text};
 use httparse::{EMPTY_HEADER, Header, Status};
 use std::alloc::Global;
-
-/// The most bytes of a head.
-pub const MAX_HEAD_BYTES: usize = 16_384;
-
-/// The most fields of a head.
-pub const MAX_HEAD_FIELDS: usize = 64;
 
 /// What is kept of the head of a request.
 #[derive(Drop)]
@@ -21,6 +16,14 @@ pub(crate) struct Head {
     pub target: Octets,
     pub minor: u8,
     pub fields: List<Field>,
+}
+
+/// What stands at the front of an input: a head and its length, none yet, or none whatever follows.
+#[derive(Drop)]
+pub(crate) enum HeadRead {
+    Whole(Head, usize),
+    Partial,
+    Hopeless,
 }
 
 // A field of its own, with its name in lower case.
@@ -42,21 +45,17 @@ fn kept_fields(alloc: Global, headers: &[Header]) -> Result<List<Field>, NoMemor
     Ok(fields)
 }
 
-/// The head that the bytes are, where they are one head within the limits and nothing behind it.
-pub(crate) fn read_head(alloc: Global, bytes: &[u8]) -> Result<Option<Head>, NoMemory>
-    ensures found { IfOk result (λ read. IfSome read (IsHead bytes.now)) }
-    ensures none { IfOk result (λ read. IfNone read
-        ((head : Head) → ¬ (IsHead bytes.now head))) }
+// The head at the front of bytes that are no more than a head may have.
+fn read_head(alloc: Global, bytes: &[u8]) -> Result<HeadRead, NoMemory>
+    requires { length bytes.now ≤ MAX_HEAD_BYTES }
+    ensures { IfOk result (IsHeadRead bytes.now) }
 {
-    if bytes.len() > MAX_HEAD_BYTES {
-        return Ok(None);
-    }
     let mut headers = [EMPTY_HEADER; MAX_HEAD_FIELDS];
     let mut request = httparse::Request::new(&mut headers);
     match request.parse(bytes) {
         Ok(Status::Complete(len)) => {
-            if len != bytes.len() || request.headers.len() > MAX_HEAD_FIELDS {
-                return Ok(None);
+            if request.headers.len() > MAX_HEAD_FIELDS {
+                return Ok(HeadRead::Hopeless);
             }
             let (Some(method), Some(target), Some(minor)) = (
                 request.method,
@@ -65,14 +64,47 @@ pub(crate) fn read_head(alloc: Global, bytes: &[u8]) -> Result<Option<Head>, NoM
             ) else {
                 unreachable!()
             };
-            Ok(Some(Head {
+            let head = Head {
                 method: Text::from_str(alloc, method)?,
                 target: Octets::from_slice(alloc, target.as_bytes())?,
                 minor,
                 fields: kept_fields(alloc, request.headers)?,
-            }))
+            };
+            Ok(HeadRead::Whole(head, len))
         }
-        Ok(Status::Partial) => Ok(None),
-        Err(_) => Ok(None),
+        Ok(Status::Partial) => Ok(HeadRead::Partial),
+        Err(_) => Ok(HeadRead::Hopeless),
+    }
+}
+
+// So many bytes of the text at most.
+fn front_of(text: &[u8], most: usize) -> &[u8]
+    ensures value { result.now ≡ take most text.now }
+    ensures short { length result.now ≤ most }
+    ensures within { length result.now ≤ length text.now }
+{
+    if text.len() <= most {
+        text
+    } else {
+        &text[..most]
+    }
+}
+
+/// The head at the front of an input.
+pub(crate) fn read_front(alloc: Global, bytes: &[u8]) -> Result<HeadRead, NoMemory>
+    ensures { IfOk result (IsFrontRead bytes.now) }
+{
+    let front = front_of(bytes, MAX_HEAD_BYTES);
+    let read = read_head(alloc, front)?;
+    match read {
+        HeadRead::Whole(head, len) => Ok(HeadRead::Whole(head, len)),
+        HeadRead::Partial => {
+            if bytes.len() >= MAX_HEAD_BYTES {
+                Ok(HeadRead::Hopeless)
+            } else {
+                Ok(HeadRead::Partial)
+            }
+        }
+        HeadRead::Hopeless => Ok(HeadRead::Hopeless),
     }
 }

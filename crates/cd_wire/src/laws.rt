@@ -1,23 +1,50 @@
 //! What the definitions mean beyond what a call says, each as a call that does nothing.
-ghost use Rattle.std.specs.Prelude.{◌≡◌, ℕ, List, [], filter, IsPermutation};
+ghost use Rattle.std.specs.Prelude.{◌≡◌, ℕ, Bool, true, false, List, [], ◌∷◌, ◌++◌, filter, IsPermutation};
 ghost use Rattle.std.specs.List.Sorted.{IsSortedByKey};
 ghost use Rattle.std.specs.Ordering.{nat_cmp};
 ghost use Rattle.std.specs.Cmp.Lexicographic.{slice_cmp};
 ghost use Rattle.cd_wire.specs.Fields.{is_named};
-ghost use Rattle.cd_wire.specs.OneRequest.{IsRequest};
 ghost use Rattle.cd_wire.specs.Render.{by_name};
+ghost use Rattle.cd_wire.specs.Requests.{BeginsRequest, Splits, HasNoRequest, HasRequests, Tail, HasTail, EndsInBody, clean, cut, refused};
+ghost use Rattle.cd_wire.specs.declared.fault.WireFault.{WireFault};
 ghost use Rattle.cd_wire.specs.declared.fields.Field.{Field};
 ghost use Rattle.cd_wire.specs.declared.request.Request.{Request};
 
-/// Bytes are at most one plain request.
-pub fn one_request_is_unique()
-    ensures { (bytes : List ℕ) (first second : Request)
-        → IsRequest bytes first → IsRequest bytes second → first ≡ second }
+/// An input has one list of requests at most, and one reason why no further one follows.
+pub fn requests_are_unique()
+    ensures requests { (input : List ℕ) (ended : Bool) (requests others : List Request) (tail end : Tail)
+        → HasRequests input ended requests tail → HasRequests input ended others end
+        → requests ≡ others }
+    ensures tail { (input : List ℕ) (ended : Bool) (requests others : List Request) (tail end : Tail)
+        → HasRequests input ended requests tail → HasRequests input ended others end
+        → tail ≡ end }
 {}
 
-/// No bytes are no request.
+/// The requests of an input stay when more bytes come, and when it ends: those of its beginning are the beginning of its own.
+pub fn requests_stay()
+    ensures { (input more : List ℕ) (ended : Bool) (requests others : List Request) (tail end : Tail)
+        → HasRequests input false requests tail → HasRequests (input ++ more) ended others end
+        → (later : List Request) × (others ≡ requests ++ later) }
+{}
+
+/// What a caller of `Intake` keeps in mind over its calls: all that it pushed is the requests that were taken, and then the
+/// bytes that are left. A push and a request that is taken keep it, and at the end it tells the requests of the input.
+pub fn splits_stay()
+    ensures push { (pushed : List ℕ) (requests : List Request) (left piece : List ℕ)
+        → Splits pushed requests left → Splits (pushed ++ piece) requests (left ++ piece) }
+    ensures taken { (pushed : List ℕ) (requests : List Request) (request : Request) (left rest : List ℕ)
+        → Splits pushed requests left → BeginsRequest left request rest
+        → Splits pushed (requests ++ request ∷ []) rest }
+    ensures end { (pushed : List ℕ) (requests : List Request)
+        → Splits pushed requests [] → HasRequests pushed true requests clean }
+    ensures other { (pushed : List ℕ) (requests : List Request) (left : List ℕ) (ended : Bool) (tail : Tail)
+        → Splits pushed requests left → HasNoRequest left → HasTail left ended tail
+        → HasRequests pushed ended requests tail }
+{}
+
+/// No bytes begin with a request.
 pub fn no_bytes_are_no_request()
-    ensures { (request : Request) → ¬ (IsRequest [] request) }
+    ensures { HasNoRequest [] }
 {}
 
 /// The order in which `render` writes fields: none is lost or added, their names rise, and the fields of one name stay in

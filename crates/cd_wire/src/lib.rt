@@ -1,8 +1,9 @@
-//! The bytes of HTTP/1.1: a request from what a connection sent, and the bytes of what is answered.
+//! The bytes of HTTP/1.1: requests from what a connection sends, and the bytes of what is answered.
 //!
-//! `one_request` reads bytes that are one plain request: a GET in HTTP/1.1 without a body, whose head is all that the bytes
-//! are. It answers `Some` exactly where they are that, by the definition in specs/OneRequest.antt, where the grammar of a head
-//! is `httparse`'s. `one_request_is_unique` and `no_bytes_are_no_request` are its laws.
+//! `Intake` takes the bytes of a connection in any pieces and gives its requests, one after another, by the definition in
+//! specs/Requests.antt: the requests of an input are a relation over all its bytes, where the grammar of a head is
+//! `httparse`'s. `requests_are_unique`, `requests_stay` and `splits_stay` are its laws. Bodies are read by their length; a
+//! coding is not known yet.
 //!
 //! `render` gives exactly the bytes that specs/Render.antt defines for an answer. `fields_go_by_name` says of the order of
 //! fields there what a reader wants to know of it. `refusal` gives the fixed answers, which take no memory.
@@ -12,22 +13,30 @@
 #![tactic(auto)]
 
 mod answer;
+mod asking;
+mod fault;
 mod fields;
+mod framing;
 mod head;
+mod intake;
+mod judging;
 mod laws;
-mod one;
+mod limits;
 mod refusals;
 mod rendering;
 mod request;
+mod taking;
+mod targets;
+mod texts;
 
 pub use answer::Answer;
+pub use fault::WireFault;
 pub use fields::Field;
-pub use head::{MAX_HEAD_BYTES, MAX_HEAD_FIELDS};
-pub use laws::{fields_go_by_name, no_bytes_are_no_request, one_request_is_unique};
-pub use one::one_request;
+pub use intake::{Intake, Next};
+pub use laws::{
+    fields_go_by_name, no_bytes_are_no_request, requests_are_unique, requests_stay, splits_stay,
+};
+pub use limits::{MAX_BODY_BYTES, MAX_CHUNK_LINE_BYTES, MAX_HEAD_BYTES, MAX_HEAD_FIELDS};
 pub use refusals::refusal;
 pub use rendering::render;
 pub use request::Request;
-
-#[cfg(test)]
-mod tests;

@@ -1,0 +1,126 @@
+//! What a head says of its request: why it is refused, or how its body is delimited.
+ghost use Rattle.std.specs.Prelude.{◌≡◌, ◌∷◌, [], ◌+◌, min, true, codes, List, ℕ};
+ghost use Rattle.std.specs.List.{list_all};
+ghost use Rattle.std.specs.Char.{is_ascii_graphic, is_ascii_digit};
+ghost use Rattle.std.specs.Str.Parse.{digits_value};
+ghost use Rattle.cd_wire.specs.Fields.{values};
+ghost use Rattle.cd_wire.specs.Framing.{is_host, sized, framing_by_length, framing_by, judge};
+ghost use Rattle.cd_wire.specs.declared.limits.TheConstants.{MAX_BODY_BYTES};
+
+use crate::fault::WireFault;
+use crate::fields::{Field, Found, find_field};
+use crate::framing::Framing;
+use crate::head::Head;
+use crate::limits::MAX_BODY_BYTES;
+use crate::targets::is_target;
+
+fn all_visible(bytes: &[u8]) -> bool
+    ensures { result ≡ list_all is_ascii_graphic bytes.now }
+{
+    bytes.iter().all(|byte| byte.is_ascii_graphic())
+}
+
+// Whether there are as many Host fields as the version wants.
+fn is_host(minor: u8, fields: &[Field]) -> bool
+    ensures { result ≡ is_host minor (values (codes "host") fields.now) }
+{
+    match find_field(fields, "host") {
+        Found::Nothing => minor == 0,
+        Found::One(value) => all_visible(value),
+        Found::Several => false,
+    }
+}
+
+fn all_digits(value: &[u8]) -> bool
+    ensures { result ≡ list_all is_ascii_digit value.now }
+{
+    value.iter().all(|byte| byte.is_ascii_digit())
+}
+
+// The number that the digits write, or the least that is too great for a body.
+fn number_of(digits: &[u8]) -> usize
+    requires { list_all is_ascii_digit digits.now ≡ true }
+    ensures { result ≡ min (digits_value 10 digits.now) (MAX_BODY_BYTES + 1) }
+{
+    let mut number: usize = 0;
+    for digit in digits {
+        number = (number * 10 + (*digit - b'0') as usize).min(MAX_BODY_BYTES + 1);
+    }
+    number
+}
+
+fn sized(size: usize) -> Result<Framing, WireFault>
+    ensures { result ≡ sized size }
+{
+    if size <= MAX_BODY_BYTES {
+        Ok(Framing::Length(size))
+    } else {
+        Err(WireFault::BodyTooLong)
+    }
+}
+
+// By one Content-Length.
+fn framing_by_value(value: &[u8]) -> Result<Framing, WireFault>
+    ensures { result ≡ framing_by_length (value.now ∷ []) }
+{
+    if !value.is_empty() && all_digits(value) {
+        sized(number_of(value))
+    } else {
+        Err(WireFault::BadLength)
+    }
+}
+
+// By Content-Length alone.
+fn framing_by_length(fields: &[Field]) -> Result<Framing, WireFault>
+    ensures { result ≡ framing_by_length (values (codes "content-length") fields.now) }
+{
+    match find_field(fields, "content-length") {
+        Found::Nothing => Ok(Framing::Length(0)),
+        Found::One(value) => framing_by_value(value),
+        Found::Several => Err(WireFault::BadLength),
+    }
+}
+
+// Where there is a Transfer-Encoding.
+fn framing_by_coding(minor: u8, fields: &[Field]) -> Result<Framing, WireFault>
+    ensures { (coding : List ℕ) (codings : List (List ℕ))
+        → result ≡ framing_by minor (coding ∷ codings) (values (codes "content-length") fields.now) }
+{
+    match find_field(fields, "content-length") {
+        Found::Nothing => {
+            if minor == 0 {
+                Err(WireFault::BadLength)
+            } else {
+                Err(WireFault::UnknownCoding)
+            }
+        }
+        Found::One(_) => Err(WireFault::BadLength),
+        Found::Several => Err(WireFault::BadLength),
+    }
+}
+
+fn framing_by(minor: u8, fields: &[Field]) -> Result<Framing, WireFault>
+    ensures { result ≡ framing_by minor (values (codes "transfer-encoding") fields.now)
+        (values (codes "content-length") fields.now) }
+{
+    match find_field(fields, "transfer-encoding") {
+        Found::Nothing => framing_by_length(fields),
+        Found::One(_) => framing_by_coding(minor, fields),
+        Found::Several => framing_by_coding(minor, fields),
+    }
+}
+
+/// The first fault of the head, or how its body is delimited.
+#[tactic(auto, unfolding(crate::specs::Framing::judge))]
+pub(crate) fn judge(head: &Head) -> Result<Framing, WireFault>
+    ensures { result ≡ judge head.now }
+{
+    let fields = head.fields.as_slice();
+    if !is_target(&head.method, head.target.as_slice()) {
+        Err(WireFault::BadTarget)
+    } else if !is_host(head.minor, fields) {
+        Err(WireFault::BadHost)
+    } else {
+        framing_by(head.minor, fields)
+    }
+}
