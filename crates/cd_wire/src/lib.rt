@@ -19,6 +19,8 @@ mod fields;
 mod framing;
 mod head;
 mod intake;
+#[cfg(test)]
+mod intake_tests;
 mod judging;
 mod laws;
 mod limits;
@@ -27,6 +29,8 @@ mod rendering;
 mod request;
 mod taking;
 mod targets;
+#[cfg(test)]
+mod tests;
 mod texts;
 
 pub use answer::Answer;
