@@ -1,0 +1,5 @@
+pub mod KeyDigests
+pub mod Numbers
+pub mod Giving
+pub mod Named
+pub mod Shown

@@ -1,0 +1,3 @@
+pub mod Pairs
+pub mod Digests
+pub mod Rooms
