@@ -8,3 +8,5 @@ pub mod OrderLemmas
 pub mod RenderLemmas
 pub mod MemberLemmas
 pub mod TailLaws
+pub mod ScanLemmas
+pub mod KeptLemmas

@@ -18,8 +18,10 @@ use Rattle.cd_wire.specs.Framing.{judge, request_of, is_host, sized, is_length, 
 use Rattle.cd_wire.specs.Targets.{is_target}
 use Rattle.cd_wire.specs.Bodies.{BeginsBody, RefusesBody}
 use Rattle.cd_wire.specs.Requests.{BeginsRequest, HasNoRequest, RefusesAfterHead, EndsInBody}
-use Rattle.cd_wire.specs.Taking.{IsTaken}
-use Rattle.cd_wire.specs.declared.taking.Taken.TheVariants as taken
+use Rattle.cd_wire.specs.declared.taking.Front.{Front}
+use Rattle.cd_wire.specs.Scanning.{HasFront}
+use Rattle.cd_wire.specs.Taking.{IsNext}
+use Rattle.cd_wire.specs.declared.intake.Next.TheVariants as next
 use Rattle.cd_wire.proofs.RequestLaws.{BeginsHead-unique}
 
 -- no head, no request
@@ -154,9 +156,19 @@ never_chunked head judged =
 
 -- an input that ends in a body, where it ended or not
 pub cut_or_more_is : (input : List ℕ) (ended : Bool) → HasNoRequest input → EndsInBody input
-    → IsTaken input ended (if ended then taken.Cut else taken.More)
-cut_or_more_is input true none ends = (refl, none, ends)
-cut_or_more_is input false none ends = (refl, (none, inr ends))
+    → IsNext input ended input (if ended then next.Cut else next.More)
+cut_or_more_is input true none ends = (refl, refl, none, ends)
+cut_or_more_is input false none ends = (refl, refl, (none, inr ends))
+
+-- a head whose body has not come whole
+pub not_whole : (input new : List ℕ) (ended : Bool) (front : Front) → HasFront input front → length input < front.len + front.size → new ≡ input
+    → IsNext input ended new (if ended then next.Cut else next.More)
+not_whole input new ended front f few same =
+    let rest : List ℕ = drop front.len input in
+    let short : length rest < front.size = omega (arith, length-drop front.len input, f.within) in
+    subst (λ (n : List ℕ). IsNext input ended n (if ended then next.Cut else next.More)) (sym same)
+    (cut_or_more_is input ended (no_body_no_request input front.head rest front.size f.begins f.judged short)
+    (ends_in_body input front.head rest (Length front.size) f.begins f.judged (λ fault refuses. refuses)))
 
 -- a head whose body has come whole
 pub takes_sized : (input : List ℕ) (head : Head) (len size : ℕ) (request : Request) → len ≤ length input

@@ -4,6 +4,7 @@ pub mod Targets
 pub mod Framing
 pub mod Bodies
 pub mod Requests
+pub mod Scanning
 pub mod Taking
 pub mod Faults
 pub mod Render

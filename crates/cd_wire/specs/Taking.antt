@@ -3,8 +3,9 @@ use Rattle.std.specs.Prelude.{◌≡◌, ℕ, ◌≤◌, ◌<◌, ◌⊎◌, Boo
 use Rattle.cd_wire.specs.declared.limits.TheConstants.{MAX_HEAD_BYTES}
 use Rattle.cd_wire.specs.declared.head.HeadRead.{HeadRead}
 use Rattle.cd_wire.specs.declared.head.HeadRead.TheVariants as head
-use Rattle.cd_wire.specs.declared.taking.Taken.{Taken}
-use Rattle.cd_wire.specs.declared.taking.Taken.TheVariants as taken
+use Rattle.cd_wire.specs.declared.taking.Begun.{Begun}
+use Rattle.cd_wire.specs.declared.taking.Begun.TheVariants as begun
+use Rattle.cd_wire.specs.Scanning.{HasFront}
 use Rattle.cd_wire.specs.declared.intake.Next.{Next}
 use Rattle.cd_wire.specs.declared.intake.Next.TheVariants as next
 use Rattle.cd_wire.specs.Heads.{BeginsHead, HasNoHead, NeverHasHead}
@@ -27,13 +28,12 @@ IsFrontRead input head.Hopeless = NeverHasHead input
 abbrev pub WantsMore : List ℕ → Type 0
 WantsMore input = HasNoRequest input × (((length input < MAX_HEAD_BYTES) × HasNoHead input) ⊎ EndsInBody input)
 
--- the request at the front and its length, or why there is none
-abbrev pub IsTaken : List ℕ → Bool → Taken → Type 0
-IsTaken input ended (taken.Whole request len) = (len ≤ length input) × BeginsRequest input request (drop len input)
-IsTaken input ended taken.More = IsFalse ended × WantsMore input
-IsTaken input ended taken.End = IsTrue ended × (input ≡ [])
-IsTaken input ended taken.Cut = IsTrue ended × HasNoRequest input × EndsInBody input
-IsTaken input ended (taken.Refused fault) = HasNoRequest input × HasTail input ended (refused fault)
+-- the input begins with a head that is not refused; or there is none, for the reason given
+abbrev pub IsBegun : List ℕ → Bool → Begun → Type 0
+IsBegun input ended (begun.Front front) = HasFront input front
+IsBegun input ended begun.More = IsFalse ended × WantsMore input
+IsBegun input ended begun.End = IsTrue ended × (input ≡ [])
+IsBegun input ended (begun.Refused fault) = HasNoRequest input × HasTail input ended (refused fault)
 
 -- what `next` finds in the bytes that are left, and what it leaves of them: all, but for a request, which it takes off
 abbrev pub IsNext : List ℕ → Bool → List ℕ → Next → Type 0

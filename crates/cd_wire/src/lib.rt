@@ -27,6 +27,7 @@ mod limits;
 mod refusals;
 mod rendering;
 mod request;
+mod scanning;
 mod taking;
 mod targets;
 #[cfg(test)]

@@ -1,99 +1,132 @@
-//! The request at the front of an input.
-ghost use Rattle.std.specs.Prelude.{◌≡◌, ◌≤◌, [], length, drop, IfOk, Ok, if◌then◌else◌};
-ghost use Rattle.cd_wire.specs.declared.taking.Taken.TheVariants as taken;
-ghost use Rattle.cd_wire.specs.declared.framing.Framing.TheVariants.{Length};
+//! The request at the front of an input: its head, once that has come, and then its body.
+ghost use Rattle.std.specs.Prelude.{◌≡◌, ◌≤◌, ◌<◌, ◌+◌, [], true, false, length, drop, IfOk, IfSome};
 ghost use Rattle.cd_wire.specs.Heads.{BeginsHead};
-ghost use Rattle.cd_wire.specs.Framing.{judge};
-ghost use Rattle.cd_wire.specs.Taking.{IsTaken};
+ghost use Rattle.cd_wire.specs.Requests.{BeginsRequest};
+ghost use Rattle.cd_wire.specs.Scanning.{scan, is_over, HasFront};
+ghost use Rattle.cd_wire.specs.Taking.{IsBegun};
+ghost use Rattle.cd_wire.specs.declared.scanning.Line.TheVariants as place;
 
 use crate::asking::request_of;
 use crate::fault::WireFault;
 use crate::framing::Framing;
 use crate::head::{Head, HeadRead, read_front};
 use crate::judging::judge;
+use crate::limits::MAX_HEAD_BYTES;
 use crate::request::Request;
 use crate::texts::rest_from;
 use cd_text::{NoMemory, Octets};
 use std::alloc::Global;
 
-/// What stands at the front of an input: a request and its length, or why there is none.
+/// The head at the front of an input, which is not refused: how many bytes it has, and how many its body has.
 #[derive(Drop)]
-pub(crate) enum Taken {
-    Whole(Request, usize),
+pub(crate) struct Front {
+    pub head: Head,
+    pub len: usize,
+    pub size: usize,
+}
+
+/// What an input begins with: a head that is not refused, or why there is none.
+#[derive(Drop)]
+pub(crate) enum Begun {
+    Front(Front),
     More,
     End,
-    Cut,
     Refused(WireFault),
 }
 
-// An input that ends in a body.
-fn cut_or_more(ended: bool) -> Taken
-    ensures { result ≡ (if ended then taken.Cut else taken.More) }
-{
-    if ended { Taken::Cut } else { Taken::More }
-}
-
-// The request of this head, whose body has so many bytes.
-fn take_sized(
-    alloc: Global,
-    bytes: &[u8],
-    ended: bool,
-    head: Head,
-    len: usize,
-    size: usize,
-) -> Result<Taken, NoMemory>
+// A head that was read, or its fault.
+fn judged(bytes: &[u8], ended: bool, head: Head, len: usize) -> Begun
     requires within { len ≤ length bytes.now }
     requires begins { BeginsHead bytes.now head (drop len bytes.now) }
-    requires judged { judge head ≡ Ok (Length size) }
-    ensures { IfOk result (IsTaken bytes.now ended) }
-{
-    let rest = rest_from(bytes, len);
-    if rest.len() < size {
-        return Ok(cut_or_more(ended));
-    }
-    let body = Octets::from_slice(alloc, &rest[..size])?;
-    let request = request_of(alloc, head, body)?;
-    Ok(Taken::Whole(request, len + size))
-}
-
-// The request of this head, or the head's fault.
-fn take_after_head(
-    alloc: Global,
-    bytes: &[u8],
-    ended: bool,
-    head: Head,
-    len: usize,
-) -> Result<Taken, NoMemory>
-    requires within { len ≤ length bytes.now }
-    requires begins { BeginsHead bytes.now head (drop len bytes.now) }
-    ensures { IfOk result (IsTaken bytes.now ended) }
+    ensures { IsBegun bytes.now ended result }
 {
     match judge(&head) {
-        Err(fault) => Ok(Taken::Refused(fault)),
-        Ok(Framing::Length(size)) => take_sized(alloc, bytes, ended, head, len, size),
+        Err(fault) => Begun::Refused(fault),
+        Ok(Framing::Length(size)) => Begun::Front(Front { head, len, size }),
         Ok(Framing::Chunked) => unreachable!(),
     }
 }
 
-// What no bytes are.
-fn no_input(ended: bool) -> Taken
-    ensures { IsTaken [] ended result }
+// Reads the head at the front of an input that has some bytes.
+fn parse_front(alloc: Global, bytes: &[u8], ended: bool) -> Result<Begun, NoMemory>
+    requires { 0 < length bytes.now }
+    ensures { IfOk result (IsBegun bytes.now ended) }
 {
-    if ended { Taken::End } else { Taken::More }
+    let read = read_front(alloc, bytes)?;
+    match read {
+        HeadRead::Whole(head, len) => Ok(judged(bytes, ended, head, len)),
+        HeadRead::Partial if ended => Ok(Begun::Refused(WireFault::BadHead)),
+        HeadRead::Partial => Ok(Begun::More),
+        HeadRead::Hopeless => Ok(Begun::Refused(WireFault::BadHead)),
+    }
 }
 
-/// The request at the front of an input, of which more may come unless it has ended.
-pub(crate) fn take_request(alloc: Global, bytes: &[u8], ended: bool) -> Result<Taken, NoMemory>
-    ensures { IfOk result (IsTaken bytes.now ended) }
+// An input that has some bytes, in which no head ends.
+fn without_head(bytes: &[u8], ended: bool) -> Begun
+    requires some { 0 < length bytes.now }
+    requires none { is_over (scan place.Blank bytes.now) ≡ false }
+    ensures { IsBegun bytes.now ended result }
+{
+    if ended {
+        return Begun::Refused(WireFault::BadHead);
+    }
+    if bytes.len() >= MAX_HEAD_BYTES {
+        return Begun::Refused(WireFault::BadHead);
+    }
+    Begun::More
+}
+
+// An input without bytes.
+fn no_input(ended: bool) -> Begun
+    ensures { IsBegun [] ended result }
+{
+    if ended { Begun::End } else { Begun::More }
+}
+
+/// What an input begins with, where no head is known yet. `over` says whether a head may have ended in it, and `due` that it
+/// is to be parsed even if not, to see whether it never becomes a head.
+pub(crate) fn find_front(
+    alloc: Global,
+    bytes: &[u8],
+    ended: bool,
+    over: bool,
+    due: bool,
+) -> Result<Begun, NoMemory>
+    requires { over ≡ false → is_over (scan place.Blank bytes.now) ≡ false }
+    ensures { IfOk result (IsBegun bytes.now ended) }
 {
     if bytes.is_empty() {
         return Ok(no_input(ended));
     }
-    let read = read_front(alloc, bytes)?;
-    match read {
-        HeadRead::Whole(head, len) => take_after_head(alloc, bytes, ended, head, len),
-        HeadRead::Partial if ended => Ok(Taken::Refused(WireFault::BadHead)),
-        HeadRead::Partial => Ok(Taken::More),
-        HeadRead::Hopeless => Ok(Taken::Refused(WireFault::BadHead)),
+    if over || due {
+        return parse_front(alloc, bytes, ended);
     }
+    Ok(without_head(bytes, ended))
+}
+
+/// Whether the whole body has come.
+pub(crate) fn is_whole(bytes: &[u8], front: &Front) -> bool
+    requires { front.now.len ≤ length bytes.now }
+    ensures value { result ≡ true → front.now.len + front.now.size ≤ length bytes.now }
+    ensures other { result ≡ false → length bytes.now < front.now.len + front.now.size }
+{
+    bytes.len() - front.len >= front.size
+}
+
+/// The request of a head whose body has come, and how many bytes both have.
+pub(crate) fn take_front(
+    alloc: Global,
+    bytes: &[u8],
+    front: Front,
+) -> Result<(Request, usize), NoMemory>
+    requires has { HasFront bytes.now front }
+    requires whole { front.len + front.size ≤ length bytes.now }
+    ensures len { IfOk result (λ taken. taken.1 ≤ length bytes.now) }
+    ensures begins { IfOk result (λ taken. BeginsRequest bytes.now taken.0 (drop taken.1 bytes.now)) }
+{
+    let Front { head, len, size } = front;
+    let rest = rest_from(bytes, len);
+    let body = Octets::from_slice(alloc, &rest[..size])?;
+    let request = request_of(alloc, head, body)?;
+    Ok((request, len + size))
 }

@@ -1,6 +1,6 @@
 use Rattle.std.proofs.Common.{drop, sym, ap, ◌∙◌, inl, Ok}
 use Rattle.cd_wire.proofs.TakingLemmas.{refused_no_request, refused_after_head, never_chunked}
-use Rattle.cd_wire.proofs.taking.take_after_head.Goals as goal
+use Rattle.cd_wire.proofs.taking.judged.Goals as goal
 
 pub returns-in-Err : goal.returns-in-Err
 returns-in-Err c =

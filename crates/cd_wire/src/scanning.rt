@@ -1,0 +1,95 @@
+//! Where heads end: a head is parsed once its last line has come, and not at each byte.
+ghost use Rattle.std.specs.Prelude.{◌≡◌, ◌≤◌, ◌⊎◌, true, length, take};
+ghost use Rattle.cd_wire.specs.declared.scanning.Line.TheVariants as place;
+ghost use Rattle.cd_wire.specs.Scanning.{step, scan, is_over};
+
+/// Where the bytes of a head stand.
+#[derive(Clone, Copy, Debug, PartialEq, Eq, Drop)]
+pub(crate) enum Line {
+    /// Nothing came but empty lines.
+    Blank,
+    /// Inside a line.
+    Inside,
+    /// Behind the LF of a line.
+    Ended,
+    /// Behind the LF of a line and a CR.
+    EndedCr,
+    /// An empty line came behind another one.
+    Over,
+}
+
+/// So many bytes were looked at, and there they stand.
+#[derive(Clone, Copy, Debug)]
+pub(crate) struct Scanned {
+    pub count: usize,
+    pub line: Line,
+}
+
+pub(crate) fn is_over(line: Line) -> bool
+    ensures { result ≡ is_over line }
+{
+    match line {
+        Line::Over => true,
+        Line::Blank | Line::Inside | Line::Ended | Line::EndedCr => false,
+    }
+}
+
+// Where they stand after one more byte.
+fn step(line: Line, byte: u8) -> Line
+    ensures { result ≡ step line byte }
+{
+    match line {
+        Line::Blank => {
+            if byte == b'\n' || byte == b'\r' {
+                Line::Blank
+            } else {
+                Line::Inside
+            }
+        }
+        Line::Inside => {
+            if byte == b'\n' {
+                Line::Ended
+            } else {
+                Line::Inside
+            }
+        }
+        Line::Ended => {
+            if byte == b'\n' {
+                Line::Over
+            } else if byte == b'\r' {
+                Line::EndedCr
+            } else {
+                Line::Inside
+            }
+        }
+        Line::EndedCr => {
+            if byte == b'\n' {
+                Line::Over
+            } else {
+                Line::Inside
+            }
+        }
+        Line::Over => Line::Over,
+    }
+}
+
+/// Looks at more bytes, up to the end of the head or of the bytes.
+#[tactic(auto, using(crate::proofs::ScanLemmas::scan_more))]
+pub(crate) fn scan_on(bytes: &[u8], from: Scanned) -> Scanned
+    requires within { from.count ≤ length bytes.now }
+    requires stands { from.line ≡ scan place.Blank (take from.count bytes.now) }
+    ensures within { result.count ≤ length bytes.now }
+    ensures stands { result.line ≡ scan place.Blank (take result.count bytes.now) }
+    ensures all { (is_over result.line ≡ true) ⊎ (result.count ≡ length bytes.now) }
+{
+    let mut count = from.count;
+    let mut line = from.line;
+    while count < bytes.len() {
+        if is_over(line) {
+            return Scanned { count, line };
+        }
+        line = step(line, bytes[count]);
+        count += 1;
+    }
+    Scanned { count, line }
+}
