@@ -1,5 +1,5 @@
 -- What the walk meets in a value of each kind, and in an object's own `@id`.
-use Rattle.std.proofs.Common.{◌≡◌, ℕ, List, [], ◌∷◌, ◌++◌, Bool, true, false, Option, Some, None, map, refl, sym, ap, ◌∙◌, rules}
+use Rattle.std.proofs.Common.{◌≡◌, List, [], ◌∷◌, ◌++◌, Bool, true, false, Option, Some, None, map, refl, sym, ap, ◌∙◌, rules}
 use Rattle.std.specs.Prelude.{if◌then◌else◌}
 use Rattle.cd_tree.specs.Fields.{get, is_null, unless_null, null_layer}
 use Rattle.cd_tree.specs.Tree.{number_text}

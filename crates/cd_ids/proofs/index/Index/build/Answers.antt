@@ -1,4 +1,4 @@
-use Rattle.std.proofs.Common.{sym, ap, ◌∙◌}
+use Rattle.std.proofs.Common.{◌∙◌}
 use Rattle.std.proofs.lemmas.Result.{err_from_is_err_and}
 use Rattle.cd_ids.proofs.Noted.{index_started}
 use Rattle.cd_ids.proofs.index.Index.build.Goals as goal
