@@ -16,7 +16,7 @@ use std::cmp::Ordering;
 /// How many levels a text may nest that is JSON by the grammar of serde_json.
 const MAX_LEVELS: usize = 127;
 
-/// How many of the keys read before it a key may pass. More would take time that grows with the square of their number.
+/// A key that goes in front of so many others is left open. Else the time could grow with the square of their number.
 const NEAR: usize = 32;
 
 /// The tree of a text as most are: it has one, no key stands twice in an object, and each key goes near the end of those before
