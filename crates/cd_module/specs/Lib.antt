@@ -1,0 +1,5 @@
+pub mod Faults
+pub mod Words
+pub mod Ids
+pub mod Settings
+pub mod Recursion

@@ -1,0 +1,31 @@
+//! Reading the settings of modules out of a tree: one vocabulary for every reader, and the first fault that is met.
+//!
+//! A reader takes a value of a tree and the path that leads to it, and gives settings or the first fault there. It is written
+//! twice in the same shape: as a definition, by the words of specs/Settings.antt, and as code, by the functions here. A
+//! contract says that the code gives what the definition gives, unless memory runs out.
+//!
+//! The order of faults is that of the words: an object's unknown members come before all else, then its members in the order
+//! in which they are read, each wholly; a list goes element by element, an object by name member by member. Null is absent.
+//! A reader that reads values inside by itself is the `recursive` of its body (specs/Recursion.antt).
+//!
+//! Which modules there are and what their settings mean is left to the crates above.
+#![tactic(auto)]
+
+mod fault;
+mod id;
+mod lists;
+mod members;
+mod named;
+mod settings;
+#[cfg(test)]
+mod tests;
+#[cfg(test)]
+mod toy;
+mod values;
+mod wording;
+
+pub use fault::{LoadFault, LoadKind, Refusal};
+pub use id::{IdFormFault, ModuleId};
+pub use members::{fields_of, is_a_setting, name_of, needed, optional};
+pub use named::{Named, object_by_name};
+pub use settings::Settings;

@@ -1,0 +1,227 @@
+use crate::toy::{House, Shelf, read_house};
+use crate::{IdFormFault, LoadFault, LoadKind, ModuleId, Refusal, Settings, name_of};
+use cd_text::{List, NoMemory, Text};
+use cd_tree::{Path, Tree, read};
+use std::alloc::Global;
+use std::test::Fail;
+
+fn add_shelf(text: &mut String, shelf: &Shelf) -> Result<(), NoMemory> {
+    text.push_str(shelf.name.as_str())?;
+    if let Some(width) = &shelf.width {
+        let alloc = *text.allocator();
+        let size = width.size;
+        text.push_str(format!(in alloc; " {size}")?.as_str())?;
+    }
+    if shelf.shut {
+        text.push_str(" shut")?;
+    }
+    text.push(';')?;
+    Ok(())
+}
+
+fn add_shelves(text: &mut String, shelves: &List<Shelf>) -> Result<(), NoMemory> {
+    for shelf in shelves.as_slice() {
+        add_shelf(text, shelf)?;
+    }
+    Ok(())
+}
+
+fn add_rooms(text: &mut String, house: &House) -> Result<(), NoMemory> {
+    for room in house.rooms.as_slice() {
+        text.push_str(room.name.as_str())?;
+        text.push(':')?;
+        add_shelves(text, &room.shelves)?;
+    }
+    Ok(())
+}
+
+// The words of a refusal.
+fn words(alloc: Global, fault: LoadFault) -> Result<Text, NoMemory> {
+    match fault {
+        LoadFault::Refused(refusal) => refusal.words(alloc),
+        LoadFault::NoMemory => Err(NoMemory),
+    }
+}
+
+// What is read as a list of shelves, or the words of the refusal.
+fn shelves_told(alloc: Global, tree: &Tree) -> Result<Text, NoMemory> {
+    match List::<Shelf>::read(alloc, tree, &Path::root(alloc)) {
+        Ok(shelves) => {
+            let mut text = String::new(alloc);
+            add_shelves(&mut text, &shelves)?;
+            Ok(Text::from_string(text))
+        }
+        Err(fault) => words(alloc, fault),
+    }
+}
+
+fn house_told(alloc: Global, tree: &Tree) -> Result<Text, NoMemory> {
+    match read_house(alloc, tree, &Path::root(alloc)) {
+        Ok(house) => {
+            let mut text = String::new(alloc);
+            add_rooms(&mut text, &house)?;
+            Ok(Text::from_string(text))
+        }
+        Err(fault) => words(alloc, fault),
+    }
+}
+
+fn name_told(alloc: Global, tree: &Tree) -> Result<Text, NoMemory> {
+    match name_of(alloc, tree, &Path::root(alloc), "handler") {
+        Ok(name) => Ok(name),
+        Err(fault) => words(alloc, fault),
+    }
+}
+
+fn tree_of(alloc: Global, text: &str) -> Result<Tree, Fail> {
+    Ok(read(alloc, text.as_bytes())?)
+}
+
+#[test]
+fn lists_are_read_element_by_element(rt: HostRuntime) -> Result<(), Fail> {
+    for (text, told) in [
+        (
+            r#"[{"name":"a","width":3,"shut":true},{"name":"b"}]"#,
+            "a 3 shut;b;",
+        ),
+        (r#"[{"@id":"x","name":"a","width":null,"shut":null}]"#, "a;"),
+        ("[]", ""),
+        ("{}", "wrong kind at /"),
+        (r#"[1,{"name":2}]"#, "wrong kind at /0"),
+        (
+            r#"[{"name":"a"},{"name":false},{"q":1}]"#,
+            "wrong kind at /1/name",
+        ),
+        (
+            r#"[{"name":7,"width":"x","zz":1,"aa":2}]"#,
+            "unknown member at /0/aa",
+        ),
+        (r#"[{"q":null,"name":"a"}]"#, "unknown member at /0/q"),
+        (
+            r#"[{"name":"a","shut":1,"width":"x"}]"#,
+            "wrong kind at /0/width",
+        ),
+        (r#"[{"width":"x"}]"#, "missing at /0/name"),
+        (r#"[{"name":null}]"#, "missing at /0/name"),
+    ] {
+        let tree = tree_of(rt.alloc(), text)?;
+        assert!(rt; shelves_told(rt.alloc(), &tree)?.equals(told));
+    }
+    Ok(())
+}
+
+#[test]
+fn objects_by_name_are_read_by_rising_name(rt: HostRuntime) -> Result<(), Fail> {
+    for (text, told) in [
+        (r#"{"b":[{"name":"x"}],"a":[]}"#, "a:b:x;"),
+        (r#"{"b":1,"a":[1]}"#, "wrong kind at /a/0"),
+        (r#"{"b":1,"a":null,"@id":"q"}"#, "wrong kind at /b"),
+        (r#"{"a":null,"@id":"q"}"#, ""),
+        (
+            r#"{"b":[{"name":"x"},{}],"c":[{"y":0}]}"#,
+            "missing at /b/1/name",
+        ),
+        ("[]", "wrong kind at /"),
+    ] {
+        let tree = tree_of(rt.alloc(), text)?;
+        assert!(rt; house_told(rt.alloc(), &tree)?.equals(told));
+    }
+    Ok(())
+}
+
+#[test]
+fn the_name_of_a_module_comes_first(rt: HostRuntime) -> Result<(), Fail> {
+    for (text, told) in [
+        (r#"{"handler":"vars","zz":1}"#, "vars"),
+        (r#"{"zz":1}"#, "missing at /handler"),
+        (r#"{"handler":null}"#, "missing at /handler"),
+        (r#"{"handler":false}"#, "wrong kind at /handler"),
+        ("3", "wrong kind at /"),
+    ] {
+        let tree = tree_of(rt.alloc(), text)?;
+        assert!(rt; name_told(rt.alloc(), &tree)?.equals(told));
+    }
+    Ok(())
+}
+
+fn refusal(alloc: Global, kind: LoadKind, about: &str) -> Result<Refusal, NoMemory> {
+    let root = Path::root(alloc);
+    Ok(Refusal {
+        kind,
+        at: root.member(alloc, "a")?.element(alloc, 0)?,
+        other: root.member(alloc, "b")?,
+        about: Text::from_str(alloc, about)?,
+    })
+}
+
+#[test]
+fn each_refusal_has_its_words(rt: HostRuntime) -> Result<(), Fail> {
+    for (kind, about, words) in [
+        (
+            LoadKind::UnknownModule,
+            "http.x",
+            "unknown module http.x at /a/0",
+        ),
+        (LoadKind::UnknownMember, "", "unknown member at /a/0"),
+        (LoadKind::WrongKind, "", "wrong kind at /a/0"),
+        (LoadKind::Missing, "", "missing at /a/0"),
+        (LoadKind::BadValue, "", "bad value at /a/0"),
+        (LoadKind::BadAddress, "", "bad address at /a/0"),
+        (
+            LoadKind::RepeatedAddress,
+            ":80",
+            "repeated address :80 at /a/0",
+        ),
+        (LoadKind::RepeatedId, "x", "repeated id x at /a/0 and /b"),
+        (
+            LoadKind::LimitReached,
+            "error subroutes",
+            "limit reached: error subroutes",
+        ),
+    ] {
+        let refusal = refusal(rt.alloc(), kind, about)?;
+        assert!(rt; refusal.words(rt.alloc())?.equals(words));
+    }
+    Ok(())
+}
+
+// The labels before the last one, each behind a slash, and the last one behind a space; or a question mark.
+fn id_told(alloc: Global, text: &str) -> Result<Text, NoMemory> {
+    match ModuleId::read(alloc, &Text::from_str(alloc, text)?) {
+        Ok(id) => {
+            let mut told = String::new(alloc);
+            for label in id.namespace() {
+                told.push('/')?;
+                told.push_str(label.as_str())?;
+            }
+            if let Some(name) = id.name() {
+                told.push(' ')?;
+                told.push_str(name.as_str())?;
+            }
+            Ok(Text::from_string(told))
+        }
+        Err(IdFormFault::BadForm) => Text::from_str(alloc, "?"),
+        Err(IdFormFault::NoMemory) => Err(NoMemory),
+    }
+}
+
+#[test]
+fn names_of_modules_are_labels_between_single_dots(rt: HostRuntime) -> Result<(), Fail> {
+    for (text, told) in [
+        (
+            "http.handlers.static_response",
+            "/http/handlers static_response",
+        ),
+        ("http", " http"),
+        ("a..b", "?"),
+        ("", "?"),
+        (".a", "?"),
+        ("a.", "?"),
+        ("A", "?"),
+        ("a-b", "?"),
+        ("x_9.0", "/x_9 0"),
+    ] {
+        assert!(rt; id_told(rt.alloc(), text)?.equals(told));
+    }
+    Ok(())
+}

@@ -1,0 +1,69 @@
+ghost use Rattle.std.specs.Prelude.{◌≡◌};
+
+use crate::{LoadFault, Named, Settings, fields_of, needed, object_by_name, optional};
+use cd_text::{List, Text};
+use cd_tree::{Num, Path, Tree};
+use std::alloc::Global;
+
+/// An object with fixed members: `name`, which it must have, `width` and `shut`.
+#[derive(Drop)]
+pub struct Shelf {
+    pub name: Text,
+    pub width: Option<Num>,
+    pub shut: bool,
+}
+
+impl Settings for Shelf {
+    ghost use Rattle.std.specs.Prelude.{codes, Ok, false, unwrap_or};
+    ghost use Rattle.cd_text.specs.Steps.{◌▷◌};
+    ghost use Rattle.cd_module.specs.Settings.{members, needed, optional, text, whole, truth};
+
+    ghost reader = { λ t at. members (codes "name width shut") t at ▷ λ ms. needed text (codes "name") ms at ▷ λ name. optional whole (codes "width") ms at ▷ λ width. optional truth (codes "shut") ms at ▷ λ shut. Ok (record { name = name; width = width; shut = unwrap_or shut false }) };
+
+    fn read(alloc: Global, tree: &Tree, at: &Path) -> Result<Shelf, LoadFault> {
+        let fields = fields_of(alloc, tree, at, "name width shut")?;
+        let name = needed::<Text>(alloc, &fields, at, "name")?;
+        let width = optional::<Num>(alloc, &fields, at, "width")?;
+        let shut = optional::<bool>(alloc, &fields, at, "shut")?;
+        Ok(Shelf {
+            name,
+            width,
+            shut: shut.unwrap_or(false),
+        })
+    }
+}
+
+/// A member of an object by name: a list of shelves.
+#[derive(Drop)]
+pub struct Room {
+    pub name: Text,
+    pub shelves: List<Shelf>,
+}
+
+impl Named for Room {
+    ghost use Rattle.std.specs.Prelude.{Ok};
+    ghost use Rattle.cd_text.specs.Steps.{◌▷◌};
+    ghost use Rattle.cd_module.specs.Settings.{list_of};
+    ghost use Rattle.cd_module.specs.contracts.toy.ShelfSettings.{reader as shelf};
+
+    ghost named = { λ name t at. list_of shelf t at ▷ λ shelves. Ok (record { name = name; shelves = shelves }) };
+
+    fn read_named(alloc: Global, name: &Text, tree: &Tree, at: &Path) -> Result<Room, LoadFault> {
+        let shelves = List::<Shelf>::read(alloc, tree, at)?;
+        let name = name.copy(alloc)?;
+        Ok(Room { name, shelves })
+    }
+}
+
+/// An object by name.
+#[derive(Drop)]
+pub struct House {
+    pub rooms: List<Room>,
+}
+
+/// A house.
+pub fn read_house(alloc: Global, tree: &Tree, at: &Path) -> Result<House, LoadFault> {
+    Ok(House {
+        rooms: object_by_name::<Room>(alloc, tree, at)?,
+    })
+}

@@ -1,0 +1,40 @@
+ghost use Rattle.cd_module.specs.Settings.{text, truth, whole};
+
+use crate::fault::{LoadFault, LoadKind};
+use crate::settings::Settings;
+use cd_text::Text;
+use cd_tree::{Num, Path, Tree};
+use std::alloc::Global;
+
+impl Settings for Text {
+    ghost reader = { text };
+
+    fn read(alloc: Global, tree: &Tree, at: &Path) -> Result<Text, LoadFault> {
+        match tree {
+            Tree::Text(text) => Ok(text.copy(alloc)?),
+            _ => Err(LoadFault::at(alloc, LoadKind::WrongKind, at)),
+        }
+    }
+}
+
+impl Settings for bool {
+    ghost reader = { truth };
+
+    fn read(alloc: Global, tree: &Tree, at: &Path) -> Result<bool, LoadFault> {
+        match tree {
+            Tree::Bool(truth) => Ok(*truth),
+            _ => Err(LoadFault::at(alloc, LoadKind::WrongKind, at)),
+        }
+    }
+}
+
+impl Settings for Num {
+    ghost reader = { whole };
+
+    fn read(alloc: Global, tree: &Tree, at: &Path) -> Result<Num, LoadFault> {
+        match tree {
+            Tree::Num(number) => Ok(*number),
+            _ => Err(LoadFault::at(alloc, LoadKind::WrongKind, at)),
+        }
+    }
+}
