@@ -3,3 +3,4 @@ pub mod Words
 pub mod Ids
 pub mod Settings
 pub mod Recursion
+pub mod Nests

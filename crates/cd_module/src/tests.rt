@@ -1,4 +1,4 @@
-use crate::toy::{House, Shelf, read_house};
+use crate::toy::{House, Shelf, read_house, read_nest};
 use crate::{IdFormFault, LoadFault, LoadKind, ModuleId, Refusal, Settings, name_of};
 use cd_text::{List, NoMemory, Text};
 use cd_tree::{Path, Tree, read};
@@ -66,6 +66,20 @@ fn house_told(alloc: Global, tree: &Tree) -> Result<Text, NoMemory> {
     }
 }
 
+fn nest_told(alloc: Global, tree: &Tree) -> Result<Text, NoMemory> {
+    match read_nest(alloc, tree, &Path::root(alloc)) {
+        Ok(labels) => {
+            let mut text = String::new(alloc);
+            for label in labels.as_slice() {
+                text.push_str(label.as_str())?;
+                text.push(';')?;
+            }
+            Ok(Text::from_string(text))
+        }
+        Err(fault) => words(alloc, fault),
+    }
+}
+
 fn name_told(alloc: Global, tree: &Tree) -> Result<Text, NoMemory> {
     match name_of(alloc, tree, &Path::root(alloc), "handler") {
         Ok(name) => Ok(name),
@@ -125,6 +139,35 @@ fn objects_by_name_are_read_by_rising_name(rt: HostRuntime) -> Result<(), Fail> 
     ] {
         let tree = tree_of(rt.alloc(), text)?;
         assert!(rt; house_told(rt.alloc(), &tree)?.equals(told));
+    }
+    Ok(())
+}
+
+#[test]
+fn a_reader_reads_inside_by_itself(rt: HostRuntime) -> Result<(), Fail> {
+    for (text, told) in [
+        (r#"{"label":"a"}"#, "a;"),
+        (
+            r#"{"label":"a","inside":{"label":"b","inside":{"label":"c","inside":null}}}"#,
+            "c;b;a;",
+        ),
+        (
+            r#"{"label":"a","inside":{"label":"b","inside":{"label":3}}}"#,
+            "wrong kind at /inside/inside/label",
+        ),
+        (
+            r#"{"label":"a","inside":{"inside":{"x":0}}}"#,
+            "missing at /inside/label",
+        ),
+        (
+            r#"{"label":"a","inside":{"label":"b","inside":{"x":0}}}"#,
+            "unknown member at /inside/inside/x",
+        ),
+        (r#"{"label":1,"inside":[]}"#, "wrong kind at /label"),
+        (r#"{"label":"a","inside":[]}"#, "wrong kind at /inside"),
+    ] {
+        let tree = tree_of(rt.alloc(), text)?;
+        assert!(rt; nest_told(rt.alloc(), &tree)?.equals(told));
     }
     Ok(())
 }

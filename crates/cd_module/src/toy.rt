@@ -1,8 +1,10 @@
-ghost use Rattle.std.specs.Prelude.{◌≡◌};
+ghost use Rattle.cd_text.specs.Gives.{Gives};
+ghost use Rattle.cd_module.specs.Settings.{optional as optional_of};
+ghost use Rattle.cd_module.specs.Nests.{layer, nest};
 
 use crate::{LoadFault, Named, Settings, fields_of, needed, object_by_name, optional};
 use cd_text::{List, Text};
-use cd_tree::{Num, Path, Tree};
+use cd_tree::{Fields, Num, Path, Tree};
 use std::alloc::Global;
 
 /// An object with fixed members: `name`, which it must have, `width` and `shut`.
@@ -44,9 +46,8 @@ impl Named for Room {
     ghost use Rattle.std.specs.Prelude.{Ok};
     ghost use Rattle.cd_text.specs.Steps.{◌▷◌};
     ghost use Rattle.cd_module.specs.Settings.{list_of};
-    ghost use Rattle.cd_module.specs.contracts.toy.ShelfSettings.{reader as shelf};
 
-    ghost named = { λ name t at. list_of shelf t at ▷ λ shelves. Ok (record { name = name; shelves = shelves }) };
+    ghost named = { λ name t at. list_of ⟦<Shelf as Settings>⟧.reader t at ▷ λ shelves. Ok (record { name = name; shelves = shelves }) };
 
     fn read_named(alloc: Global, name: &Text, tree: &Tree, at: &Path) -> Result<Room, LoadFault> {
         let shelves = List::<Shelf>::read(alloc, tree, at)?;
@@ -66,4 +67,41 @@ pub fn read_house(alloc: Global, tree: &Tree, at: &Path) -> Result<House, LoadFa
     Ok(House {
         rooms: object_by_name::<Room>(alloc, tree, at)?,
     })
+}
+
+/// Labels in one another, from the innermost out.
+#[cycle(nest)]
+pub fn read_nest(alloc: Global, tree: &Tree, at: &Path) -> Result<List<Text>, LoadFault>
+    ensures { Gives LoadFault.NoMemory result (nest tree.now at.now) }
+{
+    read_layer(alloc, tree, at)
+}
+
+#[cycle(nest)]
+#[tactic(auto, unfolding(crate::specs::Nests::layer))]
+fn read_layer(alloc: Global, tree: &Tree, at: &Path) -> Result<List<Text>, LoadFault>
+    ensures { Gives LoadFault.NoMemory result (layer nest tree.now at.now) }
+{
+    let fields = fields_of(alloc, tree, at, "label inside")?;
+    let label = needed::<Text>(alloc, &fields, at, "label")?;
+    let inside = read_inside(alloc, &fields, at, "inside")?;
+    let mut labels = inside.unwrap_or(List::new(alloc));
+    labels.push(label)?;
+    Ok(labels)
+}
+
+#[cycle(nest)]
+#[tactic(auto, unfolding(crate::specs::Settings::optional))]
+fn read_inside(
+    alloc: Global,
+    fields: &Fields<'_>,
+    at: &Path,
+    name: &str,
+) -> Result<Option<List<Text>>, LoadFault>
+    ensures { Gives LoadFault.NoMemory result (optional_of nest name.now fields.now.members.now at.now) }
+{
+    match fields.get(name) {
+        None => Ok(None),
+        Some(tree) => Ok(Some(read_nest(alloc, tree, &at.member(alloc, name)?)?)),
+    }
 }
