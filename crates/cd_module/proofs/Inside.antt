@@ -15,10 +15,12 @@ use Rattle.cd_module.specs.Settings.{Reader, members, each, ahead}
 use Rattle.cd_module.specs.declared.fault.LoadFault.{LoadFault}
 use Rattle.cd_module.proofs.Recursion.{Within, layer_depth, depth-out, get-within}
 
+-- members that are all known are all of them
 known-whole : (o : Option (List ℕ)) (ms all : List Member) (at : Path) → result_map_both (λ found. found) of_field (unless_unknown o ms at) ≡ Ok all → ms ≡ all
 known-whole None ms all at e = cc
 known-whole (Some name) ms all at e = cc
 
+-- the same of what stands in a value
 layer-whole : (names : List ℕ) (x : Tree-F Tree Member) (at : Path) (ms : List Member) → result_map_both (λ found. found) of_field (over_layer names x at) ≡ Ok ms → layer_depth x ≡ suc (largest (map member_depth ms))
 layer-whole names Tree-F.Null at ms e = cc
 layer-whole names (Tree-F.Bool b) at ms e = cc
@@ -36,6 +38,7 @@ members_depth names t at ms e = depth-out t ∙ layer-whole names (out-Tree t) a
 pub get_depth : (name : List ℕ) (ms : List Member) (s : Tree) → get name ms ≡ Some s → depth s ≤ largest (map member_depth ms)
 get_depth name ms s e = let h : depth s < suc (largest (map member_depth ms)) = get-within (suc (largest (map member_depth ms))) name ms (omega arith) s e in omega arith
 
+-- the next steps see only members that are not deep
 bound-members : {B : Type 0} (n : ℕ) (r : Result (List Member) LoadFault) (k l : List Member → Result B LoadFault) → ((ms : List Member) → r ≡ Ok ms → Within n ms) → ((ms : List Member) → Within n ms → k ms ≡ l ms) → (r ▷ k) ≡ (r ▷ l)
 bound-members n (Ok ms) k l w h = h ms (w ms (λ i. Ok ms))
 bound-members n (Err f) k l w h = λ i. Err f
@@ -50,9 +53,11 @@ element_depth [] i x h e = absurd (omega arith)
 element_depth (y ∷ ys) zero x h e = omega (arith, ap depth e)
 element_depth (y ∷ ys) (suc i) x h e = omega (arith, element_depth ys i x (omega arith) e)
 
+-- a list from a place on begins with the element there
 drop_more_at : (ts : List Tree) (n : ℕ) (t : Tree) → n < length ts → t ≡ get_or ts n t → drop n ts ≡ t ∷ drop (suc n) ts
 drop_more_at ts n t h e = rw (← add-one) (drop-element ts n t h e)
 
+-- one more element that was read
 more : {X : Type 0} (found : List X) (x : X) (r : Result (List X) LoadFault) → ahead (found ++ x ∷ []) r ≡ ahead found (r ▷ λ xs. Ok (x ∷ xs))
 more found x (Ok xs) = ap (λ ys. Ok ys) (append_assoc found (x ∷ []) xs)
 more found x (Err f) = refl

@@ -9,7 +9,7 @@ use Rattle.cd_module.specs.Nests.{layer, nest}
 use Rattle.cd_module.proofs.Recursion.{Inward, unfolds, ▷-same, optional-same}
 use Rattle.cd_module.proofs.Inside.{members-same}
 
-layer-inward : Inward layer
+pub layer-inward : Inward layer
 unfolding layer
 layer-inward = record {
   same = λ f g t at a. members-same (depth t) (codes "label inside") t at _ _ (omega arith) (λ ms w.

@@ -4,3 +4,4 @@ pub mod Ids
 pub mod Settings
 pub mod Recursion
 pub mod Nests
+pub mod Bare

@@ -8,11 +8,15 @@
 //! in which they are read, each wholly; a list goes element by element, an object by name member by member. Null is absent.
 //! A reader that reads values inside by itself is the `recursive` of its body (specs/Recursion.antt).
 //!
+//! No reader made of these words sees the ids of objects: trees that differ in ids alone give the same settings, or the same
+//! first fault (laws.rt, specs/Bare.antt).
+//!
 //! Which modules there are and what their settings mean is left to the crates above.
 #![tactic(auto)]
 
 mod fault;
 mod id;
+mod laws;
 mod lists;
 mod members;
 mod named;
@@ -26,6 +30,7 @@ mod wording;
 
 pub use fault::{LoadFault, LoadKind, Refusal};
 pub use id::{IdFormFault, ModuleId};
+pub use laws::{ids_are_not_seen, lists_see_no_ids, nests_see_no_ids, objects_see_no_ids};
 pub use members::{fields_of, is_a_setting, name_of, needed, optional};
 pub use named::{Named, object_by_name};
 pub use settings::Settings;

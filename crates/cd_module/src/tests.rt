@@ -1,5 +1,8 @@
-use crate::toy::{House, Shelf, read_house, read_nest};
-use crate::{IdFormFault, LoadFault, LoadKind, ModuleId, Refusal, Settings, name_of};
+use crate::toy::{House, Room, Shelf, read_house, read_nest};
+use crate::{
+    IdFormFault, LoadFault, LoadKind, ModuleId, Refusal, Settings, ids_are_not_seen,
+    lists_see_no_ids, name_of, nests_see_no_ids, objects_see_no_ids,
+};
 use cd_text::{List, NoMemory, Text};
 use cd_tree::{Path, Tree, read};
 use std::alloc::Global;
@@ -266,5 +269,17 @@ fn names_of_modules_are_labels_between_single_dots(rt: HostRuntime) -> Result<()
     ] {
         assert!(rt; id_told(rt.alloc(), text)?.equals(told));
     }
+    Ok(())
+}
+
+#[test]
+fn the_laws_speak_of_types_that_there_are(rt: HostRuntime) -> Result<(), Fail> {
+    let tree = tree_of(rt.alloc(), r#"{"@id":"a","b":{"@id":"c"}}"#)?;
+    let other = tree_of(rt.alloc(), r#"{"b":{}}"#)?;
+    let at = Path::root(rt.alloc());
+    ids_are_not_seen::<Shelf>(&tree, &other, &at);
+    lists_see_no_ids::<Shelf>(&tree, &at);
+    objects_see_no_ids::<Room>(&tree, &at);
+    nests_see_no_ids(&tree, &at);
     Ok(())
 }

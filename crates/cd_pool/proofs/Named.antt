@@ -8,13 +8,11 @@ use Rattle.cd_pool.specs.Rooms.{uses, times, AreNumbers}
 use Rattle.cd_pool.proofs.Numbers.{no_pair, uses-without}
 use Rattle.cd_pool.proofs.Giving.{once}
 
+-- a pair with a number
 abbrev pub lease : ℕ → Pair → Leased
 lease n p = record { number = n; pair = p }
 
-below : (b : Bool) (x y z : Option Pair) → cond b x y ≡ None → (y ≡ None → z ≡ x) → cond b x z ≡ x
-below true x y z e f = refl
-below false x y z e f = f e
-
+-- the first lease, for the lemma below
 taken : (n : ℕ) (p : Pair) (h : Leased) (hs : List Leased) (b : Bool) → (pair_at n hs ≡ None → pair_at n (hs ++ lease n p ∷ []) ≡ Some p) → cond b (Some h.pair) (pair_at n hs) ≡ None → cond b (Some h.pair) (pair_at n (hs ++ lease n p ∷ [])) ≡ Some p
 taken n p h hs true rec e = cc
 taken n p h hs false rec e = rec e
@@ -24,6 +22,7 @@ pub named : (n : ℕ) (p : Pair) (hs : List Leased) → pair_at n hs ≡ None �
 named n p [] e = rw (eq-eqb n n refl) refl
 named n p (h ∷ hs) e = taken n p h hs (h.number == n) (named n p hs) e
 
+-- a lease of another number is passed over
 other : (m n : ℕ) (b : Bool) (p : Pair) (o : Option Pair) → (m == n) ≡ b → (n ≡ m → ⊥) → cond b (Some p) o ≡ o
 other m n true p o e ne = absurd (ne (sym (eqb-true m n e)))
 other m n false p o e ne = refl
@@ -33,6 +32,7 @@ pub still_taken : (n m : ℕ) (p : Pair) (hs : List Leased) → (n ≡ m → ⊥
 still_taken n m p [] ne = other m n (m == n) p None refl ne
 still_taken n m p (h ∷ hs) ne = ap (λ z. cond (h.number == n) (Some h.pair) z) (still_taken n m p hs ne)
 
+-- the first lease, for the lemma below
 passed : (n m : ℕ) (h : Leased) (hs : List Leased) (b : Bool) → (h.number == m) ≡ b → (n ≡ m → ⊥) → pair_at n (without m hs) ≡ pair_at n hs → pair_at n (cond b hs (h ∷ without m hs)) ≡ cond (h.number == n) (Some h.pair) (pair_at n hs)
 passed n m h hs true e ne rec = sym (other h.number n (h.number == n) h.pair (pair_at n hs) refl (λ same. ne (same ∙ eqb-true h.number m e)))
 passed n m h hs false e ne rec = ap (λ z. cond (h.number == n) (Some h.pair) z) rec

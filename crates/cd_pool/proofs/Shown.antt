@@ -8,9 +8,11 @@ use Rattle.cd_pool.specs.Pairs.{without}
 use Rattle.cd_pool.specs.Rooms.{leased}
 use Rattle.cd_pool.proofs.Named.{lease}
 
+-- the number of a room
 abbrev pub number : Room → ℕ
 number room = room.number
 
+-- leases of equal parts are equal
 lease_is : (m n : ℕ) → m ≡ n → (p q : Pair) → p ≡ q → lease m p ≡ lease n q
 lease_is m n e p q f = ap (λ z. lease z p) e ∙ ap (λ z. lease n z) f
 
@@ -22,9 +24,11 @@ held_more rooms rooms' r n p e f g = ap (λ z. map leased z) e ∙ (map-append l
 pub numbers_more : (rooms rooms' : List Room) (r : Room) (n : ℕ) → rooms' ≡ rooms ++ r ∷ [] → r.number ≡ n → map number rooms' ≡ map number rooms ++ n ∷ []
 numbers_more rooms rooms' r n e f = ap (λ z. map number z) e ∙ (map-append number rooms (r ∷ []) ∙ ap (λ z. map number rooms ++ z ∷ []) f)
 
+-- more rooms are more numbers
 pub numbers_all : (rooms more rooms' : List Room) (ns : List ℕ) → rooms' ≡ rooms ++ more → map number more ≡ ns → map number rooms' ≡ map number rooms ++ ns
 numbers_all rooms more rooms' ns e f = ap (λ z. map number z) e ∙ (map-append number rooms more ∙ ap (λ z. map number rooms ++ z) f)
 
+-- what is left of the rooms shows what is left of the leases
 pub removed : (n at : ℕ) (rooms rooms' : List Room) → map leased (take at rooms) ++ map leased (drop (suc at) rooms) ≡ without n (map leased rooms) → rooms' ≡ remove rooms at → map leased rooms' ≡ without n (map leased rooms)
 removed n at rooms rooms' rest e = ap (λ z. map leased z) e ∙ (map-append leased (take at rooms) (drop (suc at) rooms) ∙ rest)
 

@@ -1,0 +1,42 @@
+ghost use Rattle.std.specs.Prelude.{◌≡◌, ℕ, List};
+ghost use Rattle.cd_module.specs.Bare.{bare, SeesNoIds};
+ghost use Rattle.cd_module.specs.Nests.{nest};
+ghost use Rattle.cd_module.specs.Settings.{list_of, object_of};
+
+use crate::named::Named;
+use crate::settings::Settings;
+use cd_tree::{Path, Tree};
+
+/// Trees that differ in ids alone are read alike, by each reader that sees none: with the same settings, or the same first
+/// fault.
+pub fn ids_are_not_seen<T: Settings>(tree: &Tree, other: &Tree, at: &Path)
+    ensures { SeesNoIds T.reader → bare tree.now ≡ bare other.now → T.reader tree.now at.now ≡ T.reader other.now at.now }
+{
+    let _ = tree;
+    let _ = other;
+    let _ = at;
+}
+
+/// A list sees no ids where its elements see none.
+pub fn lists_see_no_ids<T: Settings>(tree: &Tree, at: &Path)
+    ensures { SeesNoIds T.reader → list_of T.reader (bare tree.now) at.now ≡ list_of T.reader tree.now at.now }
+{
+    let _ = tree;
+    let _ = at;
+}
+
+/// An object by name sees no ids where its members see none.
+pub fn objects_see_no_ids<T: Named>(tree: &Tree, at: &Path)
+    ensures { ((name : List ℕ) → SeesNoIds (T.named name)) → object_of T.named (bare tree.now) at.now ≡ object_of T.named tree.now at.now }
+{
+    let _ = tree;
+    let _ = at;
+}
+
+/// The example of a reader with needed and optional members that reads inside by itself sees no ids.
+pub fn nests_see_no_ids(tree: &Tree, at: &Path)
+    ensures { nest (bare tree.now) at.now ≡ nest tree.now at.now }
+{
+    let _ = tree;
+    let _ = at;
+}
