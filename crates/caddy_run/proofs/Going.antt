@@ -1,7 +1,6 @@
 -- One connection, from call to call.
-use Rattle.std.proofs.Common.{◌≡◌, ◌≢◌, ◌<◌, ◌+◌, ◌∙◌, ◌++◌, ◌&&◌, ℕ, Bool, true, false, not, min, List, [], ◌∷◌, length, take, Option, option_map, refl, ap, sym, subst, arith, inl, inr, append_assoc, length-append}
+use Rattle.std.proofs.Common.{◌≡◌, ◌≢◌, ◌+◌, ◌∙◌, ◌++◌, ◌&&◌, ℕ, Bool, true, false, not, min, List, [], ◌∷◌, length, Option, option_map, refl, ap, sym, subst, arith, inl, append_assoc, length-append}
 use Rattle.std.proofs.lemmas.List.{append-nil}
-use Rattle.std.specs.List.{flat_map, list_all}
 use Rattle.cd_outside.specs.declared.past.Past.{Past}
 use Rattle.cd_outside.specs.declared.given.Given.TheVariants as given
 use Rattle.cd_outside.specs.Given.{IsGivenOf}
@@ -10,11 +9,10 @@ use Rattle.cd_outside.specs.Past.{with_connection, after_put}
 use Rattle.cd_wire.specs.declared.answer.Answer.{Answer}
 use Rattle.cd_wire.specs.declared.request.Request.{Request}
 use Rattle.cd_wire.specs.declared.fault.WireFault.{WireFault}
-use Rattle.cd_wire.specs.Requests.{BeginsRequest, Splits, HasRequests, HasNoRequest, HasTail, refused, clean, cut}
-use Rattle.caddy_run.specs.declared.way.Way.{Way}
+use Rattle.cd_wire.specs.Requests.{Splits, HasRequests, refused, clean, cut}
 use Rattle.caddy_run.specs.declared.way.Way.TheVariants as way
 use Rattle.caddy_run.specs.Replies.{answer_to, answers_to, closes, none_closes, refusal_to, IsCutOff, IsPart}
-use Rattle.caddy_run.specs.Connections.{BeginWith, after_all}
+use Rattle.caddy_run.specs.Connections.{after_all}
 use Rattle.caddy_run.specs.Going.{Going, Over}
 use Rattle.caddy_run.proofs.Told.{no_change, taking, ending, putting}
 

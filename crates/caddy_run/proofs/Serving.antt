@@ -1,5 +1,5 @@
 -- How one connection was served, from the calls on it.
-use Rattle.std.proofs.Common.{◌≡◌, ◌≢◌, ◌∙◌, ℕ, min, false, [], Option, refl}
+use Rattle.std.proofs.Common.{◌≡◌, ◌≢◌, ◌∙◌, ℕ, false, [], Option, refl}
 use Rattle.cd_outside.specs.declared.past.Past.{Past}
 use Rattle.cd_outside.specs.declared.address.Address.{Address}
 use Rattle.cd_wire.specs.declared.answer.Answer.{Answer}

@@ -1,5 +1,5 @@
 -- A number read digit by digit, up to a bound.
-use Rattle.std.proofs.Common.{◌≡◌, ℕ, ◌+◌, ◌*◌, ◌-◌, ◌<◌, ◌≤◌, List, [], ◌∷◌, ◌++◌, length, get_or, take, true, arith, sym, ap, ◌∙◌, subst}
+use Rattle.std.proofs.Common.{◌≡◌, ℕ, ◌+◌, ◌*◌, ◌-◌, ◌<◌, List, length, get_or, take, true, arith}
 use Rattle.std.specs.Prelude.{min}
 use Rattle.cd_wire.specs.declared.limits.TheConstants.{MAX_BODY_BYTES}
 use Rattle.std.specs.List.{list_all}

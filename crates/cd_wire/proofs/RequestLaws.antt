@@ -1,7 +1,7 @@
 -- What more bytes leave of a list of requests, and that an input has one.
-use Rattle.std.proofs.Common.{◌≡◌, ◌≢◌, ℕ, List, [], ◌∷◌, ◌++◌, length, refl, sym, ap, ◌∙◌, append_assoc, arith, Result, Ok, Err, ◌≤◌, ◌<◌, subst, Bool, false}
+use Rattle.std.proofs.Common.{◌≡◌, ℕ, List, [], ◌∷◌, ◌++◌, length, refl, sym, ap, ◌∙◌, append_assoc, arith, Result, Ok, ◌<◌, subst, Bool, false}
 use Rattle.std.proofs.lemmas.List.{append_cancel_left}
-use Rattle.httparse.specs.Grammar.{RequestHead, ReadsRequest, ChunkLine, ReadsChunkLine, chunk_size}
+use Rattle.httparse.specs.Grammar.{chunk_size}
 use Rattle.httparse.specs.Ascii.{crlf_bytes}
 use Rattle.httparse.proofs.GrammarLemmas.{ReadsRequest-append, request_unique}
 use Rattle.httparse.proofs.ChunkLemmas.{ReadsChunkLine-append, chunk_line_unique}

@@ -1,15 +1,14 @@
 -- Where a head ends in the bytes that begin with it.
-use Rattle.std.proofs.Common.{◌≡◌, ◌≢◌, ℕ, ◌<◌, ◌+◌, ◌==◌, get_or, Bool, true, false, ◌||◌, IsTrue, if◌then◌else◌, List, [], ◌∷◌, ◌++◌, length, take, drop, refl, sym, ap, ◌∙◌, subst, arith, append_assoc}
+use Rattle.std.proofs.Common.{◌≡◌, ℕ, ◌<◌, ◌+◌, ◌==◌, get_or, Bool, true, false, ◌||◌, IsTrue, if◌then◌else◌, List, [], ◌∷◌, ◌++◌, length, take, drop, refl, sym, ap, ◌∙◌, subst, arith, append_assoc}
 use Rattle.std.proofs.lemmas.Bool.{eqb-true}
 use Rattle.std.proofs.lemmas.List.{take-append-drop, take_more}
 use Rattle.std.proofs.lemmas.List.Elements.{All-head}
 use Rattle.std.specs.List.{flat_map}
-use Rattle.httparse.specs.Ascii.{crlf_bytes, line_feed, colon, space}
-use Rattle.httparse.specs.Grammar.{LineEnd, crlf, lf, print_end, print_blank, Field, print_field, print_section, RequestHead, IsRequestHead, print_request, print_version, IsToken, is_token_byte, AllPass}
-use Rattle.cd_wire.specs.declared.limits.TheConstants.{MAX_HEAD_BYTES}
+use Rattle.httparse.specs.Ascii.{colon, space}
+use Rattle.httparse.specs.Grammar.{LineEnd, crlf, lf, print_end, print_blank, Field, print_field, print_section, RequestHead, IsRequestHead, print_request, print_version, IsToken, is_token_byte}
 use Rattle.cd_wire.specs.declared.scanning.Line.{Line}
 use Rattle.cd_wire.specs.declared.scanning.Line.TheVariants.{Blank, Inside, Ended, EndedCr, Over}
-use Rattle.cd_wire.specs.Heads.{BeginsHead, HasNoHead}
+use Rattle.cd_wire.specs.Heads.{HasNoHead}
 use Rattle.cd_wire.specs.Scanning.{step, scan, is_over}
 
 pub scan-append : (line : Line) (xs ys : List ℕ) → scan line (xs ++ ys) ≡ scan (scan line xs) ys

@@ -2,15 +2,15 @@
 use Rattle.std.proofs.Common.{◌≡◌, ℕ, ◌+◌, ◌<◌, ◌≤◌, List, [], ◌∷◌, ◌++◌, length, take, drop, refl, sym, ap, ◌∙◌, subst, arith, Result, Ok, Err, Bool, inl, inr, length-append}
 use Rattle.std.proofs.lemmas.Bool.Decides.{nat_tests}
 use Rattle.std.proofs.lemmas.List.{take-append-drop, length-drop, length-take-le, drop-drop}
-use Rattle.std.specs.Prelude.{◌⊎◌, ◌==◌, ◌≢◌, not, codes, true, false, nat_le, if◌then◌else◌}
+use Rattle.std.specs.Prelude.{◌==◌, ◌≢◌, not, codes, true, false, nat_le, if◌then◌else◌}
 use Rattle.cd_wire.specs.declared.head.Head.{Head}
 use Rattle.cd_wire.specs.declared.request.Request.{Request}
 use Rattle.cd_wire.specs.declared.fault.WireFault.{WireFault}
 use Rattle.cd_wire.specs.declared.framing.Framing.{Framing}
 use Rattle.cd_wire.specs.declared.framing.Framing.TheVariants.{Length, Chunked}
 use Rattle.cd_wire.specs.declared.fault.WireFault.TheVariants.{BadTarget, BadHost, BadLength, BodyTooLong, UnknownCoding}
-use Rattle.httparse.specs.Grammar.{print_request, ReadsRequest}
-use Rattle.cd_wire.specs.Heads.{BeginsHead, HasNoHead, NeverHasHead}
+use Rattle.httparse.specs.Grammar.{print_request}
+use Rattle.cd_wire.specs.Heads.{BeginsHead, HasNoHead}
 use Rattle.cd_wire.specs.Fields.{values}
 use Rattle.std.specs.Str.Parse.{digits_value}
 use Rattle.cd_wire.specs.declared.limits.TheConstants.{MAX_BODY_BYTES}

@@ -336,7 +336,7 @@ fn check_limit(
 ) -> Result<(), NoMemory> {
     let (first, again, count, last) = parts;
     let bytes = repeated(alloc, first, again, count, last)?;
-    for size in [bytes.len(), 100_000, 1_000] {
+    for size in [bytes.len(), 100_000, 1_000, 1] {
         let text = played(alloc, &bytes, size, false)?;
         assert!(rt;
             text.ends_with(end.as_bytes()) && text.is_empty() == end.is_empty(),

@@ -1,4 +1,4 @@
-use Rattle.std.proofs.Common.{◌≡◌, ◌∙◌, ◌+◌, ap, sym, min, Bool, true, false, inl, inr, arith}
+use Rattle.std.proofs.Common.{◌≡◌, ◌∙◌, ◌+◌, ap, sym, min, Bool, inl, inr, arith}
 use Rattle.cd_outside.specs.Counts.{count_end}
 use Rattle.cd_wire.specs.Render.{render}
 use Rattle.caddy_run.specs.Replies.{answer_to}

@@ -1,4 +1,4 @@
-use Rattle.std.proofs.Common.{◌≡◌, List, ℕ, sym, subst}
+use Rattle.std.proofs.Common.{List, ℕ, sym, subst}
 use Rattle.cd_wire.specs.Requests.{HasNoRequest, HasTail, refused}
 use Rattle.caddy_run.specs.Going.{Going}
 use Rattle.caddy_run.proofs.connection.go_on.Goals as goal

@@ -1,4 +1,4 @@
-use Rattle.std.proofs.Common.{◌≡◌, ◌∙◌, ap, inl, inr}
+use Rattle.std.proofs.Common.{◌≡◌, ◌∙◌, ap, inr}
 use Rattle.cd_wire.specs.Render.{refusal_bytes}
 use Rattle.cd_wire.specs.Requests.{refused}
 use Rattle.caddy_run.specs.Replies.{refusal_to}

@@ -1,5 +1,5 @@
 use Rattle.std.proofs.Common.{◌≡◌, true}
-use Rattle.caddy_run.proofs.Serving.{served_dropped, served_over}
+use Rattle.caddy_run.proofs.Serving.{served_dropped}
 use Rattle.caddy_run.proofs.connection.serve_connection.Goals as goal
 
 -- it came elsewhere

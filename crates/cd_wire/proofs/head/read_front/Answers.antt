@@ -1,4 +1,4 @@
-use Rattle.std.proofs.Common.{List, ℕ, ◌≡◌, ◌≤◌, ◌<◌, length, subst, drop, arith}
+use Rattle.std.proofs.Common.{List, ℕ, ◌≤◌, length, subst, arith}
 use Rattle.cd_wire.specs.declared.head.HeadRead.{HeadRead}
 use Rattle.cd_wire.specs.declared.head.HeadRead.TheVariants.{Whole, Partial, Hopeless}
 use Rattle.cd_wire.specs.declared.limits.TheConstants.{MAX_HEAD_BYTES}

@@ -1,4 +1,4 @@
-use Rattle.std.proofs.Common.{◌≡◌, ◌∙◌, sym, ap, List, ℕ, [], ◌∷◌, subst, codes}
+use Rattle.std.proofs.Common.{◌∙◌, sym, ap, List, ℕ, [], ◌∷◌, subst, codes}
 use Rattle.cd_wire.specs.declared.fields.Found.{Found}
 use Rattle.cd_wire.specs.Fields.{values, IsFound}
 use Rattle.cd_wire.specs.Framing.{framing_by}

@@ -1,4 +1,4 @@
-use Rattle.std.proofs.Common.{◌≡◌, ◌≤◌, length, drop, take, ap, ◌∙◌, arith, length-drop}
+use Rattle.std.proofs.Common.{◌≤◌, length, drop, take, ap, ◌∙◌, arith, length-drop}
 use Rattle.cd_wire.specs.declared.framing.Framing.TheVariants.{Length}
 use Rattle.cd_wire.specs.Framing.{request_of}
 use Rattle.cd_wire.proofs.TakingLemmas.{judged_host, takes_sized}

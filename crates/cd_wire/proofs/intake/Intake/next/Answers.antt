@@ -1,4 +1,4 @@
-use Rattle.std.proofs.Common.{◌≡◌, ◌<◌, ◌+◌, ◌∙◌, length, ap, drop, subst, List, ℕ, arith}
+use Rattle.std.proofs.Common.{◌<◌, ◌+◌, ◌∙◌, length, ap, drop, subst, List, ℕ, arith}
 use Rattle.cd_wire.specs.declared.taking.Begun.{Begun}
 use Rattle.cd_wire.specs.declared.taking.Begun.TheVariants as begun
 use Rattle.cd_wire.specs.Taking.{IsBegun}
