@@ -1,0 +1,3 @@
+pub mod Commas
+pub mod Braces
+pub mod Pieces

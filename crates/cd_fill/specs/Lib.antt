@@ -1,0 +1,3 @@
+pub mod Scene
+pub mod Values
+pub mod Filling

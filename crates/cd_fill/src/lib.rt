@@ -1,0 +1,35 @@
+//! What a request is to a configuration, and texts with their placeholders replaced.
+//!
+//! A `Scene` is the state of a request on its way through the routes: what was asked for, what handlers have made of it so
+//! far, and what is to be answered. Its fields are public, since matchers read and handlers change them. `Scene::new` is the
+//! scene in which a request meets the first route (specs/Scene.antt).
+//!
+//! `fill` replaces the placeholders of a text, as `{http.request.method}`, by what they stand for in a scene. The table of
+//! names is in specs/Values.antt, and what a placeholder is in specs/Filling.antt.
+//!
+//! Which texts are filled is left to the crates above, and so is what a handler changes.
+#![tactic(auto)]
+
+mod failure;
+mod fault;
+mod filling;
+mod host;
+mod joining;
+mod limits;
+mod query;
+mod request_line;
+mod scene;
+#[cfg(test)]
+mod tests;
+mod uri;
+mod values;
+mod variable;
+
+pub use failure::Failure;
+pub use fault::FillFault;
+pub use filling::fill;
+pub use host::host_without_port;
+pub use limits::MAX_FILLED_BYTES;
+pub use request_line::RequestLine;
+pub use scene::Scene;
+pub use variable::Variable;

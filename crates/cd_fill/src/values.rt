@@ -1,0 +1,205 @@
+//! What the names of placeholders stand for.
+ghost use Rattle.std.specs.Prelude.{◌≡◌, ◌++◌, [], true, length, drop, IfOk, OnOk, is_some, unwrap_or, decimal};
+ghost use Rattle.std.specs.Option.{option_copied};
+ghost use Rattle.std.specs.Str.{bytes_eq};
+ghost use Rattle.cd_wire.specs.Render.{phrase_of, reason_of};
+ghost use Rattle.cd_fill.specs.Values.{begins, proto, kept_value, request_value, error_value, error_named, value};
+
+use crate::host::host_without_port;
+use crate::joining::put_header;
+use crate::query::put_query;
+use crate::variable::value_of_variable;
+use crate::{Failure, Scene};
+use cd_text::{NoMemory, Octets};
+use http::StatusCode;
+use std::alloc::Global;
+
+fn is(name: &[u8], word: &str) -> bool
+    ensures { result ≡ bytes_eq name.now word.now }
+{
+    name == word.as_bytes()
+}
+
+fn begins(name: &[u8], word: &str) -> bool
+    ensures { result ≡ begins name.now word.now }
+{
+    name.starts_with(word.as_bytes())
+}
+
+// What stands behind its beginning.
+fn behind<'a>(name: &'a [u8], word: &str) -> &'a [u8]
+    requires { begins name.now word.now ≡ true }
+    ensures { result.now ≡ drop (length word.now) name.now }
+{
+    &name[word.len()..]
+}
+
+fn proto(minor: u8) -> &'static [u8]
+    ensures { result.now ≡ proto minor }
+{
+    if minor == 0 { b"HTTP/1.0" } else { b"HTTP/1.1" }
+}
+
+fn or_empty(query: &Option<Octets>) -> &[u8]
+    ensures { result.now ≡ unwrap_or query.now [] }
+{
+    match query {
+        Some(query) => query.as_slice(),
+        None => &[],
+    }
+}
+
+// `http.request.NAME` of what the scene has as it is.
+#[tactic(auto, unfolding(crate::specs::Values::kept_value))]
+fn kept_value<'a>(scene: &'a Scene, name: &[u8]) -> Option<&'a [u8]>
+    ensures { option_copied result ≡ kept_value scene.now name.now }
+{
+    if is(name, "method") {
+        Some(scene.current.method.as_str().as_bytes())
+    } else if is(name, "orig_method") {
+        Some(scene.original.method.as_str().as_bytes())
+    } else if is(name, "host") {
+        Some(host_without_port(scene.host.as_slice()))
+    } else if is(name, "hostport") {
+        Some(scene.host.as_slice())
+    } else if is(name, "proto") {
+        Some(proto(scene.minor))
+    } else if is(name, "scheme") {
+        Some(b"http")
+    } else if is(name, "uri") {
+        Some(scene.current.uri.as_slice())
+    } else if is(name, "uri.path") {
+        Some(scene.current.path.as_slice())
+    } else if is(name, "uri.query") {
+        Some(or_empty(&scene.current.query))
+    } else if is(name, "orig_uri") {
+        Some(scene.original.uri.as_slice())
+    } else if is(name, "orig_uri.path") {
+        Some(scene.original.path.as_slice())
+    } else if is(name, "orig_uri.query") {
+        Some(or_empty(&scene.original.query))
+    } else {
+        None
+    }
+}
+
+// Writes what `http.request.NAME` stands for, and says whether the name is known.
+#[tactic(auto, unfolding(crate::specs::Values::request_value))]
+fn put_request_value(
+    alloc: Global,
+    out: &mut Octets,
+    scene: &Scene,
+    name: &[u8],
+) -> Result<bool, NoMemory>
+    ensures known { IfOk result (λ known. known ≡ is_some (request_value scene.now name.now)) }
+    ensures text { OnOk result (out.new ≡ out.old ++ unwrap_or (request_value scene.now name.now) []) }
+{
+    if begins(name, "uri.query.") {
+        put_query(
+            alloc,
+            out,
+            behind(name, "uri.query."),
+            or_empty(&scene.current.query),
+        )?;
+        return Ok(true);
+    }
+    if begins(name, "header.") {
+        put_header(out, behind(name, "header."), scene.fields.as_slice())?;
+        return Ok(true);
+    }
+    match kept_value(scene, name) {
+        Some(value) => {
+            out.append(value)?;
+            Ok(true)
+        }
+        None => Ok(false),
+    }
+}
+
+#[tactic(auto, unfolding(cd_wire::specs::Render::phrase_of))]
+fn phrase_of(status: StatusCode) -> &'static str
+    ensures { result.now ≡ phrase_of status }
+{
+    status.canonical_reason().unwrap_or("")
+}
+
+#[tactic(auto, unfolding(cd_wire::specs::Render::reason_of))]
+fn reason_of(status: u16) -> &'static str
+    ensures { result.now ≡ reason_of status }
+{
+    match StatusCode::from_u16(status) {
+        Ok(status) => phrase_of(status),
+        Err(_) => "",
+    }
+}
+
+fn put_decimal(alloc: Global, out: &mut Octets, number: u16) -> Result<(), NoMemory>
+    ensures { OnOk result (out.new ≡ out.old ++ decimal number) }
+{
+    let digits = format!(in alloc; "{number}")?;
+    out.append(digits.as_bytes())
+}
+
+// The same of `http.error.NAME`, where there is an error.
+#[tactic(auto, unfolding(crate::specs::Values::error_value))]
+fn put_error_value(
+    alloc: Global,
+    out: &mut Octets,
+    error: &Failure,
+    name: &[u8],
+) -> Result<bool, NoMemory>
+    ensures known { IfOk result (λ known. known ≡ is_some (error_value error.now name.now)) }
+    ensures text { OnOk result (out.new ≡ out.old ++ unwrap_or (error_value error.now name.now) []) }
+{
+    if is(name, "status_code") {
+        put_decimal(alloc, out, error.status)?;
+        Ok(true)
+    } else if is(name, "status_text") {
+        out.append(reason_of(error.status).as_bytes())?;
+        Ok(true)
+    } else if is(name, "message") {
+        out.append(error.message.as_slice())?;
+        Ok(true)
+    } else {
+        Ok(false)
+    }
+}
+
+#[tactic(auto, unfolding(crate::specs::Values::error_named))]
+fn put_error_named(
+    alloc: Global,
+    out: &mut Octets,
+    error: &Option<Failure>,
+    name: &[u8],
+) -> Result<bool, NoMemory>
+    ensures known { IfOk result (λ known. known ≡ is_some (error_named error.now name.now)) }
+    ensures text { OnOk result (out.new ≡ out.old ++ unwrap_or (error_named error.now name.now) []) }
+{
+    match error {
+        Some(error) => put_error_value(alloc, out, error, name),
+        None => Ok(false),
+    }
+}
+
+/// Writes what a name stands for, and says whether it is known. An unknown one writes nothing.
+#[tactic(auto, unfolding(crate::specs::Values::value))]
+pub(crate) fn put_value(
+    alloc: Global,
+    out: &mut Octets,
+    scene: &Scene,
+    name: &[u8],
+) -> Result<bool, NoMemory>
+    ensures known { IfOk result (λ known. known ≡ is_some (value scene.now name.now)) }
+    ensures text { OnOk result (out.new ≡ out.old ++ unwrap_or (value scene.now name.now) []) }
+{
+    if begins(name, "http.request.") {
+        put_request_value(alloc, out, scene, behind(name, "http.request."))
+    } else if begins(name, "http.vars.") {
+        out.append(value_of_variable(scene.variables.as_slice(), behind(name, "http.vars.")))?;
+        Ok(true)
+    } else if begins(name, "http.error.") {
+        put_error_named(alloc, out, &scene.error, behind(name, "http.error."))
+    } else {
+        Ok(false)
+    }
+}
