@@ -1,3 +1,4 @@
 pub mod Commas
 pub mod Braces
 pub mod Pieces
+pub mod Placeholders

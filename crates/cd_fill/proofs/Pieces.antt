@@ -10,7 +10,7 @@ use Rattle.cd_fill.specs.declared.limits.TheConstants.{MAX_FILLED_BYTES}
 use Rattle.cd_fill.specs.Filling.{close_brace, closed_piece, pieces_filled, filled, fill}
 
 -- a piece with others behind it was closed
-pieces-more : (x : Scene) (piece : List ℕ) (pieces : List (List ℕ)) → 0 < length pieces → pieces_filled x (piece ∷ pieces) ≡ closed_piece x piece ++ pieces_filled x pieces
+pub pieces-more : (x : Scene) (piece : List ℕ) (pieces : List (List ℕ)) → 0 < length pieces → pieces_filled x (piece ∷ pieces) ≡ closed_piece x piece ++ pieces_filled x pieces
 unfolding pieces_filled
 pieces-more x piece [] some = absurd (omega arith)
 pieces-more x piece (next ∷ pieces) some = refl

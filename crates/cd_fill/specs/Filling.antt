@@ -1,5 +1,5 @@
 -- Texts with their placeholders replaced. A placeholder is `{`, a name without braces, and `}`; there is no escape.
-use Rattle.std.specs.Prelude.{ℕ, ◌==◌, Bool, List, [], ◌∷◌, ◌++◌, length, nat_lt, if◌then◌else◌, unwrap_or, Result, Ok, Err}
+use Rattle.std.specs.Prelude.{ℕ, ◌==◌, ◌||◌, Bool, List, [], ◌∷◌, ◌++◌, length, nat_lt, if◌then◌else◌, unwrap_or, Result, Ok, Err}
 use Rattle.std.specs.List.{slice_split, before_last, after_last, list_any}
 use Rattle.cd_fill.specs.declared.scene.Scene.{Scene}
 use Rattle.cd_fill.specs.declared.limits.TheConstants.{MAX_FILLED_BYTES}
@@ -14,6 +14,10 @@ open_brace byte = byte == 123
 -- `}`
 abbrev pub close_brace : ℕ → Bool
 close_brace byte = byte == 125
+
+-- either of them
+abbrev pub is_brace : ℕ → Bool
+is_brace byte = open_brace byte || close_brace byte
 
 -- what stands in place of `{NAME}`: an unknown one stays as written
 unfoldable pub placeholder : Scene → List ℕ → List ℕ

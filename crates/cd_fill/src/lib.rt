@@ -5,7 +5,8 @@
 //! scene in which a request meets the first route (specs/Scene.antt).
 //!
 //! `fill` replaces the placeholders of a text, as `{http.request.method}`, by what they stand for in a scene. The table of
-//! names is in specs/Values.antt, and what a placeholder is in specs/Filling.antt.
+//! names is in specs/Values.antt, and what a placeholder is in specs/Filling.antt. `placeholders_are_replaced` says what that
+//! means, one law for each form that a text may have.
 //!
 //! Which texts are filled is left to the crates above, and so is what a handler changes.
 #![tactic(auto)]
@@ -15,6 +16,7 @@ mod fault;
 mod filling;
 mod host;
 mod joining;
+mod laws;
 mod limits;
 mod query;
 mod request_line;
@@ -29,6 +31,7 @@ pub use failure::Failure;
 pub use fault::FillFault;
 pub use filling::fill;
 pub use host::host_without_port;
+pub use laws::placeholders_are_replaced;
 pub use limits::MAX_FILLED_BYTES;
 pub use request_line::RequestLine;
 pub use scene::Scene;
