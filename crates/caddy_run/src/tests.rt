@@ -1,8 +1,11 @@
-ghost use Rattle.std.specs.Prelude.{◌≡◌, ◌∷◌, [], IfOk, None};
+ghost use Rattle.std.specs.Prelude.{◌≡◌, ◌∷◌, [], IfOk, None, false};
 
 use crate::one_lane;
 use crate::top::{Ended, caddy_main};
-use cd_outside::{Accepted, Address, Call, MemoryFixtures, MemoryLane, MemorySink, MemorySource};
+use cd_outside::{
+    Accepted, Address, Call, Given, Key, Lane, MemoryFixtures, MemoryLane, MemorySink,
+    MemorySource, Taken,
+};
 use cd_text::{List, NoMemory, Octets, Text};
 use std::alloc::Global;
 use std::process::Abort;
@@ -495,5 +498,86 @@ fn a_status_stays_where_its_line_cannot_be_written(rt: HostRuntime) -> Result<()
         let outcome = run(&rt, rt.alloc(), texts, config.as_bytes(), script, failing)?;
         check(&rt, &outcome, status, "", 0);
     }
+    Ok(())
+}
+
+// A lane in memory that counts how often it may rest.
+#[derive(Drop)]
+struct Resting {
+    lane: MemoryLane,
+    rests: u64,
+}
+
+impl Lane for Resting {
+    ghost faults = { λ resting. ⟦<MemoryLane as Lane>⟧.faults resting.lane };
+
+    ghost busy = { λ resting. ⟦<MemoryLane as Lane>⟧.busy resting.lane };
+
+    ghost past = { λ resting. ⟦<MemoryLane as Lane>⟧.past resting.lane };
+
+    fn accept(&mut self) -> Accepted {
+        self.lane.accept()
+    }
+
+    fn read(&mut self, into: &mut [u8]) -> Taken {
+        self.lane.read(into)
+    }
+
+    fn rest(&mut self) {
+        self.rests = self.rests.saturating_add(1);
+    }
+
+    fn write(&mut self, piece: &[u8]) -> Given {
+        self.lane.write(piece)
+    }
+
+    fn log(&mut self, key: &Key, line: &Text) -> Given {
+        self.lane.log(key, line)
+    }
+
+    fn end(&mut self) {
+        self.lane.end()
+    }
+}
+
+fn resting_of(lane: MemoryLane) -> Resting
+    requires { lane.current ≡ None }
+    ensures { ⟦<Resting as Lane>⟧.busy result ≡ false }
+{
+    Resting { lane, rests: 0 }
+}
+
+// The first request comes in two pieces: the lane rests before the first, before the one behind it and before the end, but not
+// between the two.
+#[test]
+fn a_lane_rests_where_every_byte_is_answered(rt: HostRuntime) -> Result<(), NoMemory> {
+    let mut script = List::new(rt.alloc());
+    let mut pieces = List::new(rt.alloc());
+    for piece in ["GET / HTTP/1.1\r\n", "Host: a\r\n\r\n", GET] {
+        pieces.push(Octets::from_slice(rt.alloc(), piece.as_bytes())?)?;
+    }
+    script.push(Call {
+        address: Address::stdio(rt.alloc())?,
+        pieces,
+    })?;
+    let lane = resting_of(lane_of(rt.alloc(), script, NEVER)?);
+    let words = words(rt.alloc(), &STDIO)?;
+    let config = self::pieces(rt.alloc(), HELLO.as_bytes(), 100_000)?;
+    let mut config = MemorySource::new(config, List::new(rt.alloc()));
+    let mut out = MemorySink::new(rt.alloc(), List::new(rt.alloc()));
+    let fixtures = MemoryFixtures::new(rt.alloc(), List::new(rt.alloc()))?;
+    let lanes = one_lane(rt.alloc(), lane)?;
+    let ended = caddy_main(
+        &rt,
+        rt.alloc(),
+        words.as_slice(),
+        &mut config,
+        &mut out,
+        fixtures,
+        lanes,
+    );
+    assert_eq!(rt; ended.answered, 2);
+    let lane = ended.lanes.get(0).ok_or(NoMemory)?;
+    assert_eq!(rt; lane.rests, 3);
     Ok(())
 }
