@@ -1,5 +1,5 @@
 -- The state in which a request meets the first route.
-use Rattle.std.specs.Prelude.{ℕ, List, [], ◌∷◌, codes, if◌then◌else◌, None, nat_eq}
+use Rattle.std.specs.Prelude.{ℕ, List, [], ◌∷◌, codes, if◌then◌else◌, None, unwrap_or, nat_eq}
 use Rattle.std.specs.List.{starts_with}
 use Rattle.cd_wire.specs.declared.fields.Field.{Field}
 use Rattle.cd_wire.specs.declared.request.Request.{Request}
@@ -32,7 +32,7 @@ server_field = record { name = codes "server"; value = codes "Caddy" }
 abbrev pub scene_of : Request → Scene
 scene_of request = record {
   current = line_of request;
-  original = line_of request;
+  original = None;
   host = request.host;
   minor = request.minor;
   fields = request.fields;
@@ -42,3 +42,7 @@ scene_of request = record {
   response = server_field ∷ [];
   error = None;
 }
+
+-- what was asked for at first: until something is rewritten that is what is asked for now
+abbrev pub original_line : Scene → RequestLine
+original_line x = unwrap_or x.original x.current

@@ -8,6 +8,7 @@ use Rattle.form_urlencoded.specs.Form.{raw_pairs, decode}
 use Rattle.cd_wire.specs.declared.fields.Field.{Field}
 use Rattle.cd_wire.specs.Render.{reason_of}
 use Rattle.cd_fill.specs.declared.scene.Scene.{Scene}
+use Rattle.cd_fill.specs.Scene.{original_line}
 use Rattle.cd_fill.specs.declared.failure.Failure.{Failure}
 use Rattle.cd_fill.specs.declared.variable.Variable.{Variable}
 
@@ -56,7 +57,7 @@ value_of_variable variables name =
 unfoldable pub kept_value : Scene → List ℕ → Option (List ℕ)
 kept_value x name =
     if bytes_eq name (codes "method") then Some x.current.method
-    else if bytes_eq name (codes "orig_method") then Some x.original.method
+    else if bytes_eq name (codes "orig_method") then Some (original_line x).method
     else if bytes_eq name (codes "host") then Some (bare_host x.host)
     else if bytes_eq name (codes "hostport") then Some x.host
     else if bytes_eq name (codes "proto") then Some (proto x.minor)
@@ -64,9 +65,9 @@ kept_value x name =
     else if bytes_eq name (codes "uri") then Some x.current.uri
     else if bytes_eq name (codes "uri.path") then Some x.current.path
     else if bytes_eq name (codes "uri.query") then Some (unwrap_or x.current.query [])
-    else if bytes_eq name (codes "orig_uri") then Some x.original.uri
-    else if bytes_eq name (codes "orig_uri.path") then Some x.original.path
-    else if bytes_eq name (codes "orig_uri.query") then Some (unwrap_or x.original.query [])
+    else if bytes_eq name (codes "orig_uri") then Some (original_line x).uri
+    else if bytes_eq name (codes "orig_uri.path") then Some (original_line x).path
+    else if bytes_eq name (codes "orig_uri.query") then Some (unwrap_or (original_line x).query [])
     else None
 
 -- `http.request.NAME`

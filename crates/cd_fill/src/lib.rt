@@ -35,4 +35,4 @@ pub use laws::placeholders_are_replaced;
 pub use limits::MAX_FILLED_BYTES;
 pub use request_line::RequestLine;
 pub use scene::Scene;
-pub use variable::Variable;
+pub use variable::{Variable, value_of_variable};

@@ -1,5 +1,5 @@
 ghost use Rattle.std.specs.Prelude.{◌≡◌, [], ◌∷◌, IfOk};
-ghost use Rattle.cd_fill.specs.Scene.{line_of, server_field, scene_of};
+ghost use Rattle.cd_fill.specs.Scene.{line_of, server_field, scene_of, original_line};
 
 use crate::uri::uri_of;
 use crate::{Failure, RequestLine, Variable};
@@ -12,8 +12,8 @@ use std::alloc::Global;
 pub struct Scene {
     /// What is asked for, as handlers have left it.
     pub current: RequestLine,
-    /// What was asked for at first.
-    pub original: RequestLine,
+    /// What was asked for at first, once something is rewritten. Until then `current` is that too: see `original_line`.
+    pub original: Option<RequestLine>,
     /// The host that is asked for, with its port where one is named.
     pub host: Octets,
     /// The second number of the version: 1 for HTTP/1.1.
@@ -96,7 +96,7 @@ impl Scene {
     {
         Ok(Scene {
             current: line_of(alloc, request)?,
-            original: line_of(alloc, request)?,
+            original: None,
             host: request.host.copy(alloc)?,
             minor: request.minor,
             fields: copy_fields(alloc, request.fields.as_slice())?,
@@ -106,5 +106,15 @@ impl Scene {
             response: first_response(alloc)?,
             error: None,
         })
+    }
+
+    /// What was asked for at first. It takes no memory.
+    pub fn original_line(&self) -> &RequestLine
+        ensures { result.now ≡ original_line self.now }
+    {
+        match &self.original {
+            Some(line) => line,
+            None => &self.current,
+        }
     }
 }

@@ -1,8 +1,9 @@
 //! What the definitions are to mean: scenes of heads as a client sends them, and what placeholders of each name give there.
-use crate::{Failure, FillFault, MAX_FILLED_BYTES, Scene, Variable, fill};
+use crate::{Failure, FillFault, MAX_FILLED_BYTES, RequestLine, Scene, Variable, fill};
 use cd_text::{List, NoMemory, Octets, Text};
 use cd_wire::{Intake, Next, Request};
 use std::alloc::Global;
+use std::mem::replace;
 use std::process::Abort;
 use std::test::Fail;
 
@@ -106,10 +107,13 @@ fn variables(alloc: Global, pairs: &[(&str, &str)]) -> Result<List<Variable>, No
 
 // The scene as handlers may have left it: rewritten, with variables, and with an error.
 fn rewritten(alloc: Global, scene: &mut Scene, status: u16) -> Result<(), NoMemory> {
-    scene.current.method = Text::from_str(alloc, "POST")?;
-    scene.current.path = Octets::from_slice(alloc, b"/\xff")?;
-    scene.current.query = None;
-    scene.current.uri = Octets::from_slice(alloc, b"/%FF")?;
+    let line = RequestLine {
+        method: Text::from_str(alloc, "POST")?,
+        path: Octets::from_slice(alloc, b"/\xff")?,
+        query: None,
+        uri: Octets::from_slice(alloc, b"/%FF")?,
+    };
+    scene.original = Some(replace(&mut scene.current, line));
     scene.variables = variables(
         alloc,
         &[
@@ -297,7 +301,7 @@ fn a_scene_begins_as_its_request(rt: HostRuntime) -> Result<(), Fail> {
             let shown = parts_shown(alloc, &scene)?;
             assert!(rt; shown.equals(wanted.as_bytes()), "{head}");
             assert_eq!(rt; scene.current.query.is_some(), has_query, "{head}");
-            assert_eq!(rt; scene.original.query.is_some(), has_query, "{head}");
+            assert_eq!(rt; scene.original_line().query.is_some(), has_query, "{head}");
         }
     }
     Ok(())
@@ -312,7 +316,7 @@ fn a_scene_has_all_of_its_request_and_nothing_more(rt: HostRuntime) -> Result<()
     let Some(scene) = scene else {
         return Ok(());
     };
-    assert!(rt; scene.original.method.equals("PUT"));
+    assert!(rt; scene.original.is_none() && scene.original_line().method.equals("PUT"));
     assert!(rt; scene.body.equals(b"abc"));
     assert_eq!(rt; scene.minor, 1);
     assert_eq!(rt; scene.fields.len(), 3);

@@ -57,7 +57,7 @@ fn kept_value<'a>(scene: &'a Scene, name: &[u8]) -> Option<&'a [u8]>
     if is(name, "method") {
         Some(scene.current.method.as_str().as_bytes())
     } else if is(name, "orig_method") {
-        Some(scene.original.method.as_str().as_bytes())
+        Some(scene.original_line().method.as_str().as_bytes())
     } else if is(name, "host") {
         Some(host_without_port(scene.host.as_slice()))
     } else if is(name, "hostport") {
@@ -73,11 +73,11 @@ fn kept_value<'a>(scene: &'a Scene, name: &[u8]) -> Option<&'a [u8]>
     } else if is(name, "uri.query") {
         Some(or_empty(&scene.current.query))
     } else if is(name, "orig_uri") {
-        Some(scene.original.uri.as_slice())
+        Some(scene.original_line().uri.as_slice())
     } else if is(name, "orig_uri.path") {
-        Some(scene.original.path.as_slice())
+        Some(scene.original_line().path.as_slice())
     } else if is(name, "orig_uri.query") {
-        Some(or_empty(&scene.original.query))
+        Some(or_empty(&scene.original_line().query))
     } else {
         None
     }

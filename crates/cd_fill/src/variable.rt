@@ -10,9 +10,9 @@ pub struct Variable {
     pub value: Octets,
 }
 
-/// The value of a variable: that of the last one with the name, and nothing where there is none.
+/// The value of a variable: that of the last one with the name, and nothing where there is none. It takes no memory.
 #[tactic(auto, unfolding(crate::specs::Values::value_of_variable))]
-pub(crate) fn value_of_variable<'a>(variables: &'a [Variable], name: &[u8]) -> &'a [u8]
+pub fn value_of_variable<'a>(variables: &'a [Variable], name: &[u8]) -> &'a [u8]
     ensures { result.now ≡ value_of_variable variables.now name.now }
 {
     let mut found: &'a [u8] = &[];
