@@ -1,4 +1,4 @@
--- No way to read sees an id.
+-- No way to read sees an id, unless it names the member `@id`.
 use Rattle.std.proofs.Common.{◌≡◌, ℕ, zero, suc, ◌+◌, List, [], ◌∷◌, map, Bool, true, false, Option, Some, None, Result, Ok, sym, ap, ◌∙◌, refl, arith, rules, decimal, option_map}
 use Rattle.std.specs.Prelude.{codes, not, ◌&&◌, ◌||◌, if◌then◌else◌}
 use Rattle.std.specs.Result.{result_map_both}
@@ -14,7 +14,7 @@ use Rattle.cd_tree.specs.declared.tree.Tree.{Tree, out-Tree, roll-Tree, roll-out
 use Rattle.cd_tree.specs.declared.tree.Tree.TheOpen.{Tree-F}
 use Rattle.cd_module.specs.Faults.{of_field}
 use Rattle.cd_module.specs.Recursion.{levels, recursive}
-use Rattle.cd_module.specs.Settings.{Reader, text_layer, text, truth_layer, truth, whole_layer, whole, each, list_layer, list_of, members, where_there, optional, must_be_there, needed, all_layer, name_of, is_setting, each_member, object_layer, object_of}
+use Rattle.cd_module.specs.Settings.{Reader, text_layer, text, truth_layer, truth, whole_layer, whole, each, list_layer, list_of, members, where_there, optional, must_be_there, needed, all_layer, name_of, is_setting, is_no_id, each_member, object_layer, object_of, object_with_nulls}
 use Rattle.cd_module.specs.Bare.{no_ids, bare, SeesNoIds}
 use Rattle.cd_module.specs.declared.fault.LoadFault.{LoadFault}
 use Rattle.cd_module.proofs.Recursion.{Inward, enough, ▷-same}
@@ -252,6 +252,35 @@ object-layer r s (Tree-F.Object ms) at = each_member-bare r s ms at
 -- an object by name
 pub object_of-bare : {X : Type 0} (r : List ℕ → Reader X) → ((name : List ℕ) → SeesNoIds (r name)) → SeesNoIds (object_of r)
 object_of-bare r s = record { same = λ t at. ap (λ x. object_layer is_setting r x at) (out-bare t) ∙ object-layer r s (out-Tree t) at }
+
+-- ---- objects in which null has a meaning
+
+-- the first member, for the lemma below
+kept-more : {X : Type 0} (r : List ℕ → Reader X) (key : List ℕ) (b : Bool) (m : Member) (v : Tree) (ms : List Member) (at : Path) (rest : Result (List X) LoadFault) → ((name : List ℕ) → SeesNoIds (r name))
+    → bytes_eq key (codes "@id") ≡ b → (out-Member m).key ≡ key → (out-Member m).value ≡ bare v → each_member is_no_id r ms at ≡ rest
+    → each_member is_no_id r (if not b then (m ∷ ms) else ms) at ≡ (if not (bytes_eq key (codes "@id")) then then_these r rest at key v else rest)
+kept-more r key true m v ms at rest s eb ek ev er = er ∙ sym (ap (λ z. if not z then then_these r rest at key v else rest) eb)
+kept-more r key false m v ms at rest s eb ek ev er =
+    ap (λ k. if not (bytes_eq k (codes "@id")) then then_these r (each_member is_no_id r ms at) at k (out-Member m).value else each_member is_no_id r ms at) ek
+    ∙ (ap (λ w. if not (bytes_eq key (codes "@id")) then then_these r (each_member is_no_id r ms at) at key w else each_member is_no_id r ms at) ev
+    ∙ both_same (not (bytes_eq key (codes "@id"))) _ _ _ _ (▷-same (r key (bare v) (at ▸ key)) (r key v (at ▸ key)) _ _ ((s key).same v (at ▸ key)) (λ x. ap (λ z. z ▷ λ xs. Ok (x ∷ xs)) er)) er)
+
+each_kept-bare : {X : Type 0} (r : List ℕ → Reader X) → ((name : List ℕ) → SeesNoIds (r name)) → (ms : List Member) (at : Path) → each_member is_no_id r (no_ids (map bare_member ms)) at ≡ each_member is_no_id r ms at
+each_kept-bare r s [] at = refl
+each_kept-bare r s (m ∷ ms) at =
+    kept-more r (out-Member m).key (bytes_eq (out-Member (bare_member m)).key (codes "@id")) (bare_member m) (out-Member m).value (no_ids (map bare_member ms)) at (each_member is_no_id r ms at) s (ap (λ z. bytes_eq z (codes "@id")) (sym (key-bare m))) (key-bare m) (value-bare m) (each_kept-bare r s ms at)
+
+kept-layer : {X : Type 0} (r : List ℕ → Reader X) → ((name : List ℕ) → SeesNoIds (r name)) → (x : Tree-F Tree Member) (at : Path) → object_layer is_no_id r (bare_layer x) at ≡ object_layer is_no_id r x at
+kept-layer r s Tree-F.Null at = refl
+kept-layer r s (Tree-F.Bool b) at = refl
+kept-layer r s (Tree-F.Num n) at = refl
+kept-layer r s (Tree-F.Text t) at = refl
+kept-layer r s (Tree-F.Items items) at = refl
+kept-layer r s (Tree-F.Object ms) at = each_kept-bare r s ms at
+
+-- an object by name in which null has a meaning
+pub object_with_nulls-bare : {X : Type 0} (r : List ℕ → Reader X) → ((name : List ℕ) → SeesNoIds (r name)) → SeesNoIds (object_with_nulls r)
+object_with_nulls-bare r s = record { same = λ t at. ap (λ x. object_layer is_no_id r x at) (out-bare t) ∙ kept-layer r s (out-Tree t) at }
 
 -- ---- recursion
 

@@ -11,16 +11,9 @@ use Rattle.cd_tree.specs.declared.tree.Member.{Member, out-Member}
 use Rattle.cd_tree.specs.declared.tree.Tree.{Tree, out-Tree, roll-Tree, roll-out-Tree, the_lemmas}
 use Rattle.cd_tree.specs.declared.tree.Tree.TheOpen.{Tree-F}
 use Rattle.cd_module.specs.Recursion.{levels, recursive}
+pub use Rattle.cd_module.specs.Recursion.{Agree, Inward}
 use Rattle.cd_module.specs.Settings.{Reader, each, list_layer, list_of, where_there, optional, must_be_there, needed, is_setting, each_member, object_layer, object_of}
 use Rattle.cd_module.specs.declared.fault.LoadFault.{LoadFault}
-
--- two readers agree on values that nest less than this
-pub record Agree {X : Type 0} (n : ℕ) (f g : Reader X) : Type 0 where
-  pub same : (s : Tree) (p : Path) → depth s < n → f s p ≡ g s p
-
--- a body reads values inside alone
-pub record Inward {X : Type 0} (body : Reader X → Reader X) : Type 0 where
-  pub same : (f g : Reader X) (t : Tree) (at : Path) → Agree (depth t) f g → body f t at ≡ body g t at
 
 -- more levels than a tree is deep make no difference
 pub enough : {X : Type 0} (body : Reader X → Reader X) → Inward body → (n m : ℕ) (t : Tree) (at : Path) → depth t < n → depth t < m → levels body n t at ≡ levels body m t at

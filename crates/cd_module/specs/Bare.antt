@@ -1,4 +1,4 @@
--- Trees without ids: no reader sees an id.
+-- Trees without ids: a reader that names no member `@id` sees none.
 use Rattle.std.specs.Prelude.{◌≡◌, if◌then◌else◌, List, [], ◌∷◌}
 use Rattle.cd_tree.specs.declared.path.Path.{Path}
 use Rattle.cd_tree.specs.declared.tree.Member.{Member, roll-Member}

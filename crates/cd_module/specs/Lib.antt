@@ -2,6 +2,7 @@ pub mod Faults
 pub mod Words
 pub mod Ids
 pub mod Settings
+pub mod Patterns
 pub mod Recursion
 pub mod Nests
 pub mod Bare

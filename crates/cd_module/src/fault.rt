@@ -1,5 +1,5 @@
-ghost use Rattle.std.specs.Prelude.{◌≡◌, ◌≢◌};
-ghost use Rattle.cd_module.specs.Faults.{refused, of_field};
+ghost use Rattle.std.specs.Prelude.{◌≡◌, ◌≢◌, ◌++◌, IfOk};
+ghost use Rattle.cd_module.specs.Faults.{refused, unknown_module, of_field};
 
 use cd_text::{NoMemory, Text};
 use cd_tree::{FieldFault, Path};
@@ -31,6 +31,7 @@ pub enum LoadKind {
 /// Why a configuration is refused, and where. A field that its words do not use is empty.
 #[derive(Debug, Drop)]
 pub struct Refusal {
+    /// What is wrong.
     pub kind: LoadKind,
     /// Where. An unknown member's path ends in that member, a missing one's too; an unknown module's leads to the handler,
     /// the writer, the app or the matcher.
@@ -46,6 +47,7 @@ pub struct Refusal {
 pub enum LoadFault {
     /// By the configuration's fault.
     Refused(Refusal),
+    /// Memory ran out.
     NoMemory,
 }
 
@@ -82,6 +84,24 @@ impl<T: Drop> From<AllocFailed<T>> for LoadFault {
     }
 }
 
+fn unknown_module(
+    alloc: Global,
+    namespace: &str,
+    name: &str,
+    at: &Path,
+) -> Result<LoadFault, NoMemory>
+    ensures { IfOk result (λ fault. fault ≡ unknown_module (namespace.now ++ name.now) at.now) }
+{
+    let mut about = String::from_str(alloc, namespace)?;
+    about.push_str(name)?;
+    Ok(LoadFault::Refused(Refusal {
+        kind: LoadKind::UnknownModule,
+        at: at.copy(alloc)?,
+        other: Path::root(alloc),
+        about: Text::from_string(about),
+    }))
+}
+
 impl LoadFault {
     /// The fault of a kind at a path, with nothing else to say. It takes no memory.
     pub fn refused(alloc: Global, kind: LoadKind, at: Path) -> LoadFault
@@ -95,12 +115,22 @@ impl LoadFault {
         })
     }
 
-    /// The same at a path that is kept.
+    /// The same with a copy of the path; NoMemory where there is none.
     pub fn at(alloc: Global, kind: LoadKind, at: &Path) -> LoadFault
         ensures { result ≢ LoadFault.NoMemory → result ≡ refused kind at.now }
     {
         match at.copy(alloc) {
             Ok(at) => LoadFault::refused(alloc, kind, at),
+            Err(_) => LoadFault::NoMemory,
+        }
+    }
+
+    /// The fault of a name that no module of the namespace has. The namespace comes with its dot behind it.
+    pub fn unknown_module(alloc: Global, namespace: &str, name: &str, at: &Path) -> LoadFault
+        ensures { result ≢ LoadFault.NoMemory → result ≡ unknown_module (namespace.now ++ name.now) at.now }
+    {
+        match unknown_module(alloc, namespace, name, at) {
+            Ok(fault) => fault,
             Err(_) => LoadFault::NoMemory,
         }
     }

@@ -10,6 +10,7 @@ use std::alloc::Global;
 /// Names a module: labels joined by dots, as `http.handlers.static_response`.
 #[derive(Debug, Drop)]
 pub struct ModuleId {
+    /// In an id that was read: one or more, each of `a` to `z`, `0` to `9` and `_`.
     pub labels: List<Text>,
 }
 
@@ -18,6 +19,7 @@ pub struct ModuleId {
 pub enum IdFormFault {
     /// It is not made of labels of `a` to `z`, `0` to `9` and `_`, which single dots join.
     BadForm,
+    /// Memory ran out.
     NoMemory,
 }
 

@@ -1,7 +1,7 @@
 ghost use Rattle.std.specs.Prelude.{◌≡◌, ℕ, List};
 ghost use Rattle.cd_module.specs.Bare.{bare, SeesNoIds};
-ghost use Rattle.cd_module.specs.Nests.{nest};
-ghost use Rattle.cd_module.specs.Settings.{list_of, object_of};
+ghost use Rattle.cd_module.specs.Recursion.{Inward, recursive};
+ghost use Rattle.cd_module.specs.Settings.{Reader, list_of, object_of, object_with_nulls};
 
 use crate::named::Named;
 use crate::settings::Settings;
@@ -25,17 +25,19 @@ pub fn lists_see_no_ids<T: Settings>(tree: &Tree, at: &Path)
     let _ = at;
 }
 
-/// An object by name sees no ids where its members see none.
+/// An object by name sees no ids where its members see none, whether null has a meaning there or not.
 pub fn objects_see_no_ids<T: Named>(tree: &Tree, at: &Path)
-    ensures { ((name : List ℕ) → SeesNoIds (T.named name)) → object_of T.named (bare tree.now) at.now ≡ object_of T.named tree.now at.now }
+    ensures settings { ((name : List ℕ) → SeesNoIds (T.named name)) → object_of T.named (bare tree.now) at.now ≡ object_of T.named tree.now at.now }
+    ensures with_nulls { ((name : List ℕ) → SeesNoIds (T.named name)) → object_with_nulls T.named (bare tree.now) at.now ≡ object_with_nulls T.named tree.now at.now }
 {
     let _ = tree;
     let _ = at;
 }
 
-/// The example of a reader with needed and optional members that reads inside by itself sees no ids.
-pub fn nests_see_no_ids(tree: &Tree, at: &Path)
-    ensures { nest (bare tree.now) at.now ≡ nest tree.now at.now }
+/// A reader that reads values inside by itself sees no ids where its body sees none, given that what reads inside sees none.
+pub fn recursions_see_no_ids<T: Drop>(tree: &Tree, at: &Path)
+    ensures { (body : Reader T → Reader T) → Inward body → ((inner : Reader T) → SeesNoIds inner → SeesNoIds (body inner))
+        → recursive body (bare tree.now) at.now ≡ recursive body tree.now at.now }
 {
     let _ = tree;
     let _ = at;

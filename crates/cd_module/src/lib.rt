@@ -5,11 +5,14 @@
 //! contract says that the code gives what the definition gives, unless memory runs out.
 //!
 //! The order of faults is that of the words: an object's unknown members come before all else, then its members in the order
-//! in which they are read, each wholly; a list goes element by element, an object by name member by member. Null is absent.
+//! in which they are read, each wholly; a list goes element by element, an object by name member by member. A null
+//! member counts as absent, unless null has a meaning there; a null element of a list does not, and is of the wrong kind.
 //! A reader that reads values inside by itself is the `recursive` of its body (specs/Recursion.antt).
 //!
-//! No reader made of these words sees the ids of objects: trees that differ in ids alone give the same settings, or the same
-//! first fault (laws.rt, specs/Bare.antt).
+//! A `Pattern` is a text with a `*` for any bytes, which several modules have among their settings (specs/Patterns.antt).
+//!
+//! A reader made of these words sees the ids of objects only where it names a member `@id`. To one that names none, trees
+//! that differ in ids alone give the same settings, or the same first fault (laws.rt, specs/Bare.antt).
 //!
 //! Which modules there are and what their settings mean is left to the crates above.
 #![tactic(auto)]
@@ -20,6 +23,9 @@ mod laws;
 mod lists;
 mod members;
 mod named;
+mod pattern;
+#[cfg(test)]
+mod pattern_tests;
 mod settings;
 #[cfg(test)]
 mod tests;
@@ -30,7 +36,8 @@ mod wording;
 
 pub use fault::{LoadFault, LoadKind, Refusal};
 pub use id::{IdFormFault, ModuleId};
-pub use laws::{ids_are_not_seen, lists_see_no_ids, nests_see_no_ids, objects_see_no_ids};
+pub use laws::{ids_are_not_seen, lists_see_no_ids, objects_see_no_ids, recursions_see_no_ids};
 pub use members::{fields_of, is_a_setting, name_of, needed, optional};
-pub use named::{Named, object_by_name};
+pub use named::{Named, object_by_name, object_by_name_with_nulls};
+pub use pattern::Pattern;
 pub use settings::Settings;

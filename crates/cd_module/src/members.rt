@@ -55,10 +55,9 @@ pub fn needed<T: Settings>(
 ) -> Result<T, LoadFault>
     ensures { Gives LoadFault.NoMemory result (needed_of T.reader name.now fields.now.members.now at.now) }
 {
-    let here = at.member(alloc, name)?;
-    match fields.get(name) {
-        None => Err(LoadFault::refused(alloc, LoadKind::Missing, here)),
-        Some(tree) => T::read(alloc, tree, &here),
+    match fields.need(alloc, at, name) {
+        Ok(tree) => T::read(alloc, tree, &at.member(alloc, name)?),
+        Err(fault) => Err(LoadFault::of_field(alloc, fault)),
     }
 }
 

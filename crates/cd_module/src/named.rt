@@ -1,6 +1,7 @@
 ghost use Rattle.std.specs.Prelude.{List, ℕ, Result};
 ghost use Rattle.cd_text.specs.Gives.{Gives};
-ghost use Rattle.cd_module.specs.Settings.{each_member, object_of, is_setting};
+ghost use Rattle.std.specs.Prelude.{◌≡◌};
+ghost use Rattle.cd_module.specs.Settings.{each_member, object_of, object_with_nulls, is_setting, is_no_id};
 ghost use Rattle.cd_module.specs.declared.fault.LoadFault.{LoadFault};
 ghost use Rattle.cd_tree.specs.declared.path.Path.{Path};
 ghost use Rattle.cd_tree.specs.declared.tree.Tree.{Tree};
@@ -40,6 +41,44 @@ fn read_each_member<T: Named>(
     let mut found = List::new(alloc);
     for member in members.as_slice() {
         if !is_a_setting(member) {
+            continue;
+        }
+        let here = at.member(alloc, member.key.as_str())?;
+        found.push(T::read_named(alloc, &member.key, &member.value, &here)?)?;
+    }
+    Ok(found)
+}
+
+/// The same where null has a meaning: a null member is read too, and `@id` alone is none.
+pub fn object_by_name_with_nulls<T: Named>(
+    alloc: Global,
+    tree: &Tree,
+    at: &Path,
+) -> Result<List<T>, LoadFault>
+    ensures { Gives LoadFault.NoMemory result (object_with_nulls T.named tree.now at.now) }
+{
+    match tree {
+        Tree::Object(members) => read_each_with_nulls(alloc, members, at),
+        _ => Err(LoadFault::at(alloc, LoadKind::WrongKind, at)),
+    }
+}
+
+fn is_no_id(member: &Member) -> bool
+    ensures { result ≡ is_no_id member.now }
+{
+    !member.key.equals("@id")
+}
+
+fn read_each_with_nulls<T: Named>(
+    alloc: Global,
+    members: &List<Member>,
+    at: &Path,
+) -> Result<List<T>, LoadFault>
+    ensures { Gives LoadFault.NoMemory result (each_member is_no_id T.named members.now at.now) }
+{
+    let mut found = List::new(alloc);
+    for member in members.as_slice() {
+        if !is_no_id(member) {
             continue;
         }
         let here = at.member(alloc, member.key.as_str())?;

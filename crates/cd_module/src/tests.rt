@@ -1,7 +1,7 @@
-use crate::toy::{House, Room, Shelf, read_house, read_nest};
+use crate::toy::{House, Room, Shelf, Sign, nests_see_no_ids, read_house, read_nest, read_signs};
 use crate::{
-    IdFormFault, LoadFault, LoadKind, ModuleId, Refusal, Settings, ids_are_not_seen,
-    lists_see_no_ids, name_of, nests_see_no_ids, objects_see_no_ids,
+    IdFormFault, LoadFault, LoadKind, ModuleId, Pattern, Refusal, Settings, ids_are_not_seen,
+    lists_see_no_ids, name_of, objects_see_no_ids, recursions_see_no_ids,
 };
 use cd_text::{List, NoMemory, Text};
 use cd_tree::{Path, Tree, read};
@@ -146,6 +146,61 @@ fn objects_by_name_are_read_by_rising_name(rt: HostRuntime) -> Result<(), Fail> 
     Ok(())
 }
 
+fn add_patterns(text: &mut String, patterns: &List<Pattern>) -> Result<(), NoMemory> {
+    for pattern in patterns.as_slice() {
+        text.push_str(match pattern {
+            Pattern::Exact(_) => " exact",
+            Pattern::Prefix(_) => " prefix",
+            Pattern::Suffix(_) => " suffix",
+            Pattern::Part(_) => " part",
+        })?;
+    }
+    Ok(())
+}
+
+fn add_signs(text: &mut String, signs: &List<Sign>) -> Result<(), NoMemory> {
+    for sign in signs.as_slice() {
+        text.push_str(sign.name.as_str())?;
+        match &sign.patterns {
+            Some(patterns) => add_patterns(text, patterns)?,
+            None => text.push_str(" null")?,
+        }
+        text.push(';')?;
+    }
+    Ok(())
+}
+
+fn signs_told(alloc: Global, tree: &Tree) -> Result<Text, NoMemory> {
+    match read_signs(alloc, tree, &Path::root(alloc)) {
+        Ok(signs) => {
+            let mut text = String::new(alloc);
+            add_signs(&mut text, &signs)?;
+            Ok(Text::from_string(text))
+        }
+        Err(fault) => words(alloc, fault),
+    }
+}
+
+#[test]
+fn a_null_is_read_where_it_has_a_meaning(rt: HostRuntime) -> Result<(), Fail> {
+    for (text, told) in [
+        (
+            r#"{"c":["/a*","*b","*c*","d"],"b":[],"a":null}"#,
+            "a null;b;c prefix suffix part exact;",
+        ),
+        (r#"{"@id":"q","a":null}"#, "a null;"),
+        (r#"{"@id":null}"#, ""),
+        ("{}", ""),
+        (r#"{"a":null,"b":["/",null]}"#, "wrong kind at /b/1"),
+        (r#"{"b":true,"@id":1}"#, "wrong kind at /b"),
+        ("null", "wrong kind at /"),
+    ] {
+        let tree = tree_of(rt.alloc(), text)?;
+        assert!(rt; signs_told(rt.alloc(), &tree)?.equals(told), "{text}");
+    }
+    Ok(())
+}
+
 #[test]
 fn a_reader_reads_inside_by_itself(rt: HostRuntime) -> Result<(), Fail> {
     for (text, told) in [
@@ -231,6 +286,30 @@ fn each_refusal_has_its_words(rt: HostRuntime) -> Result<(), Fail> {
     Ok(())
 }
 
+// The words of a module that is unknown at `/a/0`.
+fn unknown_told(alloc: Global, namespace: &str, name: &str) -> Result<Text, NoMemory> {
+    let at = Path::root(alloc).member(alloc, "a")?.element(alloc, 0)?;
+    words(
+        alloc,
+        LoadFault::unknown_module(alloc, namespace, name, &at),
+    )
+}
+
+#[test]
+fn an_unknown_module_is_named_with_its_namespace(rt: HostRuntime) -> Result<(), Fail> {
+    for (namespace, name, told) in [
+        (
+            "http.handlers.",
+            "nope",
+            "unknown module http.handlers.nope at /a/0",
+        ),
+        ("", "tls", "unknown module tls at /a/0"),
+    ] {
+        assert!(rt; unknown_told(rt.alloc(), namespace, name)?.equals(told));
+    }
+    Ok(())
+}
+
 // The labels before the last one, each behind a slash, and the last one behind a space; or a question mark.
 fn id_told(alloc: Global, text: &str) -> Result<Text, NoMemory> {
     match ModuleId::read(alloc, &Text::from_str(alloc, text)?) {
@@ -272,6 +351,7 @@ fn names_of_modules_are_labels_between_single_dots(rt: HostRuntime) -> Result<()
     Ok(())
 }
 
+// Nothing is asserted here: what counts is that each law is proved for a type that there is.
 #[test]
 fn the_laws_speak_of_types_that_there_are(rt: HostRuntime) -> Result<(), Fail> {
     let tree = tree_of(rt.alloc(), r#"{"@id":"a","b":{"@id":"c"}}"#)?;
@@ -280,6 +360,7 @@ fn the_laws_speak_of_types_that_there_are(rt: HostRuntime) -> Result<(), Fail> {
     ids_are_not_seen::<Shelf>(&tree, &other, &at);
     lists_see_no_ids::<Shelf>(&tree, &at);
     objects_see_no_ids::<Room>(&tree, &at);
+    recursions_see_no_ids::<List<Text>>(&tree, &at);
     nests_see_no_ids(&tree, &at);
     Ok(())
 }

@@ -1,8 +1,13 @@
+ghost use Rattle.std.specs.Prelude.{◌≡◌};
 ghost use Rattle.cd_text.specs.Gives.{Gives};
+ghost use Rattle.cd_module.specs.Bare.{bare};
 ghost use Rattle.cd_module.specs.Settings.{optional as optional_of};
 ghost use Rattle.cd_module.specs.Nests.{layer, nest};
 
-use crate::{LoadFault, Named, Settings, fields_of, needed, object_by_name, optional};
+use crate::{
+    LoadFault, Named, Pattern, Settings, fields_of, needed, object_by_name,
+    object_by_name_with_nulls, optional,
+};
 use cd_text::{List, Text};
 use cd_tree::{Fields, Num, Path, Tree};
 use std::alloc::Global;
@@ -69,6 +74,37 @@ pub fn read_house(alloc: Global, tree: &Tree, at: &Path) -> Result<House, LoadFa
     })
 }
 
+/// A member of an object in which null has a meaning: a list of patterns, or none.
+#[derive(Drop)]
+pub struct Sign {
+    pub name: Text,
+    pub patterns: Option<List<Pattern>>,
+}
+
+impl Named for Sign {
+    ghost use Rattle.std.specs.Prelude.{Ok, Some, None, if◌then◌else◌};
+    ghost use Rattle.cd_text.specs.Steps.{◌▷◌};
+    ghost use Rattle.cd_tree.specs.Fields.{is_null};
+    ghost use Rattle.cd_module.specs.Patterns.{pattern};
+    ghost use Rattle.cd_module.specs.Settings.{list_of};
+
+    ghost named = { λ name t at. if is_null t then Ok (record { name = name; patterns = None }) else (list_of pattern t at ▷ λ patterns. Ok (record { name = name; patterns = Some patterns })) };
+
+    fn read_named(alloc: Global, name: &Text, tree: &Tree, at: &Path) -> Result<Sign, LoadFault> {
+        let patterns = match tree {
+            Tree::Null => None,
+            _ => Some(List::<Pattern>::read(alloc, tree, at)?),
+        };
+        let name = name.copy(alloc)?;
+        Ok(Sign { name, patterns })
+    }
+}
+
+/// An object in which null has a meaning.
+pub fn read_signs(alloc: Global, tree: &Tree, at: &Path) -> Result<List<Sign>, LoadFault> {
+    object_by_name_with_nulls::<Sign>(alloc, tree, at)
+}
+
 /// Labels in one another, from the innermost out.
 #[cycle(nest)]
 pub fn read_nest(alloc: Global, tree: &Tree, at: &Path) -> Result<List<Text>, LoadFault>
@@ -104,4 +140,12 @@ fn read_inside(
         None => Ok(None),
         Some(tree) => Ok(Some(read_nest(alloc, tree, &at.member(alloc, name)?)?)),
     }
+}
+
+/// A reader that reads inside by itself, with a needed and an optional member, sees no ids.
+pub fn nests_see_no_ids(tree: &Tree, at: &Path)
+    ensures { nest (bare tree.now) at.now ≡ nest tree.now at.now }
+{
+    let _ = tree;
+    let _ = at;
 }
