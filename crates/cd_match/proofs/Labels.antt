@@ -1,0 +1,78 @@
+-- A host is compared with a pattern label by label.
+use Rattle.std.proofs.Common.{◌≡◌, ℕ, ◌<◌, ◌&&◌, Bool, true, false, not, List, [], ◌∷◌, length, refl, ap, sym, ◌∙◌, arith, None}
+use Rattle.std.specs.Cmp.Lexicographic.{pointwise}
+use Rattle.std.specs.List.{slice_split, before_first, after_first, position_or_len, position}
+use Rattle.std.proofs.lemmas.Bool.Decides.{nat_tests}
+use Rattle.std.proofs.lemmas.List.Splits.{slice_split_first, slice_split_none, length-slice_split}
+use Rattle.std.proofs.lemmas.List.Sums.{fails_before_first, prefix_len-le-length}
+use Rattle.cd_match.specs.Host.{is_dot, labels, label_fits, host_fits}
+
+pub no_dot : (text : List ℕ) → position is_dot text ≡ None → position_or_len is_dot text ≡ length text
+no_dot text none = grind (arith, nat_tests, prefix_len-le-length (λ b. not (is_dot b)) text)
+
+one_label : (text : List ℕ) → position_or_len is_dot text ≡ length text → labels text ≡ text ∷ []
+one_label text none = slice_split_none is_dot text (λ k d h. fails_before_first is_dot text k d (omega arith))
+
+first_label : (text : List ℕ) → position_or_len is_dot text < length text → labels text ≡ before_first is_dot text ∷ labels (after_first is_dot text)
+first_label text within = slice_split_first is_dot text 0 within
+
+-- a first label of each: they fit, and what follows fits
+pub more_labels : (pattern host : List ℕ) → position_or_len is_dot pattern < length pattern → position_or_len is_dot host < length host
+    → host_fits pattern host ≡ (label_fits (before_first is_dot pattern) (before_first is_dot host) && host_fits (after_first is_dot pattern) (after_first is_dot host))
+unfolding host_fits
+more_labels pattern host p h = ap (λ ls. pointwise label_fits ls (labels host)) (first_label pattern p) ∙ ap (λ ls. pointwise label_fits (before_first is_dot pattern ∷ labels (after_first is_dot pattern)) ls) (first_label host h)
+
+and_true : (b : Bool) → (b && true) ≡ b
+and_true true = refl
+and_true false = refl
+
+and_false : (b : Bool) → (b && false) ≡ false
+and_false true = refl
+and_false false = refl
+
+-- one label each
+pub last_labels : (pattern host : List ℕ) → position_or_len is_dot pattern ≡ length pattern → position_or_len is_dot host ≡ length host
+    → host_fits pattern host ≡ label_fits pattern host
+unfolding host_fits
+last_labels pattern host p h =
+    ap (λ ls. pointwise label_fits ls (labels host)) (one_label pattern p) ∙ ap (λ ls. pointwise label_fits (pattern ∷ []) ls) (one_label host h) ∙ and_true (label_fits pattern host)
+
+-- labels that are left on one side alone
+none_left : (ls : List (List ℕ)) → 0 < length ls → pointwise label_fits [] ls ≡ false
+none_left [] some = absurd (omega arith)
+none_left (l ∷ ls) some = refl
+
+none_right : (ls : List (List ℕ)) → 0 < length ls → pointwise label_fits ls [] ≡ false
+none_right [] some = absurd (omega arith)
+none_right (l ∷ ls) some = refl
+
+some_label : (text : List ℕ) → 0 < length (labels text)
+some_label text = omega (arith, length-slice_split is_dot text)
+
+pub longer_host : (pattern host : List ℕ) → position_or_len is_dot pattern ≡ length pattern → position_or_len is_dot host < length host → host_fits pattern host ≡ false
+unfolding host_fits
+longer_host pattern host p h =
+    ap (λ ls. pointwise label_fits ls (labels host)) (one_label pattern p) ∙ ap (λ ls. pointwise label_fits (pattern ∷ []) ls) (first_label host h)
+    ∙ ap (λ b. label_fits pattern (before_first is_dot host) && b) (none_left (labels (after_first is_dot host)) (some_label (after_first is_dot host))) ∙ and_false (label_fits pattern (before_first is_dot host))
+
+pub longer_pattern : (pattern host : List ℕ) → position_or_len is_dot pattern < length pattern → position_or_len is_dot host ≡ length host → host_fits pattern host ≡ false
+unfolding host_fits
+longer_pattern pattern host p h =
+    ap (λ ls. pointwise label_fits ls (labels host)) (first_label pattern p) ∙ ap (λ ls. pointwise label_fits (before_first is_dot pattern ∷ labels (after_first is_dot pattern)) ls) (one_label host h)
+    ∙ ap (λ b. label_fits (before_first is_dot pattern) host && b) (none_right (labels (after_first is_dot pattern)) (some_label (after_first is_dot pattern))) ∙ and_false (label_fits (before_first is_dot pattern) host)
+
+-- the first labels decide, or what follows does
+pub step_fails : (pattern host wanted others label behind : List ℕ) → position_or_len is_dot pattern < length pattern → wanted ≡ before_first is_dot pattern → others ≡ after_first is_dot pattern
+    → position_or_len is_dot host < length host → label ≡ before_first is_dot host → behind ≡ after_first is_dot host → label_fits wanted label ≡ false → host_fits pattern host ≡ false
+step_fails pattern host wanted others label behind p w o h l b fails =
+    more_labels pattern host p h ∙ ap (λ z. label_fits z (before_first is_dot host) && host_fits (after_first is_dot pattern) (after_first is_dot host)) (sym w)
+    ∙ ap (λ z. label_fits wanted z && host_fits (after_first is_dot pattern) (after_first is_dot host)) (sym l)
+    ∙ ap (λ z. z && host_fits (after_first is_dot pattern) (after_first is_dot host)) fails
+
+pub step_fits : (pattern host wanted others label behind : List ℕ) → position_or_len is_dot pattern < length pattern → wanted ≡ before_first is_dot pattern → others ≡ after_first is_dot pattern
+    → position_or_len is_dot host < length host → label ≡ before_first is_dot host → behind ≡ after_first is_dot host → label_fits wanted label ≡ true → host_fits pattern host ≡ host_fits others behind
+step_fits pattern host wanted others label behind p w o h l b fits =
+    more_labels pattern host p h ∙ ap (λ z. label_fits z (before_first is_dot host) && host_fits (after_first is_dot pattern) (after_first is_dot host)) (sym w)
+    ∙ ap (λ z. label_fits wanted z && host_fits (after_first is_dot pattern) (after_first is_dot host)) (sym l)
+    ∙ ap (λ z. z && host_fits (after_first is_dot pattern) (after_first is_dot host)) fits
+    ∙ ap (λ z. host_fits z (after_first is_dot host)) (sym o) ∙ ap (λ z. host_fits others z) (sym b)

@@ -1,0 +1,4 @@
+pub mod Levels
+pub mod Alike
+pub mod Meanings
+pub mod Labels

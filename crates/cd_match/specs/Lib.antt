@@ -1,0 +1,9 @@
+pub mod Escapes
+pub mod Host
+pub mod Path
+pub mod Method
+pub mod Header
+pub mod Query
+pub mod Vars
+pub mod Holds
+pub mod Matchers

@@ -1,0 +1,84 @@
+//! The matcher `host`.
+ghost use Rattle.std.specs.Prelude.{◌≡◌, ◌<◌, MatchOption, length};
+ghost use Rattle.std.specs.List.{before_first, after_first, position, position_or_len};
+ghost use Rattle.cd_match.specs.Host.{is_dot, label_fits, host_fits, host_holds};
+
+use cd_fill::{Scene, host_without_port};
+use cd_text::{List, Text};
+
+/// Holds where the host that is asked for, without its port, fits one of the patterns. A pattern fits a host with as many
+/// labels, where each label is the same in any case or `*`. Without patterns it never holds.
+#[derive(Debug, Drop)]
+pub struct HostMatcher {
+    pub patterns: List<Text>,
+}
+
+fn label_fits(wanted: &[u8], label: &[u8]) -> bool
+    ensures { result ≡ label_fits wanted.now label.now }
+{
+    wanted == b"*".as_slice() || wanted.eq_ignore_ascii_case(label)
+}
+
+fn first_dot(text: &[u8]) -> Option<usize>
+    ensures { result ≡ position is_dot text.now }
+{
+    text.iter().position(|byte| *byte == b'.')
+}
+
+// The first label and what stands behind its dot.
+fn split_at_dot(text: &[u8]) -> Option<(&[u8], &[u8])>
+    ensures { MatchOption result (position_or_len is_dot text.now ≡ length text.now)
+        (λ parts. (position_or_len is_dot text.now < length text.now)
+        × (parts.0.now ≡ before_first is_dot text.now)
+        × (parts.1.now ≡ after_first is_dot text.now)) }
+{
+    match first_dot(text) {
+        Some(end) => Some((&text[..end], &text[end + 1..])),
+        None => None,
+    }
+}
+
+// Whether the host is one label, which fits a pattern of one label.
+fn last_fits(pattern: &[u8], host: &[u8]) -> bool
+    requires { position_or_len is_dot pattern.now ≡ length pattern.now }
+    ensures { result ≡ host_fits pattern.now host.now }
+{
+    match split_at_dot(host) {
+        Some(_) => false,
+        None => label_fits(pattern, host),
+    }
+}
+
+// Whether the host has as many labels as the pattern, and each fits.
+fn host_fits(pattern: &[u8], host: &[u8]) -> bool
+    ensures { result ≡ host_fits pattern.now host.now }
+{
+    let mut wanted = pattern;
+    let mut left = host;
+    while let Some((label_wanted, others)) = split_at_dot(wanted) {
+        let Some((label, behind)) = split_at_dot(left) else {
+            return false;
+        };
+        if !label_fits(label_wanted, label) {
+            return false;
+        }
+        wanted = others;
+        left = behind;
+    }
+    last_fits(wanted, left)
+}
+
+impl HostMatcher {
+    /// Whether it holds. It takes no memory.
+    pub fn holds(&self, scene: &Scene) -> bool
+        ensures { result ≡ host_holds self.now scene.now }
+    {
+        let host = host_without_port(scene.host.as_slice());
+        for pattern in self.patterns.as_slice() {
+            if host_fits(pattern.as_str().as_bytes(), host) {
+                return true;
+            }
+        }
+        false
+    }
+}

@@ -1,0 +1,38 @@
+//! Matchers: when a route is taken.
+//!
+//! A route's `match` is a list of sets, each an object of matchers by name. A set holds where all its matchers hold, and a
+//! route is taken where one of its sets holds, or where it has none. Each matcher has a file of its own, here and in specs/:
+//! its settings, how they are read, and when it holds. The names of matchers are in specs/Matchers.antt.
+//!
+//! `Sets::read` gives the settings, or the first fault with its path. `Sets::holds` says whether they hold for a scene, as
+//! specs/Holds.antt defines it. Patterns are read once; no field and no path is copied or lowered to be compared, and memory
+//! is taken where a key of `vars` is filled, and where a key or a value of a query that has escapes is compared with a text
+//! that has itself a character from U+F000 to U+FFFF, as the replacement character is.
+//!
+//! When routes are reached, and what is done then, is left to the crates above.
+#![tactic(auto)]
+
+mod escapes;
+mod header;
+mod holding;
+mod host;
+mod laws;
+mod matcher;
+mod method;
+mod path;
+mod query;
+mod reading;
+mod sets;
+#[cfg(test)]
+mod tests;
+mod vars;
+
+pub use header::{FieldTest, HeaderMatcher};
+pub use host::HostMatcher;
+pub use laws::sets_are_read_alike;
+pub use matcher::{Matcher, MatcherSet};
+pub use method::MethodMatcher;
+pub use path::{PathMatcher, PathPattern};
+pub use query::{KeyTest, QueryMatcher};
+pub use sets::Sets;
+pub use vars::{VariableTest, VarsMatcher};

@@ -1,0 +1,114 @@
+//! The matcher `query`.
+ghost use Rattle.std.specs.Prelude.{◌≡◌, ◌==◌, [], IfOk, length, unwrap_or};
+ghost use Rattle.std.specs.List.{list_all};
+ghost use Rattle.form_urlencoded.specs.Form.{raw_pairs};
+ghost use Rattle.cd_fill.specs.Values.{decoded};
+ghost use Rattle.cd_match.specs.Query.{key_test, is_wanted, key_passes, query_holds};
+
+use crate::escapes::stands_for;
+use cd_fill::Scene;
+use cd_module::{LoadFault, Named, Settings};
+use cd_text::{List, NoMemory, Octets, Text};
+use cd_tree::{Path, Tree};
+use form_urlencoded::raw_pairs;
+use std::alloc::Global;
+
+/// What the values of a key of the query are to be.
+#[derive(Debug, Drop)]
+pub struct KeyTest {
+    pub key: Text,
+    /// The values that pass; `*` lets each value pass.
+    pub values: List<Text>,
+}
+
+/// Holds where each key has a value that passes; without keys, where the query has no pairs. Keys and values are decoded as
+/// forms are (URL Standard, section 5.1).
+#[derive(Debug, Drop)]
+pub struct QueryMatcher {
+    pub tests: List<KeyTest>,
+}
+
+impl Named for KeyTest {
+    ghost named = { key_test };
+
+    #[tactic(auto, unfolding(crate::specs::Query::key_test))]
+    fn read_named(
+        alloc: Global,
+        name: &Text,
+        tree: &Tree,
+        at: &Path,
+    ) -> Result<KeyTest, LoadFault> {
+        let values = List::<Text>::read(alloc, tree, at)?;
+        Ok(KeyTest {
+            key: name.copy(alloc)?,
+            values,
+        })
+    }
+}
+
+fn or_empty(query: &Option<Octets>) -> &[u8]
+    ensures { result.now ≡ unwrap_or query.now [] }
+{
+    match query {
+        Some(query) => query.as_slice(),
+        None => &[],
+    }
+}
+
+// Whether a value passes.
+fn is_wanted(alloc: Global, listed: &[Text], raw: &[u8]) -> Result<bool, NoMemory>
+    ensures { IfOk result (λ wanted. wanted ≡ is_wanted listed.now (decoded raw.now)) }
+{
+    for one in listed {
+        if one.equals("*") || stands_for(alloc, raw, one.as_str())? {
+            return Ok(true);
+        }
+    }
+    Ok(false)
+}
+
+// Whether the key has a value that passes.
+#[tactic(auto, unfolding(crate::specs::Query::key_passes, cd_fill::specs::Values::query_values))]
+fn key_passes(alloc: Global, query: &[u8], test: &KeyTest) -> Result<bool, NoMemory>
+    ensures { IfOk result (λ passes. passes ≡ key_passes query.now test.now) }
+{
+    for (name, value) in raw_pairs(query) {
+        if stands_for(alloc, name, test.key.as_str())?
+            && is_wanted(alloc, test.values.as_slice(), value)?
+        {
+            return Ok(true);
+        }
+    }
+    Ok(false)
+}
+
+fn all_pass(alloc: Global, query: &[u8], tests: &[KeyTest]) -> Result<bool, NoMemory>
+    ensures { IfOk result (λ passes. passes ≡ list_all (key_passes query.now) tests.now) }
+{
+    for test in tests {
+        if !key_passes(alloc, query, test)? {
+            return Ok(false);
+        }
+    }
+    Ok(true)
+}
+
+fn has_no_pairs(query: &[u8]) -> bool
+    ensures { result ≡ (length (raw_pairs query.now) == 0) }
+{
+    raw_pairs(query).next().is_none()
+}
+
+impl QueryMatcher {
+    /// Whether it holds. It takes memory as `stands_for` does.
+    pub fn holds(&self, alloc: Global, scene: &Scene) -> Result<bool, NoMemory>
+        ensures { IfOk result (λ answer. answer ≡ query_holds self.now scene.now) }
+    {
+        let query = or_empty(&scene.current.query);
+        if self.tests.is_empty() {
+            Ok(has_no_pairs(query))
+        } else {
+            all_pass(alloc, query, self.tests.as_slice())
+        }
+    }
+}
