@@ -1,0 +1,25 @@
+-- What handlers do.
+use Rattle.std.specs.Prelude.{Option, None}
+use Rattle.cd_fill.specs.declared.scene.Scene.{Scene}
+use Rattle.cd_handlers.specs.declared.changes.FilledChanges.{FilledChanges}
+use Rattle.cd_handlers.specs.declared.handler.Handler.{Handler}
+use Rattle.cd_handlers.specs.declared.handler.Handler.TheVariants as kind
+use Rattle.cd_handlers.specs.declared.outcome.Effect.{Effect}
+use Rattle.cd_handlers.specs.Error.{error_effect}
+use Rattle.cd_handlers.specs.Headers.{headers_effect, headers_deferred}
+use Rattle.cd_handlers.specs.StaticResponse.{static_effect}
+use Rattle.cd_handlers.specs.Vars.{variables_set}
+
+-- what a handler does by itself in a scene
+unfoldable pub effect : Handler → Scene → Effect
+effect (kind.StaticResponse s) x = static_effect s x
+effect (kind.Headers s) x = headers_effect s x
+effect (kind.Vars s) x = variables_set s.settings x
+effect (kind.Error s) x = error_effect s x
+
+-- the changes that it leaves for the answer of what follows it; `headers` alone leaves any
+unfoldable pub deferred : Handler → Scene → Option FilledChanges
+deferred (kind.StaticResponse s) x = None
+deferred (kind.Headers s) x = headers_deferred s x
+deferred (kind.Vars s) x = None
+deferred (kind.Error s) x = None

@@ -1,0 +1,12 @@
+pub mod Filling
+pub mod Status
+pub mod FieldValues
+pub mod Fields
+pub mod Changes
+pub mod Failing
+pub mod StaticResponse
+pub mod Headers
+pub mod Vars
+pub mod Error
+pub mod Handlers
+pub mod Effect

@@ -1,0 +1,202 @@
+//! Changes of the fields of a request or of an answer.
+ghost use Rattle.std.specs.Prelude.{◌≡◌, ◌||◌, ◌&&◌, not, filter, IfOk};
+ghost use Rattle.std.specs.List.{list_any};
+ghost use Rattle.cd_text.specs.Gives.{Gives};
+ghost use Rattle.cd_handlers.specs.declared.fault.HandlerFault.{HandlerFault};
+ghost use Rattle.cd_handlers.specs.Changes.{is_star, stays, deletes, cleared, remaining, changed_by, changed, values_filled, changes_filled};
+
+use crate::fault::HandlerFault;
+use crate::field_values::FieldValues;
+use crate::fields::{FilledField, added, copy_filled, replaced};
+use crate::filling::fields_filled;
+use cd_fill::Scene;
+use cd_module::Pattern;
+use cd_text::{List, NoMemory};
+use cd_wire::Field;
+use std::alloc::Global;
+
+/// Changes of fields, with texts that are filled for each request.
+#[derive(Debug, Drop)]
+pub struct Changes {
+    /// The fields that get further values, by rising name.
+    pub add: List<FieldValues>,
+    /// The fields whose values are replaced, by rising name.
+    pub set: List<FieldValues>,
+    /// The names of fields that are removed, in any case. `*` alone removes all, before anything is added.
+    pub delete: List<Pattern>,
+}
+
+/// What is added and what is replaced, with filled values.
+#[derive(Debug, Drop)]
+pub struct FilledValues {
+    pub add: List<FilledField>,
+    pub set: List<FilledField>,
+}
+
+/// Changes of the fields of an answer, with filled values.
+#[derive(Debug, Drop)]
+pub struct FilledChanges {
+    pub values: FilledValues,
+    pub delete: List<Pattern>,
+}
+
+/// Whose fields are changed.
+#[derive(Clone, Copy, Debug)]
+pub(crate) enum Side {
+    Request,
+    Answer,
+}
+
+// Whether the pattern is `*` alone.
+fn is_star(pattern: &Pattern) -> bool
+    ensures { result ≡ is_star pattern.now }
+{
+    match pattern {
+        Pattern::Suffix(end) => end.len() == 0,
+        _ => false,
+    }
+}
+
+fn has_star(patterns: &List<Pattern>) -> bool
+    ensures { result ≡ list_any is_star patterns.now }
+{
+    patterns.as_slice().iter().any(|pattern| is_star(pattern))
+}
+
+// Whether no deletion removes the field.
+fn stays(side: Side, field: &Field) -> bool
+    ensures { result ≡ stays side field.now }
+{
+    match side {
+        Side::Request => field.name.equals("host"),
+        Side::Answer => false,
+    }
+}
+
+fn deletes(pattern: &Pattern, field: &Field) -> bool
+    ensures { result ≡ deletes field.now pattern.now }
+{
+    !is_star(pattern) && pattern.fits_in_any_case(field.name.as_str().as_bytes())
+}
+
+fn is_deleted(patterns: &List<Pattern>, field: &Field) -> bool
+    ensures { result ≡ list_any (deletes field.now) patterns.now }
+{
+    for pattern in patterns.as_slice() {
+        if deletes(pattern, field) {
+            return true;
+        }
+    }
+    false
+}
+
+// The fields that no deletion removes.
+fn staying(side: Side, fields: List<Field>) -> List<Field>
+    ensures { result ≡ filter (stays side) fields }
+{
+    let mut kept = fields.into_vec();
+    kept.retain(|field| stays(side, field));
+    List::from_vec(kept)
+}
+
+// What is left before anything is added.
+fn cleared(side: Side, patterns: &List<Pattern>, fields: List<Field>) -> List<Field>
+    ensures { result ≡ cleared side patterns.now fields }
+{
+    if has_star(patterns) {
+        staying(side, fields)
+    } else {
+        fields
+    }
+}
+
+// What is left at the end.
+fn remaining(side: Side, patterns: &List<Pattern>, fields: List<Field>) -> List<Field>
+    ensures { result ≡ remaining side patterns.now fields }
+{
+    let mut kept = fields.into_vec();
+    kept.retain(|field| stays(side, field) || !is_deleted(patterns, field));
+    List::from_vec(kept)
+}
+
+/// The fields with these changes.
+#[tactic(auto, unfolding(crate::specs::Changes::changed_by))]
+pub(crate) fn changed_by(
+    alloc: Global,
+    side: Side,
+    values: FilledValues,
+    delete: &List<Pattern>,
+    fields: List<Field>,
+) -> Result<List<Field>, NoMemory>
+    ensures { IfOk result (λ made. made ≡ changed_by side values delete.now fields) }
+{
+    let FilledValues { add, set } = values;
+    let fields = cleared(side, delete, fields);
+    let fields = added(alloc, add, fields)?;
+    let fields = replaced(alloc, set, fields)?;
+    Ok(remaining(side, delete, fields))
+}
+
+/// The fields of an answer with the changes that a handler left for it.
+pub fn changed(
+    alloc: Global,
+    changes: &FilledChanges,
+    fields: List<Field>,
+) -> Result<List<Field>, NoMemory>
+    ensures { IfOk result (λ made. made ≡ changed changes.now fields) }
+{
+    let values = FilledValues {
+        add: copy_filled(alloc, &changes.values.add)?,
+        set: copy_filled(alloc, &changes.values.set)?,
+    };
+    changed_by(alloc, Side::Answer, values, &changes.delete, fields)
+}
+
+/// What is added and replaced, filled in a scene.
+#[tactic(auto, unfolding(crate::specs::Changes::values_filled))]
+pub(crate) fn values_filled(
+    alloc: Global,
+    changes: &Changes,
+    scene: &Scene,
+) -> Result<FilledValues, HandlerFault>
+    ensures { Gives HandlerFault.NoMemory result (values_filled scene.now changes.now) }
+{
+    let add = fields_filled(alloc, &changes.add, scene)?;
+    let set = fields_filled(alloc, &changes.set, scene)?;
+    Ok(FilledValues { add, set })
+}
+
+fn copy_pattern(alloc: Global, pattern: &Pattern) -> Result<Pattern, NoMemory>
+    ensures { IfOk result (λ made. made ≡ pattern.now) }
+{
+    Ok(match pattern {
+        Pattern::Exact(all) => Pattern::Exact(all.copy(alloc)?),
+        Pattern::Prefix(front) => Pattern::Prefix(front.copy(alloc)?),
+        Pattern::Suffix(end) => Pattern::Suffix(end.copy(alloc)?),
+        Pattern::Part(part) => Pattern::Part(part.copy(alloc)?),
+    })
+}
+
+fn copy_patterns(alloc: Global, patterns: &List<Pattern>) -> Result<List<Pattern>, NoMemory>
+    ensures { IfOk result (λ made. made ≡ patterns.now) }
+{
+    let mut copies = List::new(alloc);
+    for pattern in patterns.as_slice() {
+        copies.push(copy_pattern(alloc, pattern)?)?;
+    }
+    Ok(copies)
+}
+
+/// The changes, filled in a scene.
+#[tactic(auto, unfolding(crate::specs::Changes::changes_filled))]
+pub(crate) fn changes_filled(
+    alloc: Global,
+    changes: &Changes,
+    scene: &Scene,
+) -> Result<FilledChanges, HandlerFault>
+    ensures { Gives HandlerFault.NoMemory result (changes_filled scene.now changes.now) }
+{
+    let values = values_filled(alloc, changes, scene)?;
+    let delete = copy_patterns(alloc, &changes.delete)?;
+    Ok(FilledChanges { values, delete })
+}

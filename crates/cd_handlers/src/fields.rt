@@ -1,0 +1,133 @@
+//! Changes of fields.
+ghost use Rattle.std.specs.Prelude.{◌≡◌, ◌++◌, IfOk};
+ghost use Rattle.std.specs.List.{list_any};
+ghost use Rattle.cd_wire.specs.Fields.{is_named};
+ghost use Rattle.cd_handlers.specs.Fields.{with_values, added, without, replaced};
+
+use cd_text::{List, NoMemory, Octets, Text};
+use cd_wire::Field;
+use std::alloc::Global;
+
+/// A field with its filled values.
+#[derive(Debug, Drop)]
+pub struct FilledField {
+    /// The name, in lower case.
+    pub name: Text,
+    pub values: List<Octets>,
+}
+
+fn put_values(
+    alloc: Global,
+    fields: List<Field>,
+    name: &Text,
+    values: List<Octets>,
+) -> Result<List<Field>, NoMemory>
+    ensures { IfOk result (λ made. made ≡ fields ++ with_values name.now values) }
+{
+    let mut fields = fields;
+    for value in values.into_vec() {
+        let name = name.copy(alloc)?;
+        fields.push(Field { name, value })?;
+    }
+    Ok(fields)
+}
+
+// The same, where the name moves into the last field.
+#[tactic(auto, using(crate::proofs::FieldLemmas::with_last))]
+fn put_filled(
+    alloc: Global,
+    fields: List<Field>,
+    name: Text,
+    values: List<Octets>,
+) -> Result<List<Field>, NoMemory>
+    ensures { IfOk result (λ made. made ≡ fields ++ with_values name values) }
+{
+    let mut values = values;
+    let Some(value) = values.pop() else {
+        return Ok(fields);
+    };
+    let mut fields = put_values(alloc, fields, &name, values)?;
+    fields.push(Field { name, value })?;
+    Ok(fields)
+}
+
+/// The fields with further ones behind them.
+#[tactic(auto, unfolding(crate::specs::Fields::added))]
+pub(crate) fn added(
+    alloc: Global,
+    changes: List<FilledField>,
+    fields: List<Field>,
+) -> Result<List<Field>, NoMemory>
+    ensures { IfOk result (λ made. made ≡ added changes fields) }
+{
+    let mut now = fields;
+    for change in changes.into_vec() {
+        let FilledField { name, values } = change;
+        now = put_filled(alloc, now, name, values)?;
+    }
+    Ok(now)
+}
+
+fn without(name: &Text, fields: List<Field>) -> List<Field>
+    ensures { result ≡ without name.now fields }
+{
+    let mut kept = fields.into_vec();
+    kept.retain(|field| !field.name.equals(name.as_str()));
+    List::from_vec(kept)
+}
+
+/// The fields with one after another replaced.
+#[tactic(auto, unfolding(crate::specs::Fields::replaced))]
+pub(crate) fn replaced(
+    alloc: Global,
+    changes: List<FilledField>,
+    fields: List<Field>,
+) -> Result<List<Field>, NoMemory>
+    ensures { IfOk result (λ made. made ≡ replaced changes fields) }
+{
+    let mut now = fields;
+    for change in changes.into_vec() {
+        let FilledField { name, values } = change;
+        let kept = without(&name, now);
+        now = put_filled(alloc, kept, name, values)?;
+    }
+    Ok(now)
+}
+
+/// Whether there is a field of that name.
+pub(crate) fn has_field(fields: &List<Field>, name: &str) -> bool
+    ensures { result ≡ list_any (is_named name.now) fields.now }
+{
+    for field in fields.as_slice() {
+        if field.name.equals(name) {
+            return true;
+        }
+    }
+    false
+}
+
+fn copy_values(alloc: Global, values: &List<Octets>) -> Result<List<Octets>, NoMemory>
+    ensures { IfOk result (λ made. made ≡ values.now) }
+{
+    let mut copies = List::new(alloc);
+    for value in values.as_slice() {
+        copies.push(value.copy(alloc)?)?;
+    }
+    Ok(copies)
+}
+
+/// A copy.
+pub(crate) fn copy_filled(
+    alloc: Global,
+    fields: &List<FilledField>,
+) -> Result<List<FilledField>, NoMemory>
+    ensures { IfOk result (λ made. made ≡ fields.now) }
+{
+    let mut copies = List::new(alloc);
+    for field in fields.as_slice() {
+        let values = copy_values(alloc, &field.values)?;
+        let name = field.name.copy(alloc)?;
+        copies.push(FilledField { name, values })?;
+    }
+    Ok(copies)
+}

@@ -1,0 +1,56 @@
+ghost use Rattle.cd_text.specs.Gives.{Gives};
+ghost use Rattle.cd_handlers.specs.Handlers.{handler, handler_named};
+
+use crate::error::StaticError;
+use crate::headers::Headers;
+use crate::static_response::StaticResponse;
+use crate::vars::Vars;
+use cd_module::{LoadFault, Settings, name_of};
+use cd_text::Text;
+use cd_tree::{Path, Tree};
+use std::alloc::Global;
+
+/// A handler that has no routes inside, with its settings. `subroute` is no name of one: the crate above reads it with its
+/// routes, and looks at the name before it asks here.
+#[derive(Debug, Drop)]
+pub enum Handler {
+    StaticResponse(StaticResponse),
+    Headers(Headers),
+    Vars(Vars),
+    Error(StaticError),
+}
+
+#[tactic(auto, unfolding(crate::specs::Handlers::handler_named))]
+fn read_named(alloc: Global, name: &Text, tree: &Tree, at: &Path) -> Result<Handler, LoadFault>
+    ensures { Gives LoadFault.NoMemory result (handler_named name.now tree.now at.now) }
+{
+    match name.as_str() {
+        "static_response" => {
+            let settings = StaticResponse::read(alloc, tree, at)?;
+            Ok(Handler::StaticResponse(settings))
+        }
+        "headers" => {
+            let settings = Headers::read(alloc, tree, at)?;
+            Ok(Handler::Headers(settings))
+        }
+        "vars" => {
+            let settings = Vars::read(alloc, tree, at)?;
+            Ok(Handler::Vars(settings))
+        }
+        "error" => {
+            let settings = StaticError::read(alloc, tree, at)?;
+            Ok(Handler::Error(settings))
+        }
+        other => Err(LoadFault::unknown_module(alloc, "http.handlers.", other, at)),
+    }
+}
+
+impl Settings for Handler {
+    ghost reader = { handler };
+
+    #[tactic(auto, unfolding(crate::specs::Handlers::handler))]
+    fn read(alloc: Global, tree: &Tree, at: &Path) -> Result<Handler, LoadFault> {
+        let name = name_of(alloc, tree, at, "handler")?;
+        read_named(alloc, &name, tree, at)
+    }
+}

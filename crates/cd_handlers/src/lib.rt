@@ -1,0 +1,48 @@
+//! The handlers of routes that have no routes inside: their settings, and what they do with a request.
+//!
+//! `Handler` reads one handler out of a tree (specs/Handlers.antt). `effect` is what it does by itself: the request goes on
+//! in a scene that it may have changed, or is answered, or fails (specs/Effect.antt). Each handler has a file of its own with
+//! its settings, their reader and its meaning, and a file of definitions under the same name.
+//!
+//! A handler whose texts can't be filled fails with 500 and an empty message, in the scene that it found, where its texts are
+//! filled too. `vars` alone sets one variable after another: each text sees those before, and they stay where it fails.
+//! Changes that `headers` defers are `deferred`, and `changed` makes them.
+//!
+//! Trees that differ in ids alone are the same handler (laws.rt).
+//!
+//! In which order handlers come, what follows one, and what becomes of a failure is left to the crates above, and so is
+//! `subroute`, which has routes inside.
+#![tactic(auto)]
+
+mod changes;
+mod effects;
+mod error;
+mod fault;
+mod field_values;
+mod fields;
+mod filling;
+mod handler;
+mod headers;
+mod laws;
+mod outcome;
+mod static_response;
+mod status;
+#[cfg(test)]
+mod telling;
+#[cfg(test)]
+mod tests;
+mod texts;
+mod vars;
+
+pub use changes::{Changes, FilledChanges, FilledValues, changed};
+pub use effects::{deferred, effect};
+pub use error::StaticError;
+pub use field_values::{FieldList, FieldValues};
+pub use fields::FilledField;
+pub use handler::Handler;
+pub use headers::{Headers, ResponseChanges};
+pub use laws::handlers_see_no_ids;
+pub use outcome::Effect;
+pub use static_response::StaticResponse;
+pub use status::{Status, usual_status};
+pub use vars::{Setting, Vars};

@@ -1,0 +1,126 @@
+ghost use Rattle.std.specs.Prelude.{◌≡◌, IfOk};
+ghost use Rattle.cd_text.specs.Gives.{Gives};
+ghost use Rattle.cd_tree.specs.Tree.{number_text};
+ghost use Rattle.cd_module.specs.declared.fault.LoadFault.{LoadFault};
+ghost use Rattle.cd_handlers.specs.Vars.{variables, setting_text, setting, vars, with_variable, truth_text, variables_set};
+
+use crate::fault::HandlerFault;
+use crate::filling::text_filled;
+use crate::outcome::Effect;
+use cd_fill::{Scene, Variable};
+use cd_module::{LoadFault, LoadKind, Named, Settings, object_by_name};
+use cd_text::{List, NoMemory, Octets, Text};
+use cd_tree::{Num, Path, Tree};
+use std::alloc::Global;
+
+/// `vars`: variables that are set for what follows (Caddy, JSON Config Structure, http.handlers.vars).
+#[derive(Debug, Drop)]
+pub struct Vars {
+    /// The variables, by rising name.
+    pub settings: List<Setting>,
+}
+
+/// A variable that is set.
+#[derive(Debug, Drop)]
+pub struct Setting {
+    pub name: Text,
+    /// The text, which is filled for each request. A number or a truth value is kept as its JSON text, where nothing is to be
+    /// filled.
+    pub text: Text,
+}
+
+fn number_text(alloc: Global, number: &Num) -> Result<Text, NoMemory>
+    ensures { IfOk result (λ text. text ≡ number_text number.now) }
+{
+    let size = number.size;
+    let text = if number.negative {
+        format!(in alloc; "-{size}")?
+    } else {
+        format!(in alloc; "{size}")?
+    };
+    Ok(Text::from_string(text))
+}
+
+fn truth_text(truth: bool) -> &'static str
+    ensures { result.now ≡ truth_text truth }
+{
+    if truth { "true" } else { "false" }
+}
+
+fn read_text(alloc: Global, tree: &Tree, at: &Path) -> Result<Text, LoadFault>
+    ensures { Gives LoadFault.NoMemory result (setting_text tree.now at.now) }
+{
+    match tree {
+        Tree::Text(text) => Ok(text.copy(alloc)?),
+        Tree::Num(number) => Ok(number_text(alloc, number)?),
+        Tree::Bool(truth) => Ok(Text::from_str(alloc, truth_text(*truth))?),
+        _ => Err(LoadFault::at(alloc, LoadKind::WrongKind, at)),
+    }
+}
+
+impl Named for Setting {
+    ghost named = { setting };
+
+    fn read_named(
+        alloc: Global,
+        name: &Text,
+        tree: &Tree,
+        at: &Path,
+    ) -> Result<Setting, LoadFault> {
+        let text = read_text(alloc, tree, at)?;
+        let name = name.copy(alloc)?;
+        Ok(Setting { name, text })
+    }
+}
+
+// The settings without the name of the handler, which is a text too.
+fn variables(settings: List<Setting>) -> List<Setting>
+    ensures { result ≡ variables settings }
+{
+    let mut kept = settings.into_vec();
+    kept.retain(|setting| !setting.name.equals("handler"));
+    List::from_vec(kept)
+}
+
+impl Settings for Vars {
+    ghost reader = { vars };
+
+    #[tactic(auto, unfolding(crate::specs::Vars::vars))]
+    fn read(alloc: Global, tree: &Tree, at: &Path) -> Result<Vars, LoadFault> {
+        let settings = object_by_name::<Setting>(alloc, tree, at)?;
+        Ok(Vars {
+            settings: variables(settings),
+        })
+    }
+}
+
+fn with_variable(alloc: Global, name: &Text, value: Octets, scene: Scene) -> Result<Scene, NoMemory>
+    ensures { IfOk result (λ made. made ≡ with_variable name.now value scene) }
+{
+    let mut scene = scene;
+    let name = name.copy(alloc)?;
+    scene.variables.push(Variable { name, value })?;
+    Ok(scene)
+}
+
+/// Sets one variable after another. Each text is filled in the scene that the ones before left.
+#[tactic(auto, unfolding(crate::specs::Vars::variables_set))]
+pub(crate) fn variables_set(
+    alloc: Global,
+    settings: &Vars,
+    scene: Scene,
+) -> Result<Effect, NoMemory>
+    ensures { IfOk result (λ made. made ≡ variables_set settings.now.settings scene) }
+{
+    let mut scene = scene;
+    for setting in settings.settings.as_slice() {
+        match text_filled(alloc, &setting.text, &scene) {
+            Ok(value) => scene = with_variable(alloc, &setting.name, value, scene)?,
+            Err(HandlerFault::Unable) => {
+                return Ok(Effect::Failed(scene, 500, Octets::new(alloc)));
+            }
+            Err(HandlerFault::NoMemory) => return Err(NoMemory),
+        }
+    }
+    Ok(Effect::Next(scene))
+}
