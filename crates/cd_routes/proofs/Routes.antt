@@ -1,0 +1,58 @@
+-- The routes of a subroute are read as all routes are.
+use Rattle.std.proofs.Common.{◌≡◌, ℕ, List, Bool, true, false, refl, arith}
+use Rattle.std.specs.Prelude.{codes, if◌then◌else◌}
+use Rattle.std.specs.Str.{bytes_eq}
+use Rattle.cd_tree.specs.Tree.{depth}
+use Rattle.cd_tree.specs.declared.path.Path.{Path}
+use Rattle.cd_tree.specs.declared.tree.Tree.{Tree}
+use Rattle.cd_module.specs.Settings.{Reader, text, list_of, optional, name_of}
+use Rattle.cd_module.proofs.Recursion.{Agree, Inward, unfolds, ▷-same, list_of-same, optional-same}
+use Rattle.cd_module.proofs.Inside.{members-same}
+use Rattle.cd_match.specs.Matchers.{route_sets}
+use Rattle.cd_routes.specs.Reading.{routes, route, step, subroute, error_routes}
+use Rattle.cd_routes.specs.declared.route.Route.{Route}
+
+if_same : {A : Type 0} (b : Bool) (x y z : A) → x ≡ y → (if b then x else z) ≡ (if b then y else z)
+if_same true x y z e = e
+if_same false x y z e = refl
+
+errors-same : (f g : Reader (List Route)) (n : ℕ) → Agree n f g → Agree n (error_routes f) (error_routes g)
+unfolding error_routes
+errors-same f g n a = record {
+  same = λ s p h. members-same n (codes "routes") s p _ _ (omega arith) (λ ms w.
+      ▷-same (optional f (codes "routes") ms p) (optional g (codes "routes") ms p) _ _ (optional-same f g n a (codes "routes") ms p w) (λ found. refl));
+}
+
+subroute-same : (f g : Reader (List Route)) (n : ℕ) → Agree n f g → Agree n (subroute f) (subroute g)
+unfolding subroute
+subroute-same f g n a = record {
+  same = λ s p h. members-same n (codes "handler routes errors") s p _ _ (omega arith) (λ ms w.
+      ▷-same (optional f (codes "routes") ms p) (optional g (codes "routes") ms p) _ _ (optional-same f g n a (codes "routes") ms p w) (λ found.
+      ▷-same (optional (error_routes f) (codes "errors") ms p) (optional (error_routes g) (codes "errors") ms p) _ _ (optional-same (error_routes f) (error_routes g) n (errors-same f g n a) (codes "errors") ms p w) (λ caught. refl)));
+}
+
+step-same : (f g : Reader (List Route)) (n : ℕ) → Agree n f g → Agree n (step f) (step g)
+unfolding step
+step-same f g n a = record {
+  same = λ s p h. ▷-same (name_of (codes "handler") s p) (name_of (codes "handler") s p) _ _ refl (λ name.
+      if_same (bytes_eq name (codes "subroute")) _ _ _ (▷-same (subroute f s p) (subroute g s p) _ _ ((subroute-same f g n a).same s p h) (λ x. refl)));
+}
+
+steps-same : (f g : Reader (List Route)) (n : ℕ) → Agree n f g → Agree n (list_of (step f)) (list_of (step g))
+steps-same f g n a = record { same = λ s p h. list_of-same (step f) (step g) n (step-same f g n a) s p (omega arith) }
+
+route-same : (f g : Reader (List Route)) (n : ℕ) → Agree n f g → Agree n (route f) (route g)
+unfolding route
+route-same f g n a = record {
+  same = λ s p h. members-same n (codes "group match handle terminal") s p _ _ (omega arith) (λ ms w.
+      ▷-same (optional text (codes "group") ms p) (optional text (codes "group") ms p) _ _ refl (λ group.
+      ▷-same (optional route_sets (codes "match") ms p) (optional route_sets (codes "match") ms p) _ _ refl (λ sets.
+      ▷-same (optional (list_of (step f)) (codes "handle") ms p) (optional (list_of (step g)) (codes "handle") ms p) _ _ (optional-same (list_of (step f)) (list_of (step g)) n (steps-same f g n a) (codes "handle") ms p w) (λ steps. refl))));
+}
+
+routes-inward : Inward (λ inner. list_of (route inner))
+routes-inward = record { same = λ f g t at a. list_of-same (route f) (route g) (depth t) (route-same f g (depth t) a) t at (omega arith) }
+
+pub routes_are : (t : Tree) (at : Path) → routes t at ≡ list_of (route routes) t at
+unfolding routes
+routes_are = unfolds (λ inner. list_of (route inner)) routes-inward

@@ -1,0 +1,5 @@
+pub mod Reading
+pub mod Server
+pub mod Running
+pub mod Work
+pub mod Serving

@@ -1,0 +1,43 @@
+ghost use Rattle.std.specs.Prelude.{◌≡◌, ◌&&◌, not, if◌then◌else◌, map, option_map};
+ghost use Rattle.cd_module.specs.Settings.{list_of};
+ghost use Rattle.cd_fill.specs.declared.scene.Scene.{Scene};
+ghost use Rattle.cd_match.specs.Holds.{holds};
+ghost use Rattle.cd_routes.specs.Reading.{routes, route};
+ghost use Rattle.cd_routes.specs.Running.{Rest, nothing_left, handled, caught, is_taken, with_group, run_route, run_routes, run_step, run_steps};
+ghost use Rattle.cd_routes.specs.declared.route.Route.{out-Route};
+ghost use Rattle.cd_routes.specs.declared.route.Step.TheVariants as step;
+ghost use Rattle.cd_routes.specs.declared.route.Subroute.{out-Subroute};
+
+use crate::route::{Route, Subroute};
+use cd_handlers::Handler;
+use cd_tree::{Path, Tree};
+
+/// A list of routes is read route by route, and the routes of a subroute are read as all routes are.
+pub fn routes_are(tree: &Tree, at: &Path)
+    ensures { routes tree.now at.now ≡ list_of (route routes) tree.now at.now }
+{
+    let _ = tree;
+    let _ = at;
+}
+
+/// What a route does to what follows it: one that matches, and whose group is not taken, does its steps and then what follows
+/// or, where it is terminal, nothing; another is passed over.
+pub fn a_route_does(this: &Route)
+    ensures { (rest : Rest) → (x : Scene) → run_route this.now rest x
+        ≡ (if holds (out-Route this.now).matching x && not (is_taken (out-Route this.now).group x)
+        then run_steps (out-Route this.now).handle (if (out-Route this.now).terminal then nothing_left else rest) (with_group (out-Route this.now).group x)
+        else rest x) }
+{
+    let _ = this;
+}
+
+/// What a step does to what follows it: a handler its effect, and a subroute its routes, whose errors catch what follows too.
+pub fn a_step_does(handler: &Handler, subroute: &Subroute)
+    ensures handler { (rest : Rest) → (x : Scene) → run_step (step.Handler handler.now) rest x ≡ handled handler.now rest x }
+    ensures subroute { (rest : Rest) → (x : Scene) → run_step (step.Subroute subroute.now) rest x
+        ≡ caught (option_map (map run_route) (out-Subroute subroute.now).errors) rest
+        (run_routes (out-Subroute subroute.now).routes rest x) }
+{
+    let _ = handler;
+    let _ = subroute;
+}

@@ -1,0 +1,319 @@
+ghost use Rattle.std.specs.Prelude.{◌≡◌, ◌+◌, ◌≤◌, ◌&&◌, ◌∷◌, true, not, IfOk, List, map, option_map, Option, if◌then◌else◌};
+ghost use Rattle.std.specs.List.{list_any};
+ghost use Rattle.std.specs.Str.{bytes_eq};
+ghost use Rattle.cd_match.specs.Holds.{holds};
+ghost use Rattle.cd_routes.specs.declared.route.Route.{Route as RouteSettings, out-Route};
+ghost use Rattle.cd_routes.specs.declared.route.Subroute.{out-Subroute};
+ghost use Rattle.cd_routes.specs.Running.{Rest, nothing_left, with_changes, handled, caught, is_taken, with_group, with_error, run_route, run_routes, run_step, run_steps};
+ghost use Rattle.cd_routes.specs.Work.{done, all_changes, weight, route_weight, step_weight, told, weight_left, total, subroute_weight};
+
+use crate::outcome::Outcome;
+use crate::route::{Route, Step, Subroute};
+use crate::work::{Progress, Work, behind, first_route, first_step, take_next};
+use cd_fill::{Failure, Scene};
+use cd_handlers::{Effect, FilledChanges, Handler, changed, deferred, effect, usual_status};
+use cd_text::{List, NoMemory, Octets, Text};
+use cd_wire::Answer;
+use std::alloc::Global;
+
+#[tactic(auto, unfolding(crate::specs::Running::nothing_left))]
+fn nothing_left(alloc: Global, scene: Scene) -> Outcome
+    ensures { result ≡ nothing_left scene }
+{
+    let status = usual_status(&scene.error);
+    Outcome::Answered(Answer {
+        status,
+        fields: scene.response,
+        body: Octets::new(alloc),
+        close: false,
+    })
+}
+
+fn is_listed(texts: &List<Text>, text: &Text) -> bool
+    ensures { result ≡ list_any (bytes_eq text.now) texts.now }
+{
+    for listed in texts.as_slice() {
+        if text.equals(listed.as_str()) {
+            return true;
+        }
+    }
+    false
+}
+
+fn is_taken(group: &Option<Text>, scene: &Scene) -> bool
+    ensures { result ≡ is_taken group.now scene.now }
+{
+    match group {
+        None => false,
+        Some(group) => is_listed(&scene.groups, group),
+    }
+}
+
+fn with_group(alloc: Global, group: &Option<Text>, scene: Scene) -> Result<Scene, NoMemory>
+    ensures { IfOk result (λ made. made ≡ with_group group.now scene) }
+{
+    let mut scene = scene;
+    match group {
+        None => Ok(scene),
+        Some(group) => {
+            let group = group.copy(alloc)?;
+            scene.groups.push(group)?;
+            Ok(scene)
+        }
+    }
+}
+
+/// The scene in which a failure is handled.
+pub fn with_error(status: u16, message: Octets, scene: Scene) -> Scene
+    ensures { result ≡ with_error status message scene }
+{
+    let mut scene = scene;
+    scene.error = Some(Failure { status, message });
+    scene
+}
+
+#[tactic(auto, unfolding(crate::specs::Running::with_changes))]
+fn with_changes(
+    alloc: Global,
+    changes: &FilledChanges,
+    outcome: Outcome,
+) -> Result<Outcome, NoMemory>
+    ensures { IfOk result (λ made. made ≡ with_changes (Option.Some changes.now) outcome) }
+{
+    match outcome {
+        Outcome::Answered(answer) => {
+            let mut answer = answer;
+            answer.fields = changed(alloc, changes, answer.fields)?;
+            Ok(Outcome::Answered(answer))
+        }
+        Outcome::Failed(scene, status, message) => Ok(Outcome::Failed(scene, status, message)),
+    }
+}
+
+// What becomes of the outcome of what handlers left changes for: the last of them comes first.
+#[tactic(auto, using(crate::proofs::Equations::all_changes_push), unfolding(crate::specs::Work::all_changes))]
+fn with_all_changes(
+    alloc: Global,
+    changes: List<FilledChanges>,
+    outcome: Outcome,
+) -> Result<Outcome, NoMemory>
+    ensures { IfOk result (λ made. made ≡ all_changes changes outcome) }
+{
+    let mut changes = changes;
+    let mut outcome = outcome;
+    while let Some(last) = changes.pop() {
+        outcome = with_changes(alloc, &last, outcome)?;
+    }
+    Ok(outcome)
+}
+
+fn enters(alloc: Global, route: &Route, scene: &Scene) -> Result<bool, NoMemory>
+    ensures { IfOk result (λ answer. answer
+        ≡ (holds (out-Route route.now).matching scene.now && not (is_taken (out-Route route.now).group scene.now))) }
+{
+    if !route.matching.holds(alloc, scene)? {
+        return Ok(false);
+    }
+    Ok(!is_taken(&route.group, scene))
+}
+
+// The routes from the first one on that is taken. What stands before it is passed over, and the scene stays where it is.
+fn from_first_taken<'a>(
+    alloc: Global,
+    routes: &'a [Route],
+    scene: &Scene,
+) -> Result<&'a [Route], NoMemory>
+    ensures same { IfOk result (λ left. (rest : Rest) → run_routes left.now rest scene.now ≡ run_routes routes.now rest scene.now) }
+    ensures less { IfOk result (λ left. total (map route_weight left.now) ≤ total (map route_weight routes.now)) }
+    ensures first { IfOk result (λ left. (r : RouteSettings) (others : List RouteSettings) → left.now ≡ r ∷ others
+        → true ≡ (holds (out-Route r).matching scene.now && not (is_taken (out-Route r).group scene.now))) }
+{
+    let mut left = routes;
+    while let Some((route, others)) = first_route(left) {
+        if enters(alloc, route, scene)? {
+            return Ok(left);
+        }
+        left = others;
+    }
+    Ok(left)
+}
+
+// The steps of a route, and what follows them.
+#[tactic(auto, using(crate::proofs::Equations::done_push, crate::proofs::Equations::weight_push, crate::proofs::Equations::route_weight_is))]
+fn entered<'a>(
+    alloc: Global,
+    route: &'a Route,
+    rest: Vec<Work<'a>>,
+    scene: Scene,
+) -> Result<Progress<'a>, NoMemory>
+    ensures meaning { IfOk result (λ progress. told progress
+        ≡ run_steps (out-Route route.now).handle
+        (if (out-Route route.now).terminal then nothing_left else done rest.entry.items)
+        (with_group (out-Route route.now).group scene)) }
+    ensures less { IfOk result (λ progress. weight_left progress ≤ weight rest.entry.items + route_weight route.now) }
+{
+    let scene = with_group(alloc, &route.group, scene)?;
+    let mut rest = behind(route.terminal, rest);
+    rest.push(Work::Steps(route.handle.as_slice()))?;
+    Ok(Progress::Goes(rest, scene))
+}
+
+// Routes, and what follows them.
+fn on_routes<'a>(
+    alloc: Global,
+    routes: &'a [Route],
+    rest: Vec<Work<'a>>,
+    scene: Scene,
+) -> Result<Progress<'a>, NoMemory>
+    ensures meaning { IfOk result (λ progress. told progress ≡ run_routes routes.now (done rest.entry.items) scene) }
+    ensures less { IfOk result (λ progress. weight_left progress ≤ weight rest.entry.items + total (map route_weight routes.now)) }
+{
+    let left = from_first_taken(alloc, routes, &scene)?;
+    match first_route(left) {
+        None => Ok(Progress::Goes(rest, scene)),
+        Some((route, others)) => {
+            let mut rest = rest;
+            rest.push(Work::Routes(others))?;
+            entered(alloc, route, rest, scene)
+        }
+    }
+}
+
+// A handler, and what follows it.
+fn handle<'a>(
+    alloc: Global,
+    handler: &'a Handler,
+    rest: Vec<Work<'a>>,
+    scene: Scene,
+) -> Result<Progress<'a>, NoMemory>
+    ensures meaning { IfOk result (λ progress. told progress ≡ handled handler.now (done rest.entry.items) scene) }
+    ensures less { IfOk result (λ progress. weight_left progress ≤ weight rest.entry.items + 2) }
+{
+    let changes = deferred(alloc, handler, &scene)?;
+    match effect(alloc, handler, scene)? {
+        Effect::Next(scene) => match changes {
+            None => Ok(Progress::Goes(rest, scene)),
+            Some(changes) => Ok(Progress::Leaves(changes, rest, scene)),
+        },
+        Effect::Answered(answer) => Ok(Progress::Ends(Outcome::Answered(answer))),
+        Effect::Failed(scene, status, message) => {
+            Ok(Progress::Ends(Outcome::Failed(scene, status, message)))
+        }
+    }
+}
+
+// Steps, and what follows them.
+#[cycle(run)]
+#[tactic(auto, unfolding(crate::specs::Running::in_order))]
+fn on_steps<'a>(
+    alloc: Global,
+    steps: &'a [Step],
+    rest: Vec<Work<'a>>,
+    scene: Scene,
+) -> Result<Progress<'a>, NoMemory>
+    ensures meaning { IfOk result (λ progress. told progress ≡ run_steps steps.now (done rest.entry.items) scene) }
+    ensures less { IfOk result (λ progress. weight_left progress ≤ weight rest.entry.items + total (map step_weight steps.now)) }
+{
+    match first_step(steps) {
+        None => Ok(Progress::Goes(rest, scene)),
+        Some((step, others)) => {
+            let mut rest = rest;
+            rest.push(Work::Steps(others))?;
+            begin(alloc, step, rest, scene)
+        }
+    }
+}
+
+// A step, and what follows it.
+#[cycle(run)]
+fn begin<'a>(
+    alloc: Global,
+    step: &'a Step,
+    rest: Vec<Work<'a>>,
+    scene: Scene,
+) -> Result<Progress<'a>, NoMemory>
+    ensures meaning { IfOk result (λ progress. told progress ≡ run_step step.now (done rest.entry.items) scene) }
+    ensures less { IfOk result (λ progress. weight_left progress ≤ weight rest.entry.items + step_weight step.now) }
+{
+    match step {
+        Step::Handler(handler) => handle(alloc, handler, rest, scene),
+        Step::Subroute(subroute) => nest(alloc, subroute, rest, scene),
+    }
+}
+
+// A subroute, and what follows it.
+#[cycle(run)]
+fn nest<'a>(
+    alloc: Global,
+    subroute: &'a Subroute,
+    rest: Vec<Work<'a>>,
+    scene: Scene,
+) -> Result<Progress<'a>, NoMemory>
+    ensures meaning { IfOk result (λ progress. told progress
+        ≡ caught (option_map (map run_route) (out-Subroute subroute.now).errors) (done rest.entry.items)
+        (run_routes (out-Subroute subroute.now).routes (done rest.entry.items) scene)) }
+    ensures less { IfOk result (λ progress. weight_left progress ≤ weight rest.entry.items + subroute_weight (out-Subroute subroute.now)) }
+{
+    match &subroute.errors {
+        None => {
+            let mut rest = rest;
+            rest.push(Work::Routes(subroute.routes.as_slice()))?;
+            Ok(Progress::Goes(rest, scene))
+        }
+        Some(errors) => {
+            let mut tried = Vec::from_slice(alloc, rest.as_slice())?;
+            tried.push(Work::Routes(subroute.routes.as_slice()))?;
+            match run(alloc, tried, scene)? {
+                Outcome::Answered(answer) => Ok(Progress::Ends(Outcome::Answered(answer))),
+                Outcome::Failed(scene, status, message) => {
+                    let mut rest = rest;
+                    rest.push(Work::Routes(errors.as_slice()))?;
+                    Ok(Progress::Goes(rest, with_error(status, message, scene)))
+                }
+            }
+        }
+    }
+}
+
+// Does the item that comes first.
+#[cycle(run)]
+fn advance<'a>(alloc: Global, work: Vec<Work<'a>>, scene: Scene) -> Result<Progress<'a>, NoMemory>
+    ensures meaning { IfOk result (λ progress. told progress ≡ done work.entry.items scene) }
+    ensures less { IfOk result (λ progress. weight_left progress ≤ weight work.entry.items) }
+{
+    let mut work = work;
+    match take_next(&mut work) {
+        None => Ok(Progress::Ends(nothing_left(alloc, scene))),
+        Some(Work::Routes(routes)) => on_routes(alloc, routes, work, scene),
+        Some(Work::Steps(steps)) => on_steps(alloc, steps, work, scene),
+    }
+}
+
+// Does all that is to be done. It calls itself at a subroute with errors alone.
+#[cycle(run)]
+fn run<'a>(alloc: Global, work: Vec<Work<'a>>, scene: Scene) -> Result<Outcome, NoMemory>
+    ensures { IfOk result (λ outcome. outcome ≡ done work.entry.items scene) }
+{
+    let mut left = List::new(alloc);
+    let mut progress = Progress::Goes(work, scene);
+    loop {
+        match progress {
+            Progress::Ends(outcome) => return with_all_changes(alloc, left, outcome),
+            Progress::Leaves(changes, work, scene) => {
+                left.push(changes)?;
+                progress = Progress::Goes(work, scene);
+            }
+            Progress::Goes(work, scene) => progress = advance(alloc, work, scene)?,
+        }
+    }
+}
+
+/// What routes make of a request, where nothing follows them.
+#[tactic(auto, using(crate::proofs::Pushes::done_one))]
+pub fn run_routes(alloc: Global, routes: &[Route], scene: Scene) -> Result<Outcome, NoMemory>
+    ensures { IfOk result (λ outcome. outcome ≡ run_routes routes.now nothing_left scene) }
+{
+    let mut work = Vec::new(alloc);
+    work.push(Work::Routes(routes))?;
+    run(alloc, work, scene)
+}

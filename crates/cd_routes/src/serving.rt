@@ -1,0 +1,96 @@
+ghost use Rattle.std.specs.Prelude.{◌≡◌, IfOk, [], false};
+ghost use Rattle.cd_routes.specs.Running.{nothing_left, run_routes, with_error};
+ghost use Rattle.cd_routes.specs.Serving.{answer_from, error_answer, restored, server_answer};
+
+use crate::outcome::Outcome;
+use crate::route::Route;
+use crate::running::{run_routes, with_error};
+use crate::server::Server;
+use cd_fill::Scene;
+use cd_text::{List, NoMemory, Octets};
+use cd_wire::{Answer, Field, Request};
+use std::alloc::Global;
+
+fn copy_field(alloc: Global, field: &Field) -> Result<Field, NoMemory>
+    ensures { IfOk result (λ made. made ≡ field.now) }
+{
+    Ok(Field {
+        name: field.name.copy(alloc)?,
+        value: field.value.copy(alloc)?,
+    })
+}
+
+fn copy_fields(alloc: Global, fields: &List<Field>) -> Result<List<Field>, NoMemory>
+    ensures { IfOk result (λ made. made ≡ fields.now) }
+{
+    let mut copies = List::new(alloc);
+    for field in fields.as_slice() {
+        copies.push(copy_field(alloc, field)?)?;
+    }
+    Ok(copies)
+}
+
+fn restored(scene: Scene) -> Scene
+    ensures { result ≡ restored scene }
+{
+    let mut scene = scene;
+    match scene.original.take() {
+        Some(line) => {
+            scene.current = line;
+            scene
+        }
+        None => scene,
+    }
+}
+
+fn bare_answer(alloc: Global, status: u16, fields: List<Field>) -> Answer
+    ensures { result ≡ record { status = status; fields = fields; body = []; close = false } }
+{
+    Answer {
+        status,
+        fields,
+        body: Octets::new(alloc),
+        close: false,
+    }
+}
+
+// What error routes answer. The first error's fields are kept for the case that they fail too.
+fn error_answer(
+    alloc: Global,
+    errors: &[Route],
+    scene: Scene,
+    status: u16,
+    message: Octets,
+) -> Result<Answer, NoMemory>
+    ensures { IfOk result (λ answer. answer
+        ≡ error_answer scene status (run_routes errors.now nothing_left (with_error status message (restored scene)))) }
+{
+    let fields = copy_fields(alloc, &scene.response)?;
+    let scene = with_error(status, message, restored(scene));
+    match run_routes(alloc, errors, scene)? {
+        Outcome::Answered(answer) => Ok(answer),
+        Outcome::Failed(_, _, _) => Ok(bare_answer(alloc, status, fields)),
+    }
+}
+
+/// What the server answers to a request that has come to this scene.
+#[tactic(auto, unfolding(crate::specs::Serving::answer_from))]
+pub fn answer_from(alloc: Global, server: &Server, scene: Scene) -> Result<Answer, NoMemory>
+    ensures { IfOk result (λ answer. answer ≡ answer_from server.now scene) }
+{
+    match run_routes(alloc, server.routes.as_slice(), scene)? {
+        Outcome::Answered(answer) => Ok(answer),
+        Outcome::Failed(scene, status, message) => match &server.errors {
+            None => Ok(bare_answer(alloc, status, scene.response)),
+            Some(errors) => error_answer(alloc, errors.as_slice(), scene, status, message),
+        },
+    }
+}
+
+/// What the server answers to a request: every request has an answer, and there is no other error than want of memory.
+pub fn server_answer(alloc: Global, server: &Server, request: &Request) -> Result<Answer, NoMemory>
+    ensures { IfOk result (λ answer. answer ≡ server_answer server.now request.now) }
+{
+    let scene = Scene::new(alloc, request)?;
+    answer_from(alloc, server, scene)
+}

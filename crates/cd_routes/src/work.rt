@@ -1,0 +1,64 @@
+ghost use Rattle.std.specs.Prelude.{◌≡◌, ◌≤◌, ◌∷◌, [], ◌++◌, MatchOption, if◌then◌else◌};
+ghost use Rattle.cd_routes.specs.Running.{nothing_left};
+ghost use Rattle.cd_routes.specs.Work.{done, weight};
+
+use crate::outcome::Outcome;
+use crate::route::{Route, Step};
+use cd_fill::Scene;
+use cd_handlers::FilledChanges;
+
+/// Something that is still to be done.
+#[derive(Clone, Copy)]
+pub enum Work<'a> {
+    Routes(&'a [Route]),
+    Steps(&'a [Step]),
+}
+
+/// How far a request has come. What is to be done next is the last item of the work.
+#[derive(Drop)]
+pub enum Progress<'a> {
+    Goes(Vec<Work<'a>>, Scene),
+    /// It goes on, and these changes are left for the answer.
+    Leaves(FilledChanges, Vec<Work<'a>>, Scene),
+    Ends(Outcome),
+}
+
+/// What follows a route: nothing, where the route is terminal.
+#[tactic(auto, unfolding(crate::specs::Work::done, crate::specs::Work::weight))]
+pub fn behind<'a>(terminal: bool, rest: Vec<Work<'a>>) -> Vec<Work<'a>>
+    ensures meaning { done result.items ≡ (if terminal then nothing_left else done rest.entry.items) }
+    ensures less { weight result.items ≤ weight rest.entry.items }
+{
+    let mut rest = rest;
+    if terminal {
+        rest.clear();
+    }
+    rest
+}
+
+/// The first route and the others.
+pub fn first_route(routes: &[Route]) -> Option<(&Route, &[Route])>
+    ensures { MatchOption result (routes.now ≡ []) (λ parts. routes.now ≡ parts.0.now ∷ parts.1.now) }
+{
+    match routes {
+        [] => None,
+        [route, others @ ..] => Some((route, others)),
+    }
+}
+
+/// The first step and the others.
+pub fn first_step(steps: &[Step]) -> Option<(&Step, &[Step])>
+    ensures { MatchOption result (steps.now ≡ []) (λ parts. steps.now ≡ parts.0.now ∷ parts.1.now) }
+{
+    match steps {
+        [] => None,
+        [step, others @ ..] => Some((step, others)),
+    }
+}
+
+/// Takes what is to be done next.
+pub fn take_next<'a>(work: &mut Vec<Work<'a>>) -> Option<Work<'a>>
+    ensures { MatchOption result (work.old.items ≡ []) (λ item. work.old.items ≡ work.new.items ++ item ∷ []) }
+{
+    work.pop()
+}
