@@ -9,20 +9,20 @@ use Rattle.cd_outside.specs.declared.accepted.Accepted.TheVariants as accepted
 use Rattle.cd_outside.specs.Counts.{count_end, raised, Rose}
 use Rattle.cd_outside.specs.Past.{with_last, with_connection, after_accept, fresh}
 use Rattle.cd_outside.specs.Telling.{TellsOn}
-use Rattle.cd_wire.specs.declared.answer.Answer.{Answer}
 use Rattle.caddy_run.specs.declared.way.Way.{Way}
 use Rattle.caddy_run.specs.declared.way.Way.TheVariants as way
 use Rattle.caddy_run.specs.declared.counts.Counts.{Counts}
 use Rattle.caddy_run.specs.Counted.{counted}
 use Rattle.caddy_run.specs.declared.way.Ending.{Ending}
 use Rattle.caddy_run.specs.Connections.{Served, Ended, AllEnded, Added, Outcome, after_all, is_failed, is_cut}
+use Rattle.caddy_run.specs.Replies.{Answering}
 
 with_last-append : {A : Type 0} (f : A → A) (xs : List A) (x : A) → with_last f (xs ++ x ∷ []) ≡ xs ++ f x ∷ []
 with_last-append f [] x = refl
 with_last-append f (y ∷ []) x = refl
 with_last-append f (y ∷ z ∷ zs) x = ap (λ ws. y ∷ ws) (with_last-append f (z ∷ zs) x)
 
-AllEnded-append : (answer : Answer) (outcomes : List Outcome) (cs : List Connection) (outcome : Outcome) (c : Connection) → AllEnded answer outcomes cs → Ended answer outcome c → AllEnded answer (outcomes ++ outcome ∷ []) (cs ++ c ∷ [])
+AllEnded-append : (answer : Answering) (outcomes : List Outcome) (cs : List Connection) (outcome : Outcome) (c : Connection) → AllEnded answer outcomes cs → Ended answer outcome c → AllEnded answer (outcomes ++ outcome ∷ []) (cs ++ c ∷ [])
 AllEnded-append answer [] [] outcome c all one = (one, tt)
 AllEnded-append answer (o ∷ os) (d ∷ ds) outcome c all one = (all.0, AllEnded-append answer os ds outcome c all.1 one)
 AllEnded-append answer [] (d ∷ ds) outcome c all one = absurd all
@@ -58,7 +58,7 @@ cuts_more true counted n is = omega arith
 cuts_more false counted n is = omega arith
 
 -- nothing was added yet
-pub added_none : (answer : Answer) (p : Past) (before : ℕ) → Added answer p p before before 0 0
+pub added_none : (answer : Answering) (p : Past) (before : ℕ) → Added answer p p before before 0 0
 added_none answer p before = record {
   connections = [];
   outcomes = [];
@@ -69,7 +69,7 @@ added_none answer p before = record {
   caused = λ end. omega arith;
 }
 
-pub tells_none : (answer : Answer) (told : Option Past) (before : ℕ) → TellsOn (λ p q. Added answer p q before before 0 0) told told
+pub tells_none : (answer : Answering) (told : Option Past) (before : ℕ) → TellsOn (λ p q. Added answer p q before before 0 0) told told
 tells_none answer None before = tt
 tells_none answer (Some p) before = added_none answer p before
 
@@ -81,7 +81,7 @@ tells_step R S f (Some p) None now told step goes = absurd told
 tells_step R S f None (Some q) now told step goes = absurd told
 
 -- one more connection was accepted and served
-pub added_more : (answer : Answer) (address : Address) (ending : Ending) (old new : Option Past) (served : Served answer address ending.way ending.answered old new) (p q : Past) (before now then after : ℕ) (counts : Counts)
+pub added_more : (answer : Answering) (address : Address) (ending : Ending) (old new : Option Past) (served : Served answer address ending.way ending.answered old new) (p q : Past) (before now then after : ℕ) (counts : Counts)
     → Added answer p q before now counts.answered counts.cut → now ≤ then → then ≤ after → (ending.way ≡ way.Failed → Rose then after)
     → Added answer p (with_connection (after_all served.taken served.ended served.put) (after_accept (accepted.Connection address) q)) before after (counted ending counts).answered (counted ending counts).cut
 added_more answer address ending old new served p q before now then after counts so_far le1 le2 rose =

@@ -6,25 +6,24 @@ use Rattle.cd_outside.specs.declared.given.Given.TheVariants as given
 use Rattle.cd_outside.specs.Given.{IsGivenOf}
 use Rattle.cd_outside.specs.Counts.{count_end}
 use Rattle.cd_outside.specs.Past.{with_connection, after_put}
-use Rattle.cd_wire.specs.declared.answer.Answer.{Answer}
 use Rattle.cd_wire.specs.declared.request.Request.{Request}
 use Rattle.cd_wire.specs.declared.fault.WireFault.{WireFault}
 use Rattle.cd_wire.specs.Requests.{Splits, HasRequests, refused, clean, cut}
 use Rattle.caddy_run.specs.declared.way.Way.TheVariants as way
-use Rattle.caddy_run.specs.Replies.{answer_to, answers_to, closes, none_closes, refusal_to, IsCutOff, IsPart}
+use Rattle.caddy_run.specs.Replies.{Answering, answer_to, answers_to, closes, none_closes, refusal_to, IsCutOff, IsPart}
 use Rattle.caddy_run.specs.Connections.{after_all}
 use Rattle.caddy_run.specs.Going.{Going, Over}
 use Rattle.caddy_run.proofs.Told.{no_change, taking, ending, putting}
 
 -- ---- lists of requests
 
-answers_snoc : (answer : Answer) (requests : List Request) (request : Request) → answers_to answer requests ++ answer_to answer request ≡ answers_to answer (requests ++ request ∷ [])
+answers_snoc : (answer : Answering) (requests : List Request) (request : Request) → answers_to answer requests ++ answer_to answer request ≡ answers_to answer (requests ++ request ∷ [])
 answers_snoc answer [] request = sym (append-nil (answer_to answer request))
 answers_snoc answer (first ∷ requests) request =
     append_assoc (answer_to answer first) (answers_to answer requests) (answer_to answer request)
     ∙ ap (λ (t : List ℕ). answer_to answer first ++ t) (answers_snoc answer requests request)
 
-none_snoc : (answer : Answer) (requests : List Request) (request : Request) → none_closes answer requests ≡ true → closes answer request ≡ false → none_closes answer (requests ++ request ∷ []) ≡ true
+none_snoc : (answer : Answering) (requests : List Request) (request : Request) → none_closes answer requests ≡ true → closes answer request ≡ false → none_closes answer (requests ++ request ∷ []) ≡ true
 none_snoc answer [] request none stays = rw stays refl
 none_snoc answer (first ∷ requests) request none stays =
     let here = first_of (not (closes answer first)) (none_closes answer requests) none in
@@ -42,11 +41,11 @@ none_snoc answer (first ∷ requests) request none stays =
 -- ---- while it goes on
 
 -- nothing came yet
-pub going_new : (answer : Answer) (first : Option Past) → Going answer [] false 0 first first
+pub going_new : (answer : Answering) (first : Option Past) → Going answer [] false 0 first first
 going_new answer first = record { requests = []; taken = []; splits = refl; ahead = refl; counted = refl; past = no_change first }
 
 -- more bytes came
-pub going_more : (answer : Answer) (left piece new : List ℕ) (ended : Bool) (n : ℕ) (first then now : Option Past) (g : Going answer left ended n first then)
+pub going_more : (answer : Answering) (left piece new : List ℕ) (ended : Bool) (n : ℕ) (first then now : Option Past) (g : Going answer left ended n first then)
     → Splits (g.taken ++ piece) g.requests (left ++ piece) → new ≡ left ++ piece → now ≡ option_map (with_connection (λ c. record c { taken = c.taken ++ piece })) then → Going answer new ended n first now
 going_more answer left piece new ended n first then now g splits is step = record {
   requests = g.requests;
@@ -58,7 +57,7 @@ going_more answer left piece new ended n first then now g splits is step = recor
 }
 
 -- the end was seen
-pub going_ended : (answer : Answer) (left : List ℕ) (n : ℕ) (first then now : Option Past) → Going answer left false n first then
+pub going_ended : (answer : Answering) (left : List ℕ) (n : ℕ) (first then now : Option Past) → Going answer left false n first then
     → now ≡ option_map (with_connection (λ c. record c { ended = true })) then → Going answer left true n first now
 going_ended answer left n first then now g step = record {
   requests = g.requests;
@@ -70,7 +69,7 @@ going_ended answer left n first then now g step = record {
 }
 
 -- one more was answered
-module _ (answer : Answer) (left after part : List ℕ) (ended : Bool) (n m : ℕ) (first then now : Option Past) (request : Request) (g : Going answer left ended n first then)
+module _ (answer : Answering) (left after part : List ℕ) (ended : Bool) (n m : ℕ) (first then now : Option Past) (request : Request) (g : Going answer left ended n first then)
     (splits : Splits g.taken (g.requests ++ request ∷ []) after) (is : part ≡ answer_to answer request) (step : now ≡ option_map (after_put part) then) (more : m ≡ min (n + 1) count_end) where
   one_more : m ≡ min (length (g.requests ++ request ∷ [])) count_end
   one_more = omega (arith, more, g.counted, length-append g.requests (request ∷ []))
@@ -125,7 +124,7 @@ refused_is_served : (fault : WireFault) → way.Refused fault ≢ way.Dropped
 refused_is_served fault e = cc
 
 -- memory ran out
-pub over_memory : (answer : Answer) (left : List ℕ) (ended : Bool) (n : ℕ) (first now : Option Past) → Going answer left ended n first now → Over answer way.NoMemory n first now
+pub over_memory : (answer : Answering) (left : List ℕ) (ended : Bool) (n : ℕ) (first now : Option Past) → Going answer left ended n first now → Over answer way.NoMemory n first now
 over_memory answer left ended n first now g = record {
   requests = g.requests;
   taken = g.taken;
@@ -138,7 +137,7 @@ over_memory answer left ended n first now g = record {
 }
 
 -- less than a whole answer was put
-module _ (answer : Answer) (left part : List ℕ) (ended : Bool) (n : ℕ) (first then now : Option Past) (g : Going answer left ended n first then) (step : now ≡ option_map (after_put part) then) where
+module _ (answer : Answering) (left part : List ℕ) (ended : Bool) (n : ℕ) (first then now : Option Past) (g : Going answer left ended n first then) (step : now ≡ option_map (after_put part) then) where
   pub over_failed : IsPart answer left ended part → Over answer way.Failed n first now
   over_failed less = record {
     requests = g.requests;
@@ -165,7 +164,7 @@ module _ (answer : Answer) (left part : List ℕ) (ended : Bool) (n : ℕ) (firs
   }
 
 -- nothing is put where the lane failed in reading
-pub over_unread : (answer : Answer) (left : List ℕ) (ended : Bool) (n : ℕ) (first now : Option Past) → Going answer left ended n first now → Over answer way.Failed n first now
+pub over_unread : (answer : Answering) (left : List ℕ) (ended : Bool) (n : ℕ) (first now : Option Past) → Going answer left ended n first now → Over answer way.Failed n first now
 over_unread answer left ended n first now g = record {
   requests = g.requests;
   taken = g.taken;
@@ -177,7 +176,7 @@ over_unread answer left ended n first now g = record {
   past = g.past;
 }
 
-pub over_clean : (answer : Answer) (left : List ℕ) (ended : Bool) (n : ℕ) (first now : Option Past) (g : Going answer left ended n first now) → HasRequests g.taken ended g.requests clean → Over answer way.Clean n first now
+pub over_clean : (answer : Answering) (left : List ℕ) (ended : Bool) (n : ℕ) (first now : Option Past) (g : Going answer left ended n first now) → HasRequests g.taken ended g.requests clean → Over answer way.Clean n first now
 over_clean answer left ended n first now g has = record {
   requests = g.requests;
   taken = g.taken;
@@ -189,7 +188,7 @@ over_clean answer left ended n first now g has = record {
   past = g.past;
 }
 
-pub over_cut : (answer : Answer) (left : List ℕ) (ended : Bool) (n : ℕ) (first now : Option Past) (g : Going answer left ended n first now) → HasRequests g.taken ended g.requests cut → Over answer way.Cut n first now
+pub over_cut : (answer : Answering) (left : List ℕ) (ended : Bool) (n : ℕ) (first now : Option Past) (g : Going answer left ended n first now) → HasRequests g.taken ended g.requests cut → Over answer way.Cut n first now
 over_cut answer left ended n first now g has = record {
   requests = g.requests;
   taken = g.taken;

@@ -2,12 +2,12 @@
 use Rattle.std.proofs.Common.{◌≡◌, ◌≢◌, ◌∙◌, ℕ, false, [], Option, refl}
 use Rattle.cd_outside.specs.declared.past.Past.{Past}
 use Rattle.cd_outside.specs.declared.address.Address.{Address}
-use Rattle.cd_wire.specs.declared.answer.Answer.{Answer}
 use Rattle.caddy_run.specs.declared.way.Way.{Way}
 use Rattle.caddy_run.specs.declared.way.Way.TheVariants as way
 use Rattle.caddy_run.specs.Connections.{Served, IsAt, stdio_address}
 use Rattle.caddy_run.specs.Going.{Over}
 use Rattle.caddy_run.proofs.Told.{no_change}
+use Rattle.caddy_run.specs.Replies.{Answering}
 
 -- the connection is at standard input, but for one that is dropped
 at_stdio : (how : Way) (address : Address) → address ≡ stdio_address → how ≢ way.Dropped → IsAt how address
@@ -20,7 +20,7 @@ at_stdio way.NoMemory address here served = here
 at_stdio way.Dropped address here served = absurd (served refl)
 
 -- it was served
-pub served_over : (answer : Answer) (address : Address) (how : Way) (n : ℕ) (first then now : Option Past) → address ≡ stdio_address → Over answer how n first then → now ≡ then → Served answer address how n first now
+pub served_over : (answer : Answering) (address : Address) (how : Way) (n : ℕ) (first then now : Option Past) → address ≡ stdio_address → Over answer how n first then → now ≡ then → Served answer address how n first now
 served_over answer address how n first then now here over same = record {
   requests = over.requests;
   taken = over.taken;
@@ -32,7 +32,7 @@ served_over answer address how n first then now here over same = record {
 }
 
 -- nobody answers there
-pub served_dropped : (answer : Answer) (address : Address) (first now : Option Past) → address ≢ stdio_address → now ≡ first → Served answer address way.Dropped 0 first now
+pub served_dropped : (answer : Answering) (address : Address) (first now : Option Past) → address ≢ stdio_address → now ≡ first → Served answer address way.Dropped 0 first now
 served_dropped answer address first now there same = record {
   requests = [];
   taken = [];

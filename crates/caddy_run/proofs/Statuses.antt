@@ -1,5 +1,5 @@
 -- What a status tells of the exit code, and the lanes that come back.
-use Rattle.std.proofs.Common.{◌≡◌, ◌∙◌, ◌++◌, ◌⊎◌, ℕ, List, [], length, take, drop, false, if◌then◌else◌, refl, ap, inl, inr, arith}
+use Rattle.std.proofs.Common.{◌≡◌, ◌∙◌, ◌++◌, ◌⊎◌, ℕ, List, [], length, take, drop, true, false, if◌then◌else◌, refl, ap, inl, inr, arith}
 use Rattle.std.proofs.lemmas.List.{append-nil, take_all, drop_all}
 use Rattle.caddy_run.specs.declared.status.Status.{Status}
 use Rattle.caddy_run.specs.declared.status.Status.TheVariants as status
@@ -30,3 +30,20 @@ not_run status.Unsaid (inr (inr e)) = absurd (omega (arith, e))
 -- and so published nothing
 pub unpublished : (how : Status) → is_run how ≡ false → ◌≡◌ {A = ℕ} (if is_run how then 1 else 0) 0
 unpublished how no_run = rw no_run refl
+
+-- a call that ended with 5 began no run, or had no memory for its last line
+pub five_ways : (how : Status) → code_of how ≡ 5 → (how ≡ status.NoMemory) ⊎ (how ≡ status.Unsaid)
+five_ways status.Served e = absurd (omega (arith, e))
+five_ways status.Refused e = absurd (omega (arith, e))
+five_ways status.Usage e = absurd (omega (arith, e))
+five_ways status.ReadFault e = absurd (omega (arith, e))
+five_ways status.WriteFault e = absurd (omega (arith, e))
+five_ways status.NoMemory e = inl refl
+five_ways status.Unsaid e = inr refl
+
+pub no_run : (how : Status) → how ≡ status.NoMemory → is_run how ≡ false
+no_run how e = ap is_run e
+
+-- a run that was begun published one configuration
+pub one_published : (how : Status) → is_run how ≡ true → ◌≡◌ {A = ℕ} (if is_run how then 1 else 0) 1
+one_published how begun = rw begun refl

@@ -7,12 +7,11 @@ use Rattle.cd_outside.specs.declared.accepted.Accepted.{Accepted}
 use Rattle.cd_outside.specs.declared.accepted.Accepted.TheVariants as accepted
 use Rattle.cd_outside.specs.Counts.{count_end}
 use Rattle.cd_outside.specs.Past.{with_connection}
-use Rattle.cd_wire.specs.declared.answer.Answer.{Answer}
 use Rattle.cd_wire.specs.declared.request.Request.{Request}
 use Rattle.cd_wire.specs.Requests.{Splits, HasRequests, clean, cut, refused}
 use Rattle.caddy_run.specs.declared.way.Way.{Way}
 use Rattle.caddy_run.specs.declared.way.Way.TheVariants as way
-use Rattle.caddy_run.specs.Replies.{answers_to, closes, none_closes, refusal_to, IsPart}
+use Rattle.caddy_run.specs.Replies.{Answering, answers_to, closes, none_closes, refusal_to, IsPart}
 
 abbrev pub stdio_address : Address
 stdio_address = record { host = codes "stdio"; port = 0 }
@@ -20,7 +19,7 @@ stdio_address = record { host = codes "stdio"; port = 0 }
 -- ---- how one connection ends
 
 -- the last of these requests ends the connection, and none before it does
-pub record LastCloses (answer : Answer) (requests : List Request) : Type 0 where
+pub record LastCloses (answer : Answering) (requests : List Request) : Type 0 where
   pub before : List Request
   pub last : Request
   pub are : requests ≡ before ++ last ∷ []
@@ -32,7 +31,7 @@ abbrev pub BeginWith : List ℕ → List Request → Type 0
 BeginWith taken requests = (rest : List ℕ) × Splits taken requests rest
 
 -- the bytes are these requests, and then a rest; behind their answers came less than one more
-pub record IsCutShort (answer : Answer) (requests : List Request) (taken : List ℕ) (ended : Bool) (put : List ℕ) : Type 0 where
+pub record IsCutShort (answer : Answering) (requests : List Request) (taken : List ℕ) (ended : Bool) (put : List ℕ) : Type 0 where
   pub rest : List ℕ
   pub splits : Splits taken requests rest
   pub part : List ℕ
@@ -41,7 +40,7 @@ pub record IsCutShort (answer : Answer) (requests : List Request) (taken : List 
 
 -- The connection, from which these bytes were taken and on which this was put, ended in this way, once these requests were
 -- answered in whole: all that its bytes have, and then their tail; or those up to one that ends it; or it was cut short.
-abbrev pub EndsBy : Answer → List Request → List ℕ → Bool → List ℕ → Way → Type 0
+abbrev pub EndsBy : Answering → List Request → List ℕ → Bool → List ℕ → Way → Type 0
 EndsBy answer requests taken ended put way.Clean =
     HasRequests taken ended requests clean × (none_closes answer requests ≡ true) × (put ≡ answers_to answer requests)
 EndsBy answer requests taken ended put way.Cut =
@@ -72,13 +71,13 @@ pub record Outcome : Type 0 where
   pub how : Way
   pub requests : List Request
 
-pub record Ended (answer : Answer) (outcome : Outcome) (c : Connection) : Type 0 where
+pub record Ended (answer : Answering) (outcome : Outcome) (c : Connection) : Type 0 where
   pub at : IsAt outcome.how c.address
   pub by : EndsBy answer outcome.requests c.taken c.ended c.put outcome.how
   pub quiet : c.lines ≡ []
 
 -- each of these connections ended so
-abbrev pub AllEnded : Answer → List Outcome → List Connection → Type 0
+abbrev pub AllEnded : Answering → List Outcome → List Connection → Type 0
 AllEnded answer [] [] = Unit {0}
 AllEnded answer (outcome ∷ outcomes) (c ∷ cs) = Ended answer outcome c × AllEnded answer outcomes cs
 AllEnded answer [] (c ∷ cs) = ⊥
@@ -113,7 +112,7 @@ is_early how = is_failed how || is_cut how
 -- Between two moments of a lane, whose faults were `before` and are `now`, these connections were added, and ended so. Each
 -- failure has its cause: the connections that failed and the accepts that failed are together no more than the rises of the
 -- faults, unless these stand at their end.
-pub record Added (answer : Answer) (p q : Past) (before now answered cut : ℕ) : Type 0 where
+pub record Added (answer : Answering) (p q : Past) (before now answered cut : ℕ) : Type 0 where
   pub connections : List Connection
   pub outcomes : List Outcome
   pub added : q.connections ≡ p.connections ++ connections
@@ -130,7 +129,7 @@ abbrev pub after_all : List ℕ → Bool → List ℕ → Connection → Connect
 after_all taken ended put c = record c { taken = c.taken ++ taken; ended = c.ended || ended; put = c.put ++ put }
 
 -- the connection that had just come to this address was served; it ended in this way, with so many requests answered
-pub record Served (answer : Answer) (address : Address) (how : Way) (answered : ℕ) (old new : Option Past) : Type 0 where
+pub record Served (answer : Answering) (address : Address) (how : Way) (answered : ℕ) (old new : Option Past) : Type 0 where
   pub requests : List Request
   pub taken : List ℕ
   pub ended : Bool

@@ -3,18 +3,17 @@ use Rattle.std.specs.Prelude.{◌≡◌, ◌≢◌, ℕ, Bool, true, min, List, 
 use Rattle.cd_outside.specs.declared.past.Past.{Past}
 use Rattle.cd_outside.specs.Counts.{count_end}
 use Rattle.cd_outside.specs.Past.{with_connection}
-use Rattle.cd_wire.specs.declared.answer.Answer.{Answer}
 use Rattle.cd_wire.specs.declared.request.Request.{Request}
 use Rattle.cd_wire.specs.Requests.{Splits}
 use Rattle.caddy_run.specs.declared.connection.Session.{Session}
 use Rattle.caddy_run.specs.declared.way.Way.{Way}
 use Rattle.caddy_run.specs.declared.way.Way.TheVariants as way
-use Rattle.caddy_run.specs.Replies.{answers_to, none_closes}
+use Rattle.caddy_run.specs.Replies.{Answering, answers_to, none_closes}
 use Rattle.caddy_run.specs.Connections.{EndsBy, after_all}
 
 -- of the connection that had just come, some bytes were taken: so many requests, which were answered in whole, and then
 -- what is left
-pub record Going (answer : Answer) (left : List ℕ) (ended : Bool) (answered : ℕ) (first now : Option Past) : Type 0 where
+pub record Going (answer : Answering) (left : List ℕ) (ended : Bool) (answered : ℕ) (first now : Option Past) : Type 0 where
   pub requests : List Request
   pub taken : List ℕ
   pub splits : Splits taken requests left
@@ -23,7 +22,7 @@ pub record Going (answer : Answer) (left : List ℕ) (ended : Bool) (answered : 
   pub past : now ≡ option_map (with_connection (after_all taken ended (answers_to answer requests))) first
 
 -- the connection that had just come has ended in this way
-pub record Over (answer : Answer) (how : Way) (answered : ℕ) (first now : Option Past) : Type 0 where
+pub record Over (answer : Answering) (how : Way) (answered : ℕ) (first now : Option Past) : Type 0 where
   pub requests : List Request
   pub taken : List ℕ
   pub ended : Bool
@@ -34,6 +33,6 @@ pub record Over (answer : Answer) (how : Way) (answered : ℕ) (first now : Opti
   pub past : now ≡ option_map (with_connection (after_all taken ended put)) first
 
 -- it ended in this way, or goes on
-abbrev pub Goes : Answer → Option Way → Session → Option Past → Option Past → Type 0
+abbrev pub Goes : Answering → Option Way → Session → Option Past → Option Past → Type 0
 Goes answer (Some how) session first now = Over answer how session.answered first now
 Goes answer None session first now = Going answer session.intake session.ended session.answered first now

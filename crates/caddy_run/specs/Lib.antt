@@ -1,6 +1,5 @@
 pub mod Words
 pub mod Site
-pub mod StaticResponse
 pub mod Replies
 pub mod Connections
 pub mod Going

@@ -1,5 +1,5 @@
 -- What is written on the program's own output.
-use Rattle.std.specs.Prelude.{◌≡◌, ◌++◌, ℕ, List, codes, decimal, Option, option_map}
+use Rattle.std.specs.Prelude.{◌≡◌, ◌<◌, ◌++◌, ℕ, List, length, codes, decimal, Option, Some, option_map}
 
 abbrev pub serving_line : List ℕ
 serving_line = codes "serving initial configuration\n"
@@ -17,6 +17,14 @@ refused_line words = codes "refused: " ++ words ++ codes "\n"
 
 abbrev pub read_fault_line : List ℕ
 read_fault_line = codes "read fault\n"
+
+-- a sink that tells was given less than the line
+pub record FellShort (line : List ℕ) (old new : Option (List ℕ)) : Type 0 where
+  pub held : List ℕ
+  pub text : List ℕ
+  pub before : old ≡ Some held
+  pub after : new ≡ Some (held ++ text)
+  pub short : length text < length line
 
 -- the whole begins so
 abbrev pub IsFrontOf : List ℕ → List ℕ → Type 0

@@ -2,7 +2,6 @@
 use Rattle.std.specs.Prelude.{◌≡◌, ◌⊎◌, ℕ, Bool, true, false, List, [], ◌∷◌, Option, Result, Ok, Err}
 use Rattle.cd_outside.specs.declared.past.Past.{Past}
 use Rattle.cd_outside.specs.Telling.{TellsOn}
-use Rattle.cd_wire.specs.declared.answer.Answer.{Answer}
 use Rattle.caddy_run.specs.declared.refusal.Refusal.{Refusal}
 use Rattle.caddy_run.specs.declared.status.Status.{Status}
 use Rattle.caddy_run.specs.declared.status.Status.TheVariants as status
@@ -10,7 +9,9 @@ use Rattle.caddy_run.specs.Config.{Gave}
 use Rattle.caddy_run.specs.Connections.{Added, IsOver}
 use Rattle.caddy_run.specs.Output.{refused_line}
 use Rattle.caddy_run.specs.Site.{site_in, words_of}
-use Rattle.caddy_run.specs.StaticResponse.{static_answer}
+use Rattle.cd_routes.specs.Serving.{server_answer}
+use Rattle.cd_routes.specs.declared.server.Server.{Server}
+use Rattle.caddy_run.specs.Replies.{Answering}
 
 -- the exit status of the program
 abbrev pub code_of : Status → ℕ
@@ -37,16 +38,16 @@ abbrev pub IsRun : ℕ → Type 0
 IsRun code = (code ≡ 0) ⊎ (code ≡ 4)
 
 -- the source gave up the bytes of a configuration, and this is what they mean
-pub record Loads (old new : Option (List ℕ)) (found : Result (List ℕ) Refusal) : Type 0 where
+pub record Loads (old new : Option (List ℕ)) (found : Result Server Refusal) : Type 0 where
   pub bytes : List ℕ
   pub gave : Gave bytes old new
   pub is : site_in bytes ≡ found
 
--- the configuration is one that is served, and what was served is the answer that it names
-pub record Ran (old new : Option (List ℕ)) (served : Answer → Type 0) : Type 0 where
-  pub body : List ℕ
-  pub fine : Loads old new (Ok body)
-  pub serves : served (static_answer body)
+-- the configuration is one that is served, and each request was served with what its server answers to it
+pub record Ran (old new : Option (List ℕ)) (served : Answering → Type 0) : Type 0 where
+  pub server : Server
+  pub fine : Loads old new (Ok server)
+  pub serves : served (server_answer server)
 
 -- the configuration is refused, and its line tells why
 pub record WasRefused (old new : Option (List ℕ)) (told : List ℕ → Type 0) : Type 0 where
@@ -54,9 +55,9 @@ pub record WasRefused (old new : Option (List ℕ)) (told : List ℕ → Type 0)
   pub refused : Loads old new (Err refusal)
   pub tells : told (refused_line (words_of refusal))
 
--- Each lane was served with the answer, and with status 0 no further connection comes. `faults` and `past` are what a lane
+-- Each lane was served with these answers, and with status 0 no further connection comes. `faults` and `past` are what a lane
 -- tells.
-abbrev pub EachServed : {L : Type 0} → (L → ℕ) → (L → Option Past) → ℕ → ℕ → ℕ → List L → List L → Answer → Type 0
+abbrev pub EachServed : {L : Type 0} → (L → ℕ) → (L → Option Past) → ℕ → ℕ → ℕ → List L → List L → Answering → Type 0
 EachServed faults past status answered cut [] [] answer = Unit {0}
 EachServed faults past status answered cut (l ∷ ls) (m ∷ ms) answer =
     TellsOn (λ p q. Added answer p q (faults l) (faults m) answered cut × (status ≡ 0 → IsOver q.last)) (past l) (past m)

@@ -7,6 +7,7 @@ ghost use Rattle.caddy_run.specs.declared.refusal.Refusal.{Refusal as Refused};
 use crate::refusal::Refusal;
 use crate::site::site_in;
 use cd_outside::{Source, Taken};
+use cd_routes::Server;
 use cd_text::Octets;
 use cd_tree::MAX_TEXT_BYTES;
 use std::alloc::Global;
@@ -42,8 +43,8 @@ pub fn read_config<S: Source>(alloc: Global, config: &mut S) -> Result<Octets, C
     Ok(bytes)
 }
 
-/// Why there is no site to serve.
-#[derive(Clone, Copy, Debug, PartialEq, Eq)]
+/// Why there is no server.
+#[derive(Debug, Drop)]
 pub enum Unloaded {
     /// The source failed.
     Failed,
@@ -53,9 +54,9 @@ pub enum Unloaded {
     NoMemory,
 }
 
-/// The text that the configuration answers with.
-pub fn load<S: Source>(alloc: Global, config: &mut S) -> Result<Octets, Unloaded>
-    ensures fine { IfOk result (λ body. Loads (S.left config.old) (S.left config.new) (Ok body)) }
+/// The server of the configuration.
+pub fn load<S: Source>(alloc: Global, config: &mut S) -> Result<Server, Unloaded>
+    ensures fine { IfOk result (λ server. Loads (S.left config.old) (S.left config.new) (Ok server)) }
     ensures refused { (refusal : Refused) → result ≡ Err (Unloaded.Refused refusal) → Loads (S.left config.old) (S.left config.new) (Err refusal) }
     ensures failed { result ≡ Err Unloaded.Failed → Rose (S.faults config.old) (S.faults config.new) }
 {
@@ -65,7 +66,7 @@ pub fn load<S: Source>(alloc: Global, config: &mut S) -> Result<Octets, Unloaded
         Err(ConfigFault::NoMemory) => return Err(Unloaded::NoMemory),
     };
     match site_in(alloc, bytes.as_slice()) {
-        Ok(body) => Ok(body),
+        Ok(server) => Ok(server),
         Err(Refusal::NoMemory) => Err(Unloaded::NoMemory),
         Err(refusal) => Err(Unloaded::Refused(refusal)),
     }

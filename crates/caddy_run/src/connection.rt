@@ -1,17 +1,19 @@
-ghost use Rattle.std.specs.Prelude.{◌≡◌, ◌≤◌, ◌++◌, List, ℕ, true, false, Some, Option, option_map, IsTrue, ◌↔◌};
+ghost use Rattle.std.specs.Prelude.{◌≡◌, ◌≤◌, ◌++◌, IfOk, List, ℕ, true, false, Some, Option, option_map, IsTrue, ◌↔◌};
 ghost use Rattle.cd_outside.specs.declared.past.Past.{Past};
 ghost use Rattle.cd_outside.specs.Counts.{Rose};
 ghost use Rattle.cd_outside.specs.Given.{IsGivenOf};
 ghost use Rattle.cd_outside.specs.Past.{after_put};
 ghost use Rattle.cd_wire.specs.Requests.{BeginsRequest, HasNoRequest, HasTail, refused};
-ghost use Rattle.caddy_run.specs.Replies.{is_head, closes};
+ghost use Rattle.caddy_run.specs.Replies.{Answering, is_head, answer_to, closes};
+ghost use Rattle.cd_routes.specs.Serving.{server_answer};
 ghost use Rattle.caddy_run.specs.Connections.{Served, stdio_address};
 ghost use Rattle.caddy_run.specs.Going.{Going, Over, Goes};
 
 use crate::way::{Ending, Way};
 use cd_outside::{Address, Given, Lane, Taken};
-use cd_text::NoMemory;
-use cd_wire::{Answer, Intake, Next, Request, WireFault, refusal, render, splits_stay};
+use cd_routes::{Server, server_answer};
+use cd_text::{NoMemory, Octets};
+use cd_wire::{Intake, Next, Request, WireFault, refusal, render, splits_stay};
 use std::alloc::Global;
 use std::sync::Wait;
 
@@ -30,13 +32,13 @@ struct Session {
 pub fn serve_connection<R: Wait, L: Lane>(
     rt: &R,
     alloc: Global,
-    answer: &Answer,
+    server: &Server,
     address: &Address,
     lane: &mut L,
 ) -> Ending
     requires { L.busy lane.old ≡ true }
     ensures busy { L.busy lane.new ≡ false }
-    ensures served { Served answer.now address.now result.way result.answered (L.past lane.old) (L.past lane.new) }
+    ensures served { Served (server_answer server.now) address.now result.way result.answered (L.past lane.old) (L.past lane.new) }
     ensures later { L.faults lane.old ≤ L.faults lane.new }
     ensures failed { result.way ≡ Way.Failed → Rose (L.faults lane.old) (L.faults lane.new) }
 {
@@ -47,7 +49,7 @@ pub fn serve_connection<R: Wait, L: Lane>(
             answered: 0,
         };
     }
-    let ending = answer_all(rt, alloc, answer, lane);
+    let ending = answer_all(rt, alloc, server, lane);
     lane.end();
     ending
 }
@@ -60,10 +62,10 @@ fn is_stdio(address: &Address) -> bool
 }
 
 // Answers the requests of the connection, one after another, until it ends.
-fn answer_all<R: Wait, L: Lane>(rt: &R, alloc: Global, answer: &Answer, lane: &mut L) -> Ending
+fn answer_all<R: Wait, L: Lane>(rt: &R, alloc: Global, server: &Server, lane: &mut L) -> Ending
     requires { L.busy lane.old ≡ true }
     ensures busy { L.busy lane.new ≡ true }
-    ensures over { Over answer.now result.way result.answered (L.past lane.old) (L.past lane.new) }
+    ensures over { Over (server_answer server.now) result.way result.answered (L.past lane.old) (L.past lane.new) }
     ensures later { L.faults lane.old ≤ L.faults lane.new }
     ensures failed { result.way ≡ Way.Failed → Rose (L.faults lane.old) (L.faults lane.new) }
 {
@@ -73,7 +75,7 @@ fn answer_all<R: Wait, L: Lane>(rt: &R, alloc: Global, answer: &Answer, lane: &m
         answered: 0,
     };
     for _ in rt.forever() {
-        if let Some(way) = go_on(alloc, answer, &mut session, lane) {
+        if let Some(way) = go_on(alloc, server, &mut session, lane) {
             return Ending {
                 way,
                 answered: session.answered,
@@ -86,21 +88,21 @@ fn answer_all<R: Wait, L: Lane>(rt: &R, alloc: Global, answer: &Answer, lane: &m
 // Answers the next request, or reads more bytes, or tells how the connection ended.
 fn go_on<L: Lane>(
     alloc: Global,
-    answer: &Answer,
+    server: &Server,
     session: &mut Session,
     lane: &mut L,
 ) -> Option<Way>
     requires { L.busy lane.old ≡ true }
     ensures busy { L.busy lane.new ≡ true }
     ensures goes { (first : Option Past)
-        → Going answer.now session.old.intake session.old.ended session.old.answered first (L.past lane.old)
-        → Goes answer.now result session.new first (L.past lane.new) }
+        → Going (server_answer server.now) session.old.intake session.old.ended session.old.answered first (L.past lane.old)
+        → Goes (server_answer server.now) result session.new first (L.past lane.new) }
     ensures later { L.faults lane.old ≤ L.faults lane.new }
     ensures failed { result ≡ Some Way.Failed → Rose (L.faults lane.old) (L.faults lane.new) }
 {
     splits_stay();
     match session.intake.next(session.ended) {
-        Ok(Next::Request(request)) => answer_request(alloc, answer, &request, session, lane),
+        Ok(Next::Request(request)) => answer_request(alloc, server, &request, session, lane),
         Ok(Next::More) => read_more(session, lane),
         Ok(Next::End) => Some(Way::Clean),
         Ok(Next::Cut) => Some(Way::Cut),
@@ -115,17 +117,29 @@ fn is_head(request: &Request) -> bool
     request.method.equals("HEAD")
 }
 
-// Whether the connection ends behind the answer.
-fn closes(answer: &Answer, request: &Request) -> bool
-    ensures { result ≡ closes answer.now request.now }
+// What is put for a request.
+#[derive(Drop)]
+struct Reply {
+    bytes: Octets,
+    // Whether the connection ends behind it.
+    closes: bool,
+}
+
+fn reply_to(alloc: Global, server: &Server, request: &Request) -> Result<Reply, NoMemory>
+    ensures { IfOk result (λ reply. (reply.bytes ≡ answer_to (server_answer server.now) request.now)
+        × (reply.closes ≡ closes (server_answer server.now) request.now)) }
 {
-    answer.close || request.close
+    let answer = server_answer(alloc, server, request)?;
+    Ok(Reply {
+        bytes: render(alloc, &answer, is_head(request), request.close)?,
+        closes: answer.close || request.close,
+    })
 }
 
 // Answers a request that was just taken off the front of what was left.
 fn answer_request<L: Lane>(
     alloc: Global,
-    answer: &Answer,
+    server: &Server,
     request: &Request,
     session: &mut Session,
     lane: &mut L,
@@ -133,22 +147,22 @@ fn answer_request<L: Lane>(
     requires { L.busy lane.old ≡ true }
     ensures busy { L.busy lane.new ≡ true }
     ensures goes { (first : Option Past) (left : List ℕ)
-        → Going answer.now left session.old.ended session.old.answered first (L.past lane.old)
+        → Going (server_answer server.now) left session.old.ended session.old.answered first (L.past lane.old)
         → BeginsRequest left request.now session.old.intake
-        → Goes answer.now result session.new first (L.past lane.new) }
+        → Goes (server_answer server.now) result session.new first (L.past lane.new) }
     ensures later { L.faults lane.old ≤ L.faults lane.new }
     ensures failed { result ≡ Some Way.Failed → Rose (L.faults lane.old) (L.faults lane.new) }
 {
     splits_stay();
-    let Ok(bytes) = render(alloc, answer, is_head(request), request.close) else {
+    let Ok(reply) = reply_to(alloc, server, request) else {
         return Some(Way::NoMemory);
     };
-    match put(lane, bytes.as_slice()) {
+    match put(lane, reply.bytes.as_slice()) {
         Given::Failed => return Some(Way::Failed),
         Given::All => {}
     }
     session.answered = session.answered.saturating_add(1);
-    if closes(answer, request) {
+    if reply.closes {
         return Some(Way::Closed);
     }
     None
@@ -159,7 +173,7 @@ fn read_more<L: Lane>(session: &mut Session, lane: &mut L) -> Option<Way>
     requires busy { L.busy lane.old ≡ true }
     requires more { session.old.ended ≡ false }
     ensures busy { L.busy lane.new ≡ true }
-    ensures goes { (answer : Answer) (first : Option Past)
+    ensures goes { (answer : Answering) (first : Option Past)
         → Going answer session.old.intake session.old.ended session.old.answered first (L.past lane.old)
         → Goes answer result session.new first (L.past lane.new) }
     ensures later { L.faults lane.old ≤ L.faults lane.new }
@@ -177,7 +191,7 @@ fn take_more<L: Lane>(session: &mut Session, lane: &mut L) -> Option<Way>
     requires busy { L.busy lane.old ≡ true }
     requires more { session.old.ended ≡ false }
     ensures busy { L.busy lane.new ≡ true }
-    ensures goes { (answer : Answer) (first : Option Past)
+    ensures goes { (answer : Answering) (first : Option Past)
         → Going answer session.old.intake session.old.ended session.old.answered first (L.past lane.old)
         → Goes answer result session.new first (L.past lane.new) }
     ensures later { L.faults lane.old ≤ L.faults lane.new }
@@ -204,7 +218,7 @@ fn take_more<L: Lane>(session: &mut Session, lane: &mut L) -> Option<Way>
 fn refuse<L: Lane>(fault: WireFault, session: &Session, lane: &mut L) -> Way
     requires { L.busy lane.old ≡ true }
     ensures busy { L.busy lane.new ≡ true }
-    ensures goes { (answer : Answer) (first : Option Past)
+    ensures goes { (answer : Answering) (first : Option Past)
         → Going answer session.now.intake session.now.ended session.now.answered first (L.past lane.old)
         → HasNoRequest session.now.intake → HasTail session.now.intake session.now.ended (refused fault)
         → Over answer result session.now.answered first (L.past lane.new) }

@@ -4,8 +4,8 @@
 //! `main` hands it the real ones: standard streams and the file of the configuration (streams.rt, console.rt,
 //! config_file.rt). These tell nothing of content, so no contract speaks of what a stream or a file holds.
 //!
-//! The modules in between read the configuration (config.rt), find what it serves (site.rt, static_response.rt), serve the
-//! connections of a lane one after another (serve.rt, connection.rt), count them (counts.rt), and say what was
+//! The modules in between read the configuration (config.rt), find the server in it (site.rt), serve the connections of a
+//! lane one after another with what the server answers (serve.rt, connection.rt), count them (counts.rt), and say what was
 //! done (output.rt).
 #![tactic(auto)]
 
@@ -16,12 +16,17 @@ mod config_file;
 mod connection;
 mod console;
 mod counts;
+#[cfg(test)]
+mod device_tests;
 mod laws;
 mod output;
 mod refusal;
+#[cfg(test)]
+mod running;
 mod serve;
 mod site;
-mod static_response;
+#[cfg(test)]
+mod site_tests;
 mod status;
 mod streams;
 #[cfg(test)]

@@ -4,7 +4,7 @@ ghost use Rattle.cd_outside.specs.Given.{IsGivenOf};
 ghost use Rattle.caddy_run.specs.Site.{words_of};
 ghost use Rattle.caddy_run.specs.Output.{served_line, refused_line};
 
-use crate::refusal::Refusal;
+use crate::refusal::{Refusal, fault_words};
 use cd_outside::{Given, Sink};
 use cd_text::{NoMemory, Text};
 use std::alloc::Global;
@@ -28,11 +28,22 @@ pub fn served_line(alloc: Global, answered: u64, published: u32) -> Result<Text,
     Ok(Text::from_string(line))
 }
 
-/// The line that tells why a configuration is refused.
-pub fn refused_line(alloc: Global, refusal: Refusal) -> Result<Text, NoMemory>
-    ensures { IfOk result (λ line. line ≡ refused_line (words_of refusal)) }
+// The line of a refusal in these words.
+fn line_of(alloc: Global, words: &str) -> Result<Text, NoMemory>
+    ensures { IfOk result (λ line. line ≡ refused_line words.now) }
 {
-    let words = refusal.words();
     let line = format!(in alloc; "refused: {words}\n")?;
     Ok(Text::from_string(line))
+}
+
+/// The line that tells why a configuration is refused. Want of memory has no words.
+pub fn refused_line(alloc: Global, refusal: &Refusal) -> Result<Text, NoMemory>
+    ensures { IfOk result (λ line. line ≡ refused_line (words_of refusal.now)) }
+{
+    match refusal {
+        Refusal::NoTree(fault) => line_of(alloc, fault_words(*fault)),
+        Refusal::NotYet => line_of(alloc, "not yet"),
+        Refusal::Settings(fault) => line_of(alloc, fault.words(alloc)?.as_str()),
+        Refusal::NoMemory => line_of(alloc, ""),
+    }
 }

@@ -1,35 +1,25 @@
 ghost use Rattle.std.specs.Prelude.{◌≡◌};
-ghost use Rattle.caddy_run.specs.Site.{words_of, fault_words};
+ghost use Rattle.caddy_run.specs.Site.{fault_words};
 
+use cd_module::Refusal as SettingsRefusal;
 use cd_text::NoMemory;
 use cd_tree::TreeFault;
-use std::alloc::{AllocError, AllocFailed};
 
 /// Why a configuration is refused.
-#[derive(Clone, Copy, Debug, PartialEq, Eq)]
+#[derive(Debug, Drop)]
 pub enum Refusal {
     /// Its bytes are no tree.
     NoTree(TreeFault),
     /// Its tree has not the form that is served so far.
     NotYet,
+    /// The settings of its server have a fault.
+    Settings(SettingsRefusal),
     /// Want of memory.
     NoMemory,
 }
 
-impl Refusal {
-    /// The words that the operator reads behind `refused: `. Want of memory has none.
-    pub fn words(self) -> &'static str
-        ensures { result.now ≡ words_of self }
-    {
-        match self {
-            Refusal::NoTree(fault) => fault_words(fault),
-            Refusal::NotYet => "not yet",
-            Refusal::NoMemory => "",
-        }
-    }
-}
-
-fn fault_words(fault: TreeFault) -> &'static str
+/// The words for bytes that are no tree. Want of memory has none.
+pub fn fault_words(fault: TreeFault) -> &'static str
     ensures { result.now ≡ fault_words fault }
 {
     match fault {

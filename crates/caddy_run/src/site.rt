@@ -1,12 +1,14 @@
-ghost use Rattle.std.specs.Prelude.{◌≡◌, Option, Some, option_map};
+//! The server of a configuration.
+ghost use Rattle.std.specs.Prelude.{◌≡◌, IfOk, option_map};
 ghost use Rattle.std.specs.Option.{option_copied};
-ghost use Rattle.std.specs.List.{list_all};
 ghost use Rattle.cd_text.specs.Gives.{Gives};
-ghost use Rattle.caddy_run.specs.Site.{members_of, items_of, text_of, single, alone, pair, only, server_of, routes_of, handler_of, is_plain_byte, body_of, site_of, site_in};
+ghost use Rattle.caddy_run.specs.Site.{members_of, single, alone, server_place, server_path, server_at, site_in};
 
 use crate::refusal::Refusal;
-use cd_text::{Octets, Text};
-use cd_tree::{Member, Tree, TreeFault, read};
+use cd_module::{LoadFault, Settings, is_a_setting};
+use cd_routes::Server;
+use cd_text::{NoMemory, Text};
+use cd_tree::{Member, Path, Tree, TreeFault, read};
 use std::alloc::Global;
 
 fn members(tree: &Tree) -> &[Member]
@@ -15,34 +17,6 @@ fn members(tree: &Tree) -> &[Member]
     match tree {
         Tree::Object(members) => members.as_slice(),
         Tree::Null | Tree::Bool(_) | Tree::Num(_) | Tree::Text(_) | Tree::Items(_) => &[],
-    }
-}
-
-fn items(tree: &Tree) -> &[Tree]
-    ensures { result.now ≡ items_of tree.now }
-{
-    match tree {
-        Tree::Items(items) => items.as_slice(),
-        Tree::Null | Tree::Bool(_) | Tree::Num(_) | Tree::Text(_) | Tree::Object(_) => &[],
-    }
-}
-
-fn text(tree: &Tree) -> Option<&Text>
-    ensures { option_copied result ≡ text_of tree.now }
-{
-    match tree {
-        Tree::Text(text) => Some(text),
-        Tree::Null | Tree::Bool(_) | Tree::Num(_) | Tree::Items(_) | Tree::Object(_) => None,
-    }
-}
-
-// The value of the one member, of whatever name.
-fn single(tree: &Tree) -> Option<&Tree>
-    ensures { option_copied result ≡ single tree.now }
-{
-    match members(tree) {
-        [member] => Some(&member.value),
-        _ => None,
     }
 }
 
@@ -56,37 +30,28 @@ fn alone<'a>(tree: &'a Tree, name: &str) -> Option<&'a Tree>
     }
 }
 
+// A server as it stands in a tree.
 #[derive(Clone, Copy)]
-struct Values<'a> {
-    first: &'a Tree,
-    second: &'a Tree,
+struct Place<'a> {
+    name: &'a Text,
+    tree: &'a Tree,
 }
 
-// The values of two members, which have these names.
-fn pair<'a>(tree: &'a Tree, one: &str, two: &str) -> Option<Values<'a>>
-    ensures { option_map (λ values. (values.first.now, values.second.now)) result ≡ pair one.now two.now tree.now }
+// The one member, where it is a setting, of whatever name.
+fn single(tree: &Tree) -> Option<Place<'_>>
+    ensures { option_map (λ place. (place.name.now, place.tree.now)) result ≡ single tree.now }
 {
     match members(tree) {
-        [first, second] if first.key.equals(one) && second.key.equals(two) => Some(Values {
-            first: &first.value,
-            second: &second.value,
+        [member] if is_a_setting(member) => Some(Place {
+            name: &member.key,
+            tree: &member.value,
         }),
         _ => None,
     }
 }
 
-// The one element.
-fn only(tree: &Tree) -> Option<&Tree>
-    ensures { option_copied result ≡ only tree.now }
-{
-    match items(tree) {
-        [item] => Some(item),
-        _ => None,
-    }
-}
-
-fn server(tree: &Tree) -> Option<&Tree>
-    ensures { option_copied result ≡ server_of tree.now }
+fn server_place(tree: &Tree) -> Option<Place<'_>>
+    ensures { option_map (λ place. (place.name.now, place.tree.now)) result ≡ server_place tree.now }
 {
     let apps = alone(tree, "apps")?;
     let http = alone(apps, "http")?;
@@ -94,58 +59,30 @@ fn server(tree: &Tree) -> Option<&Tree>
     single(servers)
 }
 
-fn routes(server: &Tree) -> Option<&Tree>
-    ensures { option_copied result ≡ routes_of server.now }
+fn server_path(alloc: Global, name: &str) -> Result<Path, NoMemory>
+    ensures { IfOk result (λ path. path ≡ server_path name.now) }
 {
-    let values = pair(server, "listen", "routes")?;
-    let listen = only(values.first)?;
-    text(listen)?;
-    Some(values.second)
+    let apps = Path::root(alloc).member(alloc, "apps")?;
+    let http = apps.member(alloc, "http")?;
+    let servers = http.member(alloc, "servers")?;
+    servers.member(alloc, name)
 }
 
-fn handler(routes: &Tree) -> Option<&Tree>
-    ensures { option_copied result ≡ handler_of routes.now }
+#[tactic(auto, unfolding(crate::specs::Site::server_at))]
+fn server_at(alloc: Global, name: &Text, tree: &Tree) -> Result<Server, Refusal>
+    ensures { Gives Refusal.NoMemory result (server_at (name.now, tree.now)) }
 {
-    let route = only(routes)?;
-    let handle = alone(route, "handle")?;
-    only(handle)
-}
-
-fn body(handler: &Tree) -> Option<&Text>
-    ensures { option_copied result ≡ body_of handler.now }
-{
-    let values = pair(handler, "body", "handler")?;
-    let kind = text(values.second)?;
-    if !kind.equals("static_response") {
-        return None;
-    }
-    let body = text(values.first)?;
-    if is_plain(body.as_str().as_bytes()) {
-        Some(body)
-    } else {
-        None
+    let at = server_path(alloc, name.as_str())?;
+    match Server::read(alloc, tree, &at) {
+        Ok(server) => Ok(server),
+        Err(LoadFault::Refused(fault)) => Err(Refusal::Settings(fault)),
+        Err(LoadFault::NoMemory) => Err(Refusal::NoMemory),
     }
 }
 
-// Whether no placeholder begins in the body, and it is no JSON of a list or an object.
-fn is_plain(body: &[u8]) -> bool
-    ensures { result ≡ list_all is_plain_byte body.now }
-{
-    body.iter().all(|byte| *byte != b'{' && *byte != b'[')
-}
-
-#[tactic(auto, unfolding(crate::specs::Site::site_of))]
-fn site_of(tree: &Tree) -> Option<&Text>
-    ensures { option_copied result ≡ site_of tree.now }
-{
-    let server = server(tree)?;
-    let routes = routes(server)?;
-    let handler = handler(routes)?;
-    body(handler)
-}
-
-/// The text that the configuration of these bytes answers with.
-pub fn site_in(alloc: Global, bytes: &[u8]) -> Result<Octets, Refusal>
+/// The server of the configuration of these bytes.
+#[tactic(auto, unfolding(crate::specs::Site::site_in))]
+pub fn site_in(alloc: Global, bytes: &[u8]) -> Result<Server, Refusal>
     ensures { Gives Refusal.NoMemory result (site_in bytes.now) }
 {
     let tree = match read(alloc, bytes) {
@@ -153,8 +90,8 @@ pub fn site_in(alloc: Global, bytes: &[u8]) -> Result<Octets, Refusal>
         Err(TreeFault::NoMemory) => return Err(Refusal::NoMemory),
         Err(fault) => return Err(Refusal::NoTree(fault)),
     };
-    let Some(body) = site_of(&tree) else {
-        return Err(Refusal::NotYet);
-    };
-    Ok(Octets::from_slice(alloc, body.as_str().as_bytes())?)
+    match server_place(&tree) {
+        Some(place) => server_at(alloc, place.name, place.tree),
+        None => Err(Refusal::NotYet),
+    }
 }

@@ -1,10 +1,10 @@
-ghost use Rattle.std.specs.Prelude.{◌≡◌, ◌≢◌, ◌<◌, ◌≤◌, ◌↔◌, ◌⊎◌, true, false, length, All, MatchBool, if◌then◌else◌};
+ghost use Rattle.std.specs.Prelude.{◌≡◌, ◌≢◌, ◌<◌, ◌≤◌, ◌↔◌, ◌⊎◌, true, false, length, All, if◌then◌else◌};
 ghost use Rattle.cd_outside.specs.Counts.{Rose};
 ghost use Rattle.cd_outside.specs.Telling.{TellsOn};
+ghost use Rattle.cd_routes.specs.Serving.{server_answer};
 ghost use Rattle.caddy_run.specs.Connections.{Added, IsOver};
-ghost use Rattle.caddy_run.specs.Output.{Wrote, run_text, served_line, refused_line, read_fault_line};
+ghost use Rattle.caddy_run.specs.Output.{Wrote, FellShort, run_text, serving_line, served_line, refused_line, read_fault_line};
 ghost use Rattle.caddy_run.specs.Site.{words_of};
-ghost use Rattle.caddy_run.specs.StaticResponse.{static_answer};
 ghost use Rattle.caddy_run.specs.Top.{IsRun, Ran, WasRefused, EachServed, IsUntouched, code_of, is_run};
 ghost use Rattle.caddy_run.specs.Words.{is_stdio, IsUnbuilt, usage_line, unbuilt_line};
 
@@ -13,12 +13,11 @@ use crate::counts::Counts;
 use crate::output::{refused_line, say, served_line};
 use crate::refusal::Refusal;
 use crate::serve::serve_all;
-use crate::static_response::static_answer;
 use crate::status::Status;
 use crate::words::{is_stdio, is_unbuilt};
 use cd_outside::{Fixtures, Given, Lane, Sink, Source};
-use cd_text::{List, NoMemory, Octets, Text};
-use cd_wire::Answer;
+use cd_routes::Server;
+use cd_text::{List, NoMemory, Text};
 use std::alloc::Global;
 use std::sync::Wait;
 use std::thread::Threads;
@@ -67,7 +66,7 @@ fn say_line<O: Sink>(out: &mut O, line: &str)
 fn serve_and_say<R: Wait, O: Sink, L: Lane>(
     rt: &R,
     alloc: Global,
-    answer: &Answer,
+    server: &Server,
     out: &mut O,
     lane: &mut L,
 ) -> Report
@@ -75,15 +74,16 @@ fn serve_and_say<R: Wait, O: Sink, L: Lane>(
     ensures idle { L.busy lane.new ≡ false }
     ensures run { is_run result.status ≡ true }
     ensures write_fault { result.status ≡ Status.WriteFault → Rose (O.faults out.old) (O.faults out.new) }
-    ensures told { TellsOn (λ p q. Added answer.now p q (L.faults lane.old) (L.faults lane.new) result.counts.answered result.counts.cut
+    ensures told { TellsOn (λ p q. Added (server_answer server.now) p q (L.faults lane.old) (L.faults lane.new) result.counts.answered result.counts.cut
         × (code_of result.status ≡ 0 → IsOver q.last)) (L.past lane.old) (L.past lane.new) }
     ensures text { Wrote (run_text result.counts.answered 1) (code_of result.status ≡ 0) (O.holds out.old) (O.holds out.new) }
+    ensures unbegun { FellShort serving_line (O.holds out.old) (O.holds out.new) → (lane.new ≡ lane.old) × (result.counts ≡ record { answered = 0; cut = 0 }) }
 {
     match say(out, "serving initial configuration\n") {
         Given::All => {}
         Given::Failed => return unserved(Status::WriteFault),
     }
-    let counts = serve_all(rt, alloc, answer, lane);
+    let counts = serve_all(rt, alloc, server, lane);
     let status = say_served(alloc, out, &counts);
     Report { status, counts }
 }
@@ -104,35 +104,13 @@ fn say_served<O: Sink>(alloc: Global, out: &mut O, counts: &Counts) -> Status
     }
 }
 
-// Serves the lane with the body.
-fn serve_body<R: Wait, O: Sink, L: Lane>(
-    rt: &R,
-    alloc: Global,
-    body: Octets,
-    out: &mut O,
-    lane: &mut L,
-) -> Report
-    requires { L.busy lane.old ≡ false }
-    ensures idle { L.busy lane.new ≡ false }
-    ensures run { MatchBool (is_run result.status) (Unit {0}) (result ≡ record { status = Status.NoMemory; counts = record { answered = 0; cut = 0 } } × (lane.new ≡ lane.old) × (O.holds out.new ≡ O.holds out.old)) }
-    ensures write_fault { result.status ≡ Status.WriteFault → Rose (O.faults out.old) (O.faults out.new) }
-    ensures told { is_run result.status ≡ true → TellsOn (λ p q. Added (static_answer body) p q (L.faults lane.old) (L.faults lane.new) result.counts.answered result.counts.cut
-        × (code_of result.status ≡ 0 → IsOver q.last)) (L.past lane.old) (L.past lane.new) }
-    ensures text { is_run result.status ≡ true → Wrote (run_text result.counts.answered 1) (code_of result.status ≡ 0) (O.holds out.old) (O.holds out.new) }
-{
-    match static_answer(alloc, body) {
-        Ok(answer) => serve_and_say(rt, alloc, &answer, out, lane),
-        Err(NoMemory) => unserved(Status::NoMemory),
-    }
-}
-
 // Says why the configuration is refused.
 fn refuse<O: Sink>(alloc: Global, refusal: Refusal, out: &mut O) -> Report
     ensures known { (result ≡ record { status = Status.Refused; counts = record { answered = 0; cut = 0 } })
         ⊎ ((result ≡ record { status = Status.NoMemory; counts = record { answered = 0; cut = 0 } }) × (O.holds out.new ≡ O.holds out.old)) }
     ensures told { result.status ≡ Status.Refused → Wrote (refused_line (words_of refusal)) (¬ (Rose (O.faults out.old) (O.faults out.new))) (O.holds out.old) (O.holds out.new) }
 {
-    match refused_line(alloc, refusal) {
+    match refused_line(alloc, &refusal) {
         Ok(line) => {
             say_line(out, line.as_str());
             unserved(Status::Refused)
@@ -163,9 +141,10 @@ fn run<R: Wait, S: Source, O: Sink, L: Lane>(
     ensures text { is_run result.status ≡ true → Wrote (run_text result.counts.answered 1) (code_of result.status ≡ 0) (O.holds out.old) (O.holds out.new) }
     ensures untouched { is_run result.status ≡ false → (lanes.new ≡ lanes.old) × (result.counts ≡ record { answered = 0; cut = 0 }) }
     ensures silent { result.status ≡ Status.NoMemory → O.holds out.new ≡ O.holds out.old }
+    ensures unbegun { FellShort serving_line (O.holds out.old) (O.holds out.new) → (lanes.new ≡ lanes.old) × (result.counts ≡ record { answered = 0; cut = 0 }) }
 {
     match load(alloc, config) {
-        Ok(body) => serve_body(rt, alloc, body, out, &mut lanes[0]),
+        Ok(server) => serve_and_say(rt, alloc, &server, out, &mut lanes[0]),
         Err(Unloaded::Failed) => {
             say_line(out, "read fault\n");
             unserved(Status::ReadFault)
@@ -191,7 +170,8 @@ fn usage(words: &[Text]) -> &'static str
 /// The program, over all that it is handed: its words, the source of its configuration, its output, its fixtures and its lanes.
 ///
 /// It knows the words `stdio --config FILE` so far: it serves the one lane, which has the connection of standard input and
-/// output, by the configuration that `config` gives. It returns once the lane gives no further connection.
+/// output, by the configuration that `config` gives: each request is answered as the server's routes say. It returns once
+/// the lane gives no further connection.
 ///
 /// | status | when |
 /// |---|---|
@@ -230,6 +210,9 @@ pub fn caddy_main<R: Threads + Wait + Sync, S: Source, O: Sink, F: Fixtures + Se
         (EachServed L.faults L.past result.status result.answered result.cut lanes result.lanes) }
     ensures ran_text { IsRun result.status → Wrote (run_text result.answered result.published) (result.status ≡ 0) (O.holds out.old) (O.holds out.new) }
     ensures published { IsRun result.status → result.published ≡ 1 }
+
+    // Nothing is served before the whole first line was written.
+    ensures unbegun { FellShort serving_line (O.holds out.old) (O.holds out.new) → (result.lanes ≡ lanes) × (result.answered ≡ 0) × (result.cut ≡ 0) }
 
     ensures read_fault { result.status ≡ 3 → Rose (S.faults config.old) (S.faults config.new) }
     ensures read_fault_text { result.status ≡ 3 → Wrote read_fault_line (¬ (Rose (O.faults out.old) (O.faults out.new))) (O.holds out.old) (O.holds out.new) }

@@ -1,6 +1,7 @@
 use Rattle.std.proofs.Common.{List, ℕ, false, sym, subst, arith}
 use Rattle.caddy_run.specs.Going.{Going}
 use Rattle.caddy_run.proofs.Going.{going_new}
+use Rattle.cd_routes.specs.Serving.{server_answer}
 use Rattle.caddy_run.proofs.connection.answer_all.Goals as goal
 
 -- nothing came yet
@@ -9,5 +10,5 @@ loop-init g c = record {
   turns = (tt, tt);
   busy = c.requires;
   later = omega arith;
-  going = subst (λ (left : List ℕ). Going c.args.answer.now left false 0 (g.L.Lane.past c.args.lane.now) (g.L.Lane.past c.args.lane.now)) (sym c.new.ensures) (going_new c.args.answer.now (g.L.Lane.past c.args.lane.now));
+  going = subst (λ (left : List ℕ). Going (server_answer c.args.server.now) left false 0 (g.L.Lane.past c.args.lane.now) (g.L.Lane.past c.args.lane.now)) (sym c.new.ensures) (going_new (server_answer c.args.server.now) (g.L.Lane.past c.args.lane.now));
 }

@@ -1,8 +1,8 @@
-use Rattle.std.proofs.Common.{◌≡◌, ◌∙◌, ◌+◌, ap, sym, min, Bool, inl, inr, arith}
+use Rattle.std.proofs.Common.{◌≡◌, ◌∙◌, ◌+◌, sym, min, inl, inr, arith}
 use Rattle.cd_outside.specs.Counts.{count_end}
-use Rattle.cd_wire.specs.Render.{render}
 use Rattle.caddy_run.specs.Replies.{answer_to}
 use Rattle.caddy_run.proofs.Going.{going_answered, over_closed, over_failed, cut_off}
+use Rattle.cd_routes.specs.Serving.{server_answer}
 use Rattle.caddy_run.proofs.connection.answer_request.Goals as goal
 
 -- a part of the answer was put
@@ -10,31 +10,31 @@ pub returns-in-Failed-clause-goes : goal.returns-in-Failed-clause-goes
 returns-in-Failed-clause-goes g c first left going begins =
     let puts = c.in-Failed.ensures.past in
     let session = c.args.session.now in
-    let told : c.as_slice.result.now ≡ answer_to c.args.answer.now c.args.request.now =
-    c.as_slice.ensures ∙ c.in-Ok.ensures ∙ ap (λ (head : Bool). render c.args.answer.now head c.args.request.now.close) c.is_head.ensures in
-    over_failed c.args.answer.now left puts.0 session.ended session.answered first (g.L.Lane.past c.args.lane.now) (g.L.Lane.past c.put.new.lane) going puts.2
-    (inr (inl (c.args.request.now, session.intake, begins, cut_off puts.0 (answer_to c.args.answer.now c.args.request.now) c.as_slice.result.now told puts.1)))
+    let told : c.as_slice.result.now ≡ answer_to (server_answer c.args.server.now) c.args.request.now =
+    c.as_slice.ensures ∙ c.in-Ok.ensures.0 in
+    over_failed (server_answer c.args.server.now) left puts.0 session.ended session.answered first (g.L.Lane.past c.args.lane.now) (g.L.Lane.past c.put.new.lane) going puts.2
+    (inr (inl (c.args.request.now, session.intake, begins, cut_off puts.0 (answer_to (server_answer c.args.server.now) c.args.request.now) c.as_slice.result.now told puts.1)))
 
 -- the answer was put, and ends the connection
-pub returns-then-closes-clause-goes : goal.returns-then-closes-clause-goes
-returns-then-closes-clause-goes g c first left going begins =
+pub returns-then-reply-clause-goes : goal.returns-then-reply-clause-goes
+returns-then-reply-clause-goes g c first left going begins =
     let puts = c.in-All.ensures.past in
     let session = c.args.session.now in
-    let told : c.as_slice.result.now ≡ answer_to c.args.answer.now c.args.request.now =
-    c.as_slice.ensures ∙ c.in-Ok.ensures ∙ ap (λ (head : Bool). render c.args.answer.now head c.args.request.now.close) c.is_head.ensures in
+    let told : c.as_slice.result.now ≡ answer_to (server_answer c.args.server.now) c.args.request.now =
+    c.as_slice.ensures ∙ c.in-Ok.ensures.0 in
     let more : c.saturating_add-session.result ≡ min (session.answered + 1) count_end = omega (arith, c.saturating_add-session.ensures) in
-    over_closed c.args.answer.now left session.intake puts.0 session.ended session.answered c.saturating_add-session.result first (g.L.Lane.past c.args.lane.now) (g.L.Lane.past c.put.new.lane) c.args.request.now going
+    over_closed (server_answer c.args.server.now) left session.intake puts.0 session.ended session.answered c.saturating_add-session.result first (g.L.Lane.past c.args.lane.now) (g.L.Lane.past c.put.new.lane) c.args.request.now going
     (c.splits_stay.ensures.taken going.taken going.requests c.args.request.now left session.intake going.splits begins)
-    (puts.1 ∙ told) puts.2 more (sym c.closes.ensures ∙ c.if-closes.true)
+    (puts.1 ∙ told) puts.2 more (sym c.in-Ok.ensures.1 ∙ c.if-reply.true)
 
 -- the answer was put, and the connection goes on
 pub returns-clause-goes : goal.returns-clause-goes
 returns-clause-goes g c first left going begins =
     let puts = c.in-All.ensures.past in
     let session = c.args.session.now in
-    let told : c.as_slice.result.now ≡ answer_to c.args.answer.now c.args.request.now =
-    c.as_slice.ensures ∙ c.in-Ok.ensures ∙ ap (λ (head : Bool). render c.args.answer.now head c.args.request.now.close) c.is_head.ensures in
+    let told : c.as_slice.result.now ≡ answer_to (server_answer c.args.server.now) c.args.request.now =
+    c.as_slice.ensures ∙ c.in-Ok.ensures.0 in
     let more : c.saturating_add-session.result ≡ min (session.answered + 1) count_end = omega (arith, c.saturating_add-session.ensures) in
-    going_answered c.args.answer.now left session.intake puts.0 session.ended session.answered c.saturating_add-session.result first (g.L.Lane.past c.args.lane.now) (g.L.Lane.past c.put.new.lane) c.args.request.now going
+    going_answered (server_answer c.args.server.now) left session.intake puts.0 session.ended session.answered c.saturating_add-session.result first (g.L.Lane.past c.args.lane.now) (g.L.Lane.past c.put.new.lane) c.args.request.now going
     (c.splits_stay.ensures.taken going.taken going.requests c.args.request.now left session.intake going.splits begins)
-    (puts.1 ∙ told) puts.2 more (sym c.closes.ensures ∙ c.if-closes.false)
+    (puts.1 ∙ told) puts.2 more (sym c.in-Ok.ensures.1 ∙ c.if-reply.false)

@@ -3,19 +3,20 @@ use Rattle.cd_outside.specs.declared.past.Past.{Past}
 use Rattle.cd_outside.specs.declared.address.Address.{Address}
 use Rattle.cd_outside.specs.declared.accepted.Accepted.TheVariants as accepted
 use Rattle.cd_outside.specs.Past.{with_connection, after_accept}
-use Rattle.cd_wire.specs.declared.answer.Answer.{Answer}
 use Rattle.caddy_run.specs.Connections.{Added, after_all}
 use Rattle.caddy_run.specs.Counted.{counted}
 use Rattle.caddy_run.proofs.Told.{both_steps}
 use Rattle.caddy_run.proofs.Adding.{tells_none, tells_step, added_more}
 use Rattle.caddy_run.proofs.serve.serve_all.Goals as goal
+use Rattle.caddy_run.specs.Replies.{Answering}
+use Rattle.cd_routes.specs.Serving.{server_answer}
 
 pub loop-init : goal.loop-init
 loop-init g c = record {
   turns = (tt, tt);
   idle = c.requires;
   later = omega arith;
-  told = rw c.new-counts.ensures (tells_none c.args.answer.now (g.L.Lane.past c.args.lane.now) (g.L.Lane.faults c.args.lane.now));
+  told = rw c.new-counts.ensures (tells_none (server_answer c.args.server.now) (g.L.Lane.past c.args.lane.now) (g.L.Lane.faults c.args.lane.now));
 }
 
 pub loop-preserved : goal.loop-preserved
@@ -26,7 +27,7 @@ loop-preserved g c =
     let now : Option Past = g.L.Lane.past c.serve_connection.new.lane in
     let faults : ℕ = g.L.Lane.faults c.args.lane.now in
     let served = c.serve_connection.ensures.served in
-    let answer : Answer = c.args.answer.now in
+    let answer : Answering = server_answer c.args.server.now in
     let address : Address = c.in-Connection.address in
     let step = λ (q : Past). with_connection (after_all served.taken served.ended served.put) (after_accept (accepted.Connection address) q) in
     let is : now ≡ option_map step then = both_steps (after_accept (accepted.Connection address)) (with_connection (after_all served.taken served.ended served.put)) step then there now c.in-Connection.ensures.past served.past (λ q. refl) in
