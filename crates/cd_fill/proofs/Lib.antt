@@ -1,4 +1,5 @@
 pub mod Commas
 pub mod Braces
 pub mod Pieces
+pub mod Closings
 pub mod Placeholders

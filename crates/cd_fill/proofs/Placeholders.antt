@@ -4,8 +4,9 @@ use Rattle.std.specs.List.{All, slice_split, onto_first, list_any, before_last, 
 use Rattle.std.proofs.Math.Seq.{get_or-append_seam, take-append_seam, drop-append-add}
 use Rattle.std.proofs.lemmas.List.{get_or-append-add}
 use Rattle.std.proofs.lemmas.List.Splits.{slice_split_none, length-slice_split}
+use Rattle.cd_fill.specs.declared.form.Form.{Form}
 use Rattle.cd_fill.specs.declared.scene.Scene.{Scene}
-use Rattle.cd_fill.specs.Filling.{open_brace, close_brace, is_brace, placeholder, closed_piece, pieces_filled, filled}
+use Rattle.cd_fill.specs.Filling.{open_brace, close_brace, is_brace, written, named, closed_piece, pieces_filled, filled_as}
 use Rattle.cd_fill.proofs.Braces.{last_before, last_after, some_open, none_open}
 use Rattle.cd_fill.proofs.Pieces.{pieces-more}
 
@@ -27,9 +28,9 @@ opens_not name plain piece k low high =
     ∙ ap open_brace (get_or-append-add piece (123 ∷ name) (suc j) 0)
     ∙ not_left (open_brace (get_or name j 0)) (close_brace (get_or name j 0)) (plain j 0 within)
 
-closed_name : (x : Scene) (piece name : List ℕ) → All (λ byte. is_brace byte ≡ false) name → closed_piece x (piece ++ 123 ∷ name) ≡ piece ++ placeholder x name
+closed_name : (form : Form) (x : Scene) (piece name : List ℕ) → All (λ byte. is_brace byte ≡ false) name → closed_piece form x (piece ++ 123 ∷ name) ≡ written form piece ++ named form x name
 unfolding closed_piece
-closed_name x piece name plain =
+closed_name form x piece name plain =
     let xs = piece ++ 123 ∷ name in
     let within : length piece < length xs = omega (arith, length-append piece (123 ∷ name)) in
     let here : open_brace (get_or xs (length piece) 0) ≡ true = ap open_brace (get_or-append_seam piece 123 name 0) in
@@ -45,9 +46,9 @@ closed_name x piece name plain =
     rw (opens, before, after) refl
 
 -- pieces that are all closed
-abbrev closed_all : Scene → List (List ℕ) → List ℕ
-closed_all x [] = []
-closed_all x (piece ∷ pieces) = closed_piece x piece ++ closed_all x pieces
+abbrev closed_all : Form → Scene → List (List ℕ) → List ℕ
+closed_all form x [] = []
+closed_all form x (piece ∷ pieces) = closed_piece form x piece ++ closed_all form x pieces
 
 -- the last piece with more behind it
 abbrev onto_last : List ℕ → List (List ℕ) → List (List ℕ)
@@ -55,21 +56,21 @@ onto_last more [] = more ∷ []
 onto_last more (piece ∷ []) = (piece ++ more) ∷ []
 onto_last more (piece ∷ next ∷ pieces) = piece ∷ onto_last more (next ∷ pieces)
 
-pieces-append : (x : Scene) (pieces more : List (List ℕ)) → 0 < length more → pieces_filled x (pieces ++ more) ≡ closed_all x pieces ++ pieces_filled x more
+pieces-append : (form : Form) (x : Scene) (pieces more : List (List ℕ)) → 0 < length more → pieces_filled form x (pieces ++ more) ≡ closed_all form x pieces ++ pieces_filled form x more
 unfolding pieces_filled
-pieces-append x [] more some = refl
-pieces-append x (piece ∷ pieces) more some =
-    pieces-more x piece (pieces ++ more) (omega (arith, length-append pieces more))
-    ∙ ap (λ t. closed_piece x piece ++ t) (pieces-append x pieces more some)
-    ∙ sym (append_assoc (closed_piece x piece) (closed_all x pieces) (pieces_filled x more))
+pieces-append form x [] more some = refl
+pieces-append form x (piece ∷ pieces) more some =
+    pieces-more form x piece (pieces ++ more) (omega (arith, length-append pieces more))
+    ∙ ap (λ t. closed_piece form x piece ++ t) (pieces-append form x pieces more some)
+    ∙ sym (append_assoc (closed_piece form x piece) (closed_all form x pieces) (pieces_filled form x more))
 
-closed_last : (x : Scene) (pieces : List (List ℕ)) (name : List ℕ) → All (λ byte. is_brace byte ≡ false) name → 0 < length pieces → closed_all x (onto_last (123 ∷ name) pieces) ≡ pieces_filled x pieces ++ placeholder x name
+closed_last : (form : Form) (x : Scene) (pieces : List (List ℕ)) (name : List ℕ) → All (λ byte. is_brace byte ≡ false) name → 0 < length pieces → closed_all form x (onto_last (123 ∷ name) pieces) ≡ pieces_filled form x pieces ++ named form x name
 unfolding pieces_filled
-closed_last x [] name plain some = absurd (omega arith)
-closed_last x (piece ∷ []) name plain some = append-nil (closed_piece x (piece ++ 123 ∷ name)) ∙ closed_name x piece name plain
-closed_last x (piece ∷ next ∷ pieces) name plain some =
-    ap (λ t. closed_piece x piece ++ t) (closed_last x (next ∷ pieces) name plain (omega arith))
-    ∙ sym (append_assoc (closed_piece x piece) (pieces_filled x (next ∷ pieces)) (placeholder x name))
+closed_last form x [] name plain some = absurd (omega arith)
+closed_last form x (piece ∷ []) name plain some = append-nil (closed_piece form x (piece ++ 123 ∷ name)) ∙ closed_name form x piece name plain
+closed_last form x (piece ∷ next ∷ pieces) name plain some =
+    ap (λ t. closed_piece form x piece ++ t) (closed_last form x (next ∷ pieces) name plain (omega arith))
+    ∙ sym (append_assoc (closed_piece form x piece) (pieces_filled form x (next ∷ pieces)) (named form x name))
 
 -- ---- cutting at each `}`
 
@@ -102,33 +103,32 @@ plain_name name plain zero d within = refl
 plain_name name plain (suc k) d within = not_right (open_brace (get_or name k d)) (close_brace (get_or name k d)) (plain k d (omega arith))
 
 -- a placeholder is replaced, and what stands on its two sides is filled by itself
-pub placeholder_replaced : (x : Scene) (before name after : List ℕ) → All (λ byte. is_brace byte ≡ false) name → filled x (before ++ 123 ∷ (name ++ 125 ∷ after)) ≡ filled x before ++ placeholder x name ++ filled x after
-unfolding filled
-placeholder_replaced x before name after plain =
-    ap (λ text. pieces_filled x (slice_split close_brace text)) (sym (append_assoc before (123 ∷ name) (125 ∷ after)))
-    ∙ ap (pieces_filled x) (cut_behind (before ++ 123 ∷ name) after)
-    ∙ pieces-append x (slice_split close_brace (before ++ 123 ∷ name)) (slice_split close_brace after) (omega (arith, length-slice_split close_brace after))
-    ∙ ap (λ pieces. closed_all x pieces ++ pieces_filled x (slice_split close_brace after)) (cut_last before (123 ∷ name) (plain_name name plain))
-    ∙ ap (λ text. text ++ pieces_filled x (slice_split close_brace after)) (closed_last x (slice_split close_brace before) name plain (omega (arith, length-slice_split close_brace before)))
+pub placeholder_replaced : (form : Form) (x : Scene) (before name after : List ℕ) → All (λ byte. is_brace byte ≡ false) name → filled_as form x (before ++ 123 ∷ (name ++ 125 ∷ after)) ≡ filled_as form x before ++ named form x name ++ filled_as form x after
+unfolding filled_as
+placeholder_replaced form x before name after plain =
+    ap (λ text. pieces_filled form x (slice_split close_brace text)) (sym (append_assoc before (123 ∷ name) (125 ∷ after)))
+    ∙ ap (pieces_filled form x) (cut_behind (before ++ 123 ∷ name) after)
+    ∙ pieces-append form x (slice_split close_brace (before ++ 123 ∷ name)) (slice_split close_brace after) (omega (arith, length-slice_split close_brace after))
+    ∙ ap (λ pieces. closed_all form x pieces ++ pieces_filled form x (slice_split close_brace after)) (cut_last before (123 ∷ name) (plain_name name plain))
+    ∙ ap (λ text. text ++ pieces_filled form x (slice_split close_brace after)) (closed_last form x (slice_split close_brace before) name plain (omega (arith, length-slice_split close_brace before)))
 
 -- without a `}` all of a text is its last piece
-pub unclosed_stays : (x : Scene) (text : List ℕ) → All (λ byte. close_brace byte ≡ false) text → filled x text ≡ text
-unfolding filled pieces_filled
-unclosed_stays x text plain = ap (pieces_filled x) (slice_split_none close_brace text plain)
+pub unclosed_stays : (form : Form) (x : Scene) (text : List ℕ) → All (λ byte. close_brace byte ≡ false) text → filled_as form x text ≡ written form text
+unfolding filled_as pieces_filled
+unclosed_stays form x text plain = ap (pieces_filled form x) (slice_split_none close_brace text plain)
 
-closed_front : (x : Scene) (front : List ℕ) → All (λ byte. is_brace byte ≡ false) front → closed_piece x front ≡ front ++ 125 ∷ []
+closed_front : (form : Form) (x : Scene) (front : List ℕ) → All (λ byte. is_brace byte ≡ false) front → closed_piece form x front ≡ written form (front ++ 125 ∷ [])
 unfolding closed_piece
-closed_front x front plain =
+closed_front form x front plain =
     let none : list_any open_brace front ≡ false = none_open front (λ k _ within. not_left (open_brace (get_or front k 0)) (close_brace (get_or front k 0)) (plain k 0 within)) in
     rw none refl
 
--- a `}` that no `{` stands before stays, and what stands behind it is filled by itself
-pub unopened_stays : (x : Scene) (front rest : List ℕ) → All (λ byte. is_brace byte ≡ false) front → filled x (front ++ 125 ∷ rest) ≡ front ++ 125 ∷ filled x rest
-unfolding filled
-unopened_stays x front rest plain =
+-- what a `}` ends that no `{` stands before is as written, and what stands behind it is filled by itself
+pub unopened_stays : (form : Form) (x : Scene) (front rest : List ℕ) → All (λ byte. is_brace byte ≡ false) front → filled_as form x (front ++ 125 ∷ rest) ≡ written form (front ++ 125 ∷ []) ++ filled_as form x rest
+unfolding filled_as
+unopened_stays form x front rest plain =
     let closes : All (λ byte. close_brace byte ≡ false) front = λ k d within. not_right (open_brace (get_or front k d)) (close_brace (get_or front k d)) (plain k d within) in
-    ap (pieces_filled x) (cut_behind front rest)
-    ∙ ap (λ pieces. pieces_filled x (pieces ++ slice_split close_brace rest)) (slice_split_none close_brace front closes)
-    ∙ pieces-more x front (slice_split close_brace rest) (omega (arith, length-slice_split close_brace rest))
-    ∙ ap (λ text. text ++ pieces_filled x (slice_split close_brace rest)) (closed_front x front plain)
-    ∙ append_assoc front (125 ∷ []) (pieces_filled x (slice_split close_brace rest))
+    ap (pieces_filled form x) (cut_behind front rest)
+    ∙ ap (λ pieces. pieces_filled form x (pieces ++ slice_split close_brace rest)) (slice_split_none close_brace front closes)
+    ∙ pieces-more form x front (slice_split close_brace rest) (omega (arith, length-slice_split close_brace rest))
+    ∙ ap (λ text. text ++ pieces_filled form x (slice_split close_brace rest)) (closed_front form x front plain)

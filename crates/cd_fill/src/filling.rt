@@ -1,38 +1,14 @@
 //! Texts with their placeholders replaced.
-ghost use Rattle.std.specs.Prelude.{◌≡◌, ◌++◌, ◌∷◌, ◌<◌, ◌+◌, [], MatchOption, OnOk, true, false, take, drop, length};
+ghost use Rattle.std.specs.Prelude.{◌≡◌, ◌++◌, ◌<◌, ◌+◌, MatchOption, OnOk, true, false, take, drop, length};
 ghost use Rattle.std.specs.List.{before_first, after_first, before_last, after_last, list_any, position, position_or_len};
 ghost use Rattle.cd_text.specs.Gives.{Gives};
 ghost use Rattle.cd_fill.specs.declared.fault.FillFault.{FillFault};
-ghost use Rattle.cd_fill.specs.Filling.{open_brace, close_brace, placeholder, closed_piece, filled, fill};
+ghost use Rattle.cd_fill.specs.Filling.{open_brace, close_brace, closed_piece, bounded, fill_as, fill};
 
-use crate::values::put_value;
-use crate::{FillFault, MAX_FILLED_BYTES, Scene};
+use crate::treating::{put_named, put_written};
+use crate::{FillFault, Form, MAX_FILLED_BYTES, Scene};
 use cd_text::{NoMemory, Octets, Text};
 use std::alloc::Global;
-
-fn put_as_written(out: &mut Octets, name: &[u8]) -> Result<(), NoMemory>
-    ensures { OnOk result (out.new ≡ out.old ++ (123 ∷ (name.now ++ 125 ∷ []))) }
-{
-    out.push(b'{')?;
-    out.append(name)?;
-    out.push(b'}')
-}
-
-#[tactic(auto, unfolding(crate::specs::Filling::placeholder))]
-fn put_placeholder(
-    alloc: Global,
-    out: &mut Octets,
-    scene: &Scene,
-    name: &[u8],
-) -> Result<(), NoMemory>
-    ensures { OnOk result (out.new ≡ out.old ++ placeholder scene.now name.now) }
-{
-    if put_value(alloc, out, scene, name)? {
-        Ok(())
-    } else {
-        put_as_written(out, name)
-    }
-}
 
 fn last_open(piece: &[u8]) -> Option<usize>
     ensures { MatchOption result (list_any open_brace piece.now ≡ false)
@@ -50,17 +26,23 @@ fn last_open(piece: &[u8]) -> Option<usize>
     None
 }
 
-#[tactic(auto, unfolding(crate::specs::Filling::closed_piece))]
-fn put_closed(alloc: Global, out: &mut Octets, scene: &Scene, piece: &[u8]) -> Result<(), NoMemory>
-    ensures { OnOk result (out.new ≡ out.old ++ closed_piece scene.now piece.now) }
+#[tactic(auto, using(crate::proofs::Closings::unopened_written), unfolding(crate::specs::Filling::closed_piece))]
+fn put_closed(
+    alloc: Global,
+    out: &mut Octets,
+    form: Form,
+    scene: &Scene,
+    piece: &[u8],
+) -> Result<(), NoMemory>
+    ensures { OnOk result (out.new ≡ out.old ++ closed_piece form scene.now piece.now) }
 {
     match last_open(piece) {
         Some(at) => {
-            out.append(&piece[..at])?;
-            put_placeholder(alloc, out, scene, &piece[at + 1..])
+            put_written(out, form, &piece[..at])?;
+            put_named(alloc, out, form, scene, &piece[at + 1..])
         }
         None => {
-            out.append(piece)?;
+            put_written(out, form, piece)?;
             out.push(b'}')
         }
     }
@@ -85,29 +67,36 @@ fn split_at_close(text: &[u8]) -> Option<(&[u8], &[u8])>
     }
 }
 
-// The filled bytes of a text. The length is looked at behind each placeholder, so what is too long does not grow on.
-fn fill_bytes(alloc: Global, text: &[u8], scene: &Scene) -> Result<Octets, FillFault>
-    ensures { Gives FillFault.NoMemory result (fill scene.now text.now) }
+fn bounded(filled: Octets) -> Result<Octets, FillFault>
+    ensures { result ≡ bounded filled }
+{
+    if filled.len() > MAX_FILLED_BYTES {
+        return Err(FillFault::TooLong);
+    }
+    Ok(filled)
+}
+
+/// The bytes of a text filled in that form. `TooLong` exactly where there are more than `MAX_FILLED_BYTES`.
+pub fn fill_as(alloc: Global, form: Form, text: &[u8], scene: &Scene) -> Result<Octets, FillFault>
+    ensures { Gives FillFault.NoMemory result (fill_as form scene.now text.now) }
 {
     let mut out = Octets::new(alloc);
     let mut rest = text;
+    // The length is looked at behind each placeholder, so what is too long does not grow on.
     while let Some((piece, behind)) = split_at_close(rest) {
-        put_closed(alloc, &mut out, scene, piece)?;
+        put_closed(alloc, &mut out, form, scene, piece)?;
         rest = behind;
         if out.len() > MAX_FILLED_BYTES {
             return Err(FillFault::TooLong);
         }
     }
-    if rest.len() > MAX_FILLED_BYTES - out.len() {
-        return Err(FillFault::TooLong);
-    }
-    out.append(rest)?;
-    Ok(out)
+    put_written(&mut out, form, rest)?;
+    bounded(out)
 }
 
 /// The text with its placeholders replaced. `TooLong` exactly where that has more than `MAX_FILLED_BYTES`.
 pub fn fill(alloc: Global, text: &Text, scene: &Scene) -> Result<Octets, FillFault>
     ensures { Gives FillFault.NoMemory result (fill scene.now text.now) }
 {
-    fill_bytes(alloc, text.as_str().as_bytes(), scene)
+    fill_as(alloc, Form::Plain, text.as_str().as_bytes(), scene)
 }

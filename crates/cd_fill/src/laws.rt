@@ -1,19 +1,22 @@
 //! What filling means in the words of the rule, as a call that does nothing.
-ghost use Rattle.std.specs.Prelude.{◌≡◌, ℕ, List, ◌∷◌, ◌++◌, false, All};
+ghost use Rattle.std.specs.Prelude.{◌≡◌, ℕ, List, [], ◌∷◌, ◌++◌, false, All};
+ghost use Rattle.cd_fill.specs.declared.form.Form.{Form};
 ghost use Rattle.cd_fill.specs.declared.scene.Scene.{Scene};
-ghost use Rattle.cd_fill.specs.Filling.{is_brace, close_brace, placeholder, filled};
+ghost use Rattle.cd_fill.specs.Filling.{is_brace, close_brace, written, named, filled_as};
 
-/// A placeholder is replaced wherever it stands, and what stands on its two sides is filled by itself: so what is filled in
-/// makes no placeholder, neither in itself nor with what stands around it. A text without `}` stays as it is written, and so
-/// does a `}` that no brace stands before. Each text has at least one of these three
-/// forms, so no other filling obeys this.
+/// In each form a placeholder is replaced wherever it stands, and what stands on its two sides is filled by itself: so what
+/// is filled in makes no placeholder, neither in itself nor with what stands around it, and no escape that is written goes on
+/// in it. A text without `}` is treated as what is written in that form, and so is what a `}` ends that no brace stands
+/// before. Each text is one of these three kinds, so no other filling obeys this.
 pub fn placeholders_are_replaced()
-    ensures replaced { (scene : Scene) (before name after : List ℕ)
+    ensures replaced { (form : Form) (scene : Scene) (before name after : List ℕ)
         → All (λ byte. is_brace byte ≡ false) name
-        → filled scene (before ++ 123 ∷ (name ++ 125 ∷ after))
-        ≡ filled scene before ++ placeholder scene name ++ filled scene after }
-    ensures unclosed { (scene : Scene) (text : List ℕ) → All (λ byte. close_brace byte ≡ false) text
-        → filled scene text ≡ text }
-    ensures unopened { (scene : Scene) (front rest : List ℕ) → All (λ byte. is_brace byte ≡ false) front
-        → filled scene (front ++ 125 ∷ rest) ≡ front ++ 125 ∷ filled scene rest }
+        → filled_as form scene (before ++ 123 ∷ (name ++ 125 ∷ after))
+        ≡ filled_as form scene before ++ named form scene name ++ filled_as form scene after }
+    ensures unclosed { (form : Form) (scene : Scene) (text : List ℕ)
+        → All (λ byte. close_brace byte ≡ false) text → filled_as form scene text ≡ written form text }
+    ensures unopened { (form : Form) (scene : Scene) (front rest : List ℕ)
+        → All (λ byte. is_brace byte ≡ false) front
+        → filled_as form scene (front ++ 125 ∷ rest)
+        ≡ written form (front ++ 125 ∷ []) ++ filled_as form scene rest }
 {}

@@ -4,9 +4,10 @@
 //! far, and what is to be answered. Its fields are public, since matchers read and handlers change them. `Scene::new` is the
 //! scene in which a request meets the first route (specs/Scene.antt).
 //!
-//! `fill` replaces the placeholders of a text, as `{http.request.method}`, by what they stand for in a scene. The table of
-//! names is in specs/Values.antt, and what a placeholder is in specs/Filling.antt. `placeholders_are_replaced` says what that
-//! means, one law for each form that a text may have.
+//! `fill` replaces the placeholders of a text, as `{http.request.method}`, by what they stand for in a scene. `fill_as` does so
+//! for a path or a query too, where a `Form` says how what is written and what is filled in are treated. The table of names is
+//! in specs/Values.antt, and what a placeholder is in specs/Filling.antt. `placeholders_are_replaced` says what that means in
+//! each form, one law for each kind of text.
 //!
 //! Which texts are filled is left to the crates above, and so is what a handler changes.
 #![tactic(auto)]
@@ -14,6 +15,9 @@
 mod failure;
 mod fault;
 mod filling;
+mod form;
+#[cfg(test)]
+mod form_tests;
 mod host;
 mod joining;
 mod laws;
@@ -23,16 +27,19 @@ mod request_line;
 mod scene;
 #[cfg(test)]
 mod tests;
+mod treating;
 mod uri;
 mod values;
 mod variable;
 
 pub use failure::Failure;
 pub use fault::FillFault;
-pub use filling::fill;
+pub use filling::{fill, fill_as};
+pub use form::Form;
 pub use host::host_without_port;
 pub use laws::placeholders_are_replaced;
 pub use limits::MAX_FILLED_BYTES;
 pub use request_line::RequestLine;
 pub use scene::Scene;
+pub use uri::with_slash;
 pub use variable::{Variable, value_of_variable};

@@ -1,6 +1,7 @@
 ghost use Rattle.std.specs.Prelude.{◌≡◌, [], ◌∷◌, IfOk};
 ghost use Rattle.cd_fill.specs.Scene.{line_of, server_field, scene_of, original_line};
 
+use crate::request_line::copy_query;
 use crate::uri::uri_of;
 use crate::{Failure, RequestLine, Variable};
 use cd_text::{List, NoMemory, Octets, Text};
@@ -30,15 +31,6 @@ pub struct Scene {
     pub response: List<Field>,
     /// Why a handler failed, in error routes alone.
     pub error: Option<Failure>,
-}
-
-fn copy_query(alloc: Global, query: &Option<Octets>) -> Result<Option<Octets>, NoMemory>
-    ensures { IfOk result (λ made. made ≡ query.now) }
-{
-    match query {
-        Some(query) => Ok(Some(query.copy(alloc)?)),
-        None => Ok(None),
-    }
 }
 
 fn line_of(alloc: Global, request: &Request) -> Result<RequestLine, NoMemory>

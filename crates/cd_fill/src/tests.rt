@@ -18,7 +18,7 @@ fn request_of(alloc: Global, bytes: &[u8]) -> Result<Option<Request>, NoMemory> 
 }
 
 // Its scene.
-fn scene_of(alloc: Global, bytes: &[u8]) -> Result<Option<Scene>, NoMemory> {
+pub(crate) fn scene_of(alloc: Global, bytes: &[u8]) -> Result<Option<Scene>, NoMemory> {
     match request_of(alloc, bytes)? {
         Some(request) => Ok(Some(Scene::new(alloc, &request)?)),
         None => Ok(None),
@@ -97,7 +97,7 @@ fn variable(alloc: Global, name: &str, value: &str) -> Result<Variable, NoMemory
     })
 }
 
-fn variables(alloc: Global, pairs: &[(&str, &str)]) -> Result<List<Variable>, NoMemory> {
+pub(crate) fn variables(alloc: Global, pairs: &[(&str, &str)]) -> Result<List<Variable>, NoMemory> {
     let mut made = List::new(alloc);
     for (name, value) in pairs {
         made.push(variable(alloc, name, value)?)?;

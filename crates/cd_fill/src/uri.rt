@@ -46,7 +46,8 @@ fn behind_authority(target: &[u8]) -> &[u8]
     &target[7 + authority_of(target).len()..]
 }
 
-fn with_slash(alloc: Global, text: &[u8]) -> Result<Octets, NoMemory>
+/// The text, with a `/` in front where none stands.
+pub fn with_slash(alloc: Global, text: &[u8]) -> Result<Octets, NoMemory>
     ensures { IfOk result (λ made. made ≡ with_slash text.now) }
 {
     if text.starts_with(b"/") {

@@ -1,5 +1,5 @@
 //! What the names of placeholders stand for.
-ghost use Rattle.std.specs.Prelude.{◌≡◌, ◌++◌, [], true, length, drop, IfOk, OnOk, is_some, unwrap_or, decimal};
+ghost use Rattle.std.specs.Prelude.{◌≡◌, ◌++◌, [], true, length, drop, IfOk, OnOk, IfSome, Some, is_some, unwrap_or, decimal};
 ghost use Rattle.std.specs.Option.{option_copied};
 ghost use Rattle.std.specs.Str.{bytes_eq};
 ghost use Rattle.cd_wire.specs.Render.{phrase_of, reason_of};
@@ -201,5 +201,29 @@ pub(crate) fn put_value(
         put_error_named(alloc, out, &scene.error, behind(name, "http.error."))
     } else {
         Ok(false)
+    }
+}
+
+#[tactic(auto, unfolding(crate::specs::Values::request_value))]
+fn lent_request_value<'a>(scene: &'a Scene, name: &[u8]) -> Option<&'a [u8]>
+    ensures { IfSome result (λ lent. request_value scene.now name.now ≡ Some lent.now) }
+{
+    if begins(name, "uri.query.") || begins(name, "header.") {
+        return None;
+    }
+    kept_value(scene, name)
+}
+
+/// What a name stands for, if the scene has that as it is: then nothing has to be written to look at it.
+#[tactic(auto, unfolding(crate::specs::Values::value))]
+pub(crate) fn lent_value<'a>(scene: &'a Scene, name: &[u8]) -> Option<&'a [u8]>
+    ensures { IfSome result (λ lent. value scene.now name.now ≡ Some lent.now) }
+{
+    if begins(name, "http.request.") {
+        lent_request_value(scene, behind(name, "http.request."))
+    } else if begins(name, "http.vars.") {
+        Some(value_of_variable(scene.variables.as_slice(), behind(name, "http.vars.")))
+    } else {
+        None
     }
 }
