@@ -3,7 +3,7 @@ use Rattle.std.proofs.Common.{◌≡◌, Bool, not, List, [], ◌∷◌, map, ap
 use Rattle.std.specs.List.{list_any, list_all}
 use Rattle.std.proofs.lemmas.List.Folds.{list_all-map}
 use Rattle.cd_fill.specs.declared.scene.Scene.{Scene}
-use Rattle.cd_match.specs.declared.matcher.Matcher.{Matcher, Not, the_lemmas}
+use Rattle.cd_match.specs.declared.matcher.Matcher.{Not, the_lemmas}
 use Rattle.cd_match.specs.declared.matcher.MatcherSet.{MatcherSet, out-MatcherSet, fold-MatcherSet}
 use Rattle.cd_match.specs.Holds.{matches, matcher_holds, set_holds}
 

@@ -1,4 +1,5 @@
 pub mod Levels
 pub mod Alike
 pub mod Meanings
+pub mod Characters
 pub mod Labels

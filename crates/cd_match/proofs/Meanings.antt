@@ -1,18 +1,15 @@
--- What bytes of a query stand for, byte by byte, and as a text.
-use Rattle.std.proofs.Common.{◌≡◌, ℕ, ◌<◌, ◌+◌, ◌*◌, ◌==◌, ◌&&◌, ◌||◌, Bool, true, false, List, [], ◌∷◌, ◌++◌, map, length, take, drop, refl, ap, sym, ◌∙◌, arith, rules}
+-- What bytes of a query stand for, byte by byte, and whether that is a text.
+use Rattle.std.proofs.Common.{◌≡◌, ℕ, ◌<◌, ◌+◌, ◌*◌, ◌==◌, ◌&&◌, Bool, true, false, List, [], ◌∷◌, ◌++◌, length, drop, refl, ap, sym, ◌∙◌, arith, encode_utf8, length-append}
 use Rattle.std.specs.Prelude.{if◌then◌else◌, nat_eq, nat_le, suc, slice_index}
-use Rattle.std.specs.List.{starts_with, list_any}
 use Rattle.std.specs.Char.{digit_value, is_digit}
-use Rattle.std.specs.Str.{bytes_eq, IsUtf8}
-use Rattle.std.specs.Str.Lossy.{utf8_lossy, utf8_valid_len, replacement_bytes, after_first_chunk}
-use Rattle.std.proofs.lemmas.Bool.{eqb-true, eqb-false}
+use Rattle.std.specs.Str.{bytes_eq}
+use Rattle.std.proofs.lemmas.Bool.{eqb-true, false_from_ne_true}
 use Rattle.std.proofs.lemmas.Bool.Decides.{nat_tests}
-use Rattle.std.proofs.lemmas.List.Folds.{list_any-append}
 use Rattle.std.proofs.lemmas.Slice.Eq.{bytes_eq-Decides}
-use Rattle.std.proofs.lemmas.Str.{utf8_lossy-IsUtf8, utf8_lossy_step}
+use Rattle.std.proofs.lemmas.Str.{encode_same, length-encode, len_utf8_bounds}
 use Rattle.form_urlencoded.specs.Form.{decode, plus_to_space}
 use Rattle.percent_encoding.specs.Percent.{is_escape, percent_decode}
-use Rattle.cd_match.specs.Escapes.{begins_escape, escape_value, is_replacing}
+use Rattle.cd_match.specs.Escapes.{begins_escape, escape_value}
 
 -- ---- a `+` is in no escape
 
@@ -97,54 +94,31 @@ pub nothing_meant : (text : List ℕ) → bytes_eq [] text ≡ (length text == 0
 nothing_meant [] = refl
 nothing_meant (w ∷ text) = sym (not-zero (length text))
 
-not_begun-by : (byte w : ℕ) (meant text : List ℕ) (b : Bool) → (b && true) ≡ false → (b && bytes_eq meant text) ≡ false
-not_begun-by byte w meant text true h = cc
-not_begun-by byte w meant text false h = refl
+-- behind a front that both have what follows decides
+same-first : (byte : ℕ) (xs ys : List ℕ) → bytes_eq (byte ∷ xs) (byte ∷ ys) ≡ bytes_eq xs ys
+same-first byte xs ys = let same : nat_eq byte byte ≡ true = grind (arith, nat_tests) in rw same refl
 
--- a text that does not begin with the first byte is another
-pub not_begun : (byte : ℕ) (meant text : List ℕ) → starts_with nat_eq text (byte ∷ []) ≡ false → bytes_eq (byte ∷ meant) text ≡ false
-not_begun byte meant [] h = refl
-not_begun byte meant (w ∷ text) h = not_begun-by byte w meant text (nat_eq byte w) h
+same-front : (front xs ys : List ℕ) → bytes_eq (front ++ xs) (front ++ ys) ≡ bytes_eq xs ys
+same-front [] xs ys = refl
+same-front (byte ∷ front) xs ys = same-first byte (front ++ xs) (front ++ ys) ∙ same-front front xs ys
 
-begun-by : (byte w : ℕ) (meant text : List ℕ) (b : Bool) → (b && true) ≡ true → (b && bytes_eq meant text) ≡ bytes_eq meant text
-begun-by byte w meant text true h = refl
-begun-by byte w meant text false h = cc
+-- one character more, in both
+pub same_character : (character next : ℕ) (meant text others rest : List ℕ) → meant ≡ encode_utf8 character ++ others → text ≡ encode_utf8 next ++ rest → next ≡ character → bytes_eq meant text ≡ bytes_eq others rest
+same_character character next meant text others rest meant_is text_is same =
+    let text_goes : text ≡ encode_utf8 character ++ rest = text_is ∙ ap (λ z. encode_utf8 z ++ rest) same in
+    rw (meant_is, text_goes) (same-front (encode_utf8 character) others rest)
 
--- of one that does what follows decides
-pub begun : (byte : ℕ) (meant text : List ℕ) → starts_with nat_eq text (byte ∷ []) ≡ true → bytes_eq (byte ∷ meant) text ≡ bytes_eq meant (drop 1 text)
-begun byte meant [] h = cc
-begun byte meant (w ∷ text) h = begun-by byte w meant text (nat_eq byte w) h
+-- another character in the text
+pub other_character : (character next : ℕ) (meant text others rest : List ℕ) → meant ≡ encode_utf8 character ++ others → text ≡ encode_utf8 next ++ rest → (next ≡ character → ⊥) → bytes_eq meant text ≡ false
+other_character character next meant text others rest meant_is text_is other =
+    false_from_ne_true (bytes_eq meant text) (λ same.
+    let one : meant ≡ text = (bytes_eq-Decides meant text).0 same in
+    other (sym (encode_same character next others rest (sym meant_is ∙ one ∙ text_is)).0))
 
--- ---- as a text
-
--- bytes that are a text stand for it
-pub text_meant : (meant text : List ℕ) → IsUtf8 text → bytes_eq meant text ≡ true → bytes_eq (utf8_lossy meant) text ≡ true
-text_meant meant text utf8 h =
-    let same : meant ≡ text = (bytes_eq-Decides meant text).0 h in
-    let kept : utf8_lossy meant ≡ text = ap utf8_lossy same ∙ utf8_lossy-IsUtf8 text utf8 in
-    (bytes_eq-Decides (utf8_lossy meant) text).1 kept
-
--- bytes in which nothing is replaced stand for themselves
-lossy-kept : (bytes : List ℕ) → (utf8_valid_len bytes == length bytes) ≡ true → utf8_lossy bytes ≡ bytes
-unfolding utf8_lossy
-lossy-kept [] e = refl
-lossy-kept (b ∷ bytes) e = rw e refl
-
--- a text that something was replaced in has a byte of the replacement character
-replaced-has : (front rest : List ℕ) → list_any is_replacing (front ++ (replacement_bytes ++ rest)) ≡ true
-replaced-has front rest = rw (list_any-append is_replacing front (replacement_bytes ++ rest)) (search rules)
-
-other : (b : Bool) (xs ys : List ℕ) → bytes_eq xs ys ≡ b → (xs ≡ ys → ⊥) → b ≡ false
-other true xs ys e never = absurd (never ((bytes_eq-Decides xs ys).0 e))
-other false xs ys e never = refl
-
-not_meant-by : (meant text : List ℕ) (b : Bool) → (utf8_valid_len meant == length meant) ≡ b → bytes_eq meant text ≡ false → list_any is_replacing text ≡ false → bytes_eq (utf8_lossy meant) text ≡ false
-not_meant-by meant text true v h none = ap (λ z. bytes_eq z text) (lossy-kept meant v) ∙ h
-not_meant-by meant text false v h none =
-    let replaced = utf8_lossy_step meant (eqb-false (utf8_valid_len meant) (length meant) v) in
-    other (bytes_eq (utf8_lossy meant) text) (utf8_lossy meant) text refl (λ same.
-    let has : list_any is_replacing text ≡ true = ap (list_any is_replacing) (sym same ∙ replaced) ∙ replaced-has (take (utf8_valid_len meant) meant) (utf8_lossy (after_first_chunk meant)) in cc)
-
--- bytes that are not a text without such bytes do not stand for it
-pub not_meant : (meant text : List ℕ) → bytes_eq meant text ≡ false → list_any is_replacing text ≡ false → bytes_eq (utf8_lossy meant) text ≡ false
-not_meant meant text h none = not_meant-by meant text (utf8_valid_len meant == length meant) refl h none
+-- no character in the text
+pub no_character : (character : ℕ) (meant text others : List ℕ) → meant ≡ encode_utf8 character ++ others → length text ≡ 0 → bytes_eq meant text ≡ false
+no_character character meant text others meant_is none =
+    false_from_ne_true (bytes_eq meant text) (λ same.
+    let one : meant ≡ text = (bytes_eq-Decides meant text).0 same in
+    let some = len_utf8_bounds character in
+    omega (arith, ap length one, ap length meant_is, length-append (encode_utf8 character) others, length-encode character))

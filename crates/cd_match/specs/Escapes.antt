@@ -1,5 +1,5 @@
 -- Escapes in names and values of a query, looked at one by one.
-use Rattle.std.specs.Prelude.{ℕ, ◌+◌, ◌*◌, ◌==◌, ◌&&◌, Bool, List, length, nat_le, slice_index}
+use Rattle.std.specs.Prelude.{ℕ, ◌+◌, ◌*◌, ◌&&◌, Bool, List, length, nat_le, slice_index}
 use Rattle.std.specs.Char.{digit_value}
 use Rattle.percent_encoding.specs.Percent.{is_escape}
 
@@ -10,7 +10,3 @@ begins_escape raw = nat_le 3 (length raw) && is_escape (slice_index raw 0) (slic
 -- the byte that such an escape stands for
 abbrev pub escape_value : List ℕ → ℕ
 escape_value raw = 16 * digit_value (slice_index raw 1) + digit_value (slice_index raw 2)
-
--- the first byte of U+FFFD, and of its neighbours from U+F000 on
-abbrev pub is_replacing : ℕ → Bool
-is_replacing byte = byte == 0xEF

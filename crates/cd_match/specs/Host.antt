@@ -3,10 +3,8 @@ use Rattle.std.specs.Prelude.{ℕ, ◌==◌, ◌||◌, Bool, List, codes}
 use Rattle.std.specs.Cmp.Lexicographic.{pointwise}
 use Rattle.std.specs.List.{slice_split, list_any}
 use Rattle.std.specs.Str.{bytes_eq, str_eq_ignore_ascii_case}
-use Rattle.cd_text.specs.Steps.{◌▷◌}
 use Rattle.cd_fill.specs.declared.scene.Scene.{Scene}
 use Rattle.cd_fill.specs.Values.{bare_host}
-use Rattle.cd_module.specs.Settings.{Reader, text, list_of}
 use Rattle.cd_match.specs.declared.host.HostMatcher.{HostMatcher}
 
 -- `.`

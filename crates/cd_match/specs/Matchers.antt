@@ -1,8 +1,7 @@
 -- The settings of matchers in a tree, and the first fault there.
-use Rattle.std.specs.Prelude.{ℕ, if◌then◌else◌, List, [], ◌++◌, codes, Ok, Err}
+use Rattle.std.specs.Prelude.{ℕ, if◌then◌else◌, List, ◌++◌, codes, Ok, Err}
 use Rattle.std.specs.Str.{bytes_eq}
 use Rattle.cd_text.specs.Steps.{◌▷◌}
-use Rattle.cd_tree.specs.declared.path.Path.{Path}
 use Rattle.cd_module.specs.Faults.{unknown_module}
 use Rattle.cd_module.specs.Recursion.{recursive}
 use Rattle.cd_module.specs.Settings.{Reader, text, list_of, object_of, object_with_nulls}

@@ -1,5 +1,5 @@
 -- The matcher `path`: the path that is asked for, as handlers have left it (Caddy, JSON Config Structure, http.matchers.path).
-use Rattle.std.specs.Prelude.{ℕ, ◌==◌, Bool, if◌then◌else◌, List, Ok, Err}
+use Rattle.std.specs.Prelude.{ℕ, ◌==◌, Bool, if◌then◌else◌, Ok, Err}
 use Rattle.std.specs.List.{list_any}
 use Rattle.cd_text.specs.Steps.{◌▷◌}
 use Rattle.cd_fill.specs.declared.scene.Scene.{Scene}

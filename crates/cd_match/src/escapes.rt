@@ -1,15 +1,15 @@
-//! Comparing what a name or a value of a query stands for with a text, without writing it out.
-ghost use Rattle.std.specs.Prelude.{◌≡◌, ◌<◌, ◌≤◌, IfOk, MatchOption, [], ◌∷◌, true, false, length, drop, nat_eq};
-ghost use Rattle.std.specs.List.{list_any, starts_with};
-ghost use Rattle.std.specs.Char.{digit_value};
+//! Comparing what a name or a value of a query stands for with a text, without writing it out: character by character.
+ghost use Rattle.std.specs.Prelude.{◌≡◌, ◌<◌, ◌≤◌, MatchOption, [], ◌∷◌, ◌++◌, true, false, length, take, drop};
+ghost use Rattle.std.specs.Char.{digit_value, encode_utf8};
 ghost use Rattle.std.specs.Str.{bytes_eq};
 ghost use Rattle.form_urlencoded.specs.Form.{decode, plus_to_space};
 ghost use Rattle.cd_fill.specs.Values.{decoded};
-ghost use Rattle.cd_match.specs.Escapes.{begins_escape, escape_value, is_replacing};
+ghost use Rattle.cd_match.specs.Escapes.{begins_escape, escape_value};
 
-use cd_text::NoMemory;
-use form_urlencoded::decode;
-use std::alloc::Global;
+use bstr::decode_lossy;
+
+// The most bytes that a character has in UTF-8.
+const MAX_LEN_UTF8: usize = 4;
 
 fn hex_value(byte: u8) -> Option<u8>
     ensures { MatchOption result (16 ≤ digit_value byte) (λ value. (digit_value byte < 16) × (value ≡ digit_value byte)) }
@@ -60,52 +60,67 @@ fn first_meant(raw: &[u8]) -> Option<(u8, &[u8])>
     }
 }
 
-fn begins_with(text: &[u8], byte: u8) -> bool
-    ensures { result ≡ starts_with nat_eq text.now (byte ∷ []) }
-{
-    text.starts_with(&[byte])
-}
-
-fn but_first(text: &[u8]) -> &[u8]
-    ensures { result.now ≡ drop 1 text.now }
-{
-    if text.is_empty() { text } else { &text[1..] }
-}
-
-// Whether the bytes that are meant are the text.
-fn means(raw: &[u8], text: &[u8]) -> bool
-    ensures { result ≡ bytes_eq (decode raw.now) text.now }
+// Writes the first bytes that are meant, as many as there is room for, and tells how many.
+fn write_meant(raw: &[u8], room: &mut [u8]) -> usize
+    ensures fits { result ≤ length room.old }
+    ensures written { take result room.new ≡ take (length room.old) (decode raw.now) }
 {
     let mut left = raw;
-    let mut wanted = text;
-    while let Some((byte, behind)) = first_meant(left) {
-        if !begins_with(wanted, byte) {
+    for (place, free) in room.iter_mut().enumerate() {
+        let Some((byte, behind)) = first_meant(left) else {
+            return place;
+        };
+        *free = byte;
+        left = behind;
+    }
+    room.len()
+}
+
+// What stands behind so many bytes that are meant.
+fn behind_meant(raw: &[u8], count: usize) -> &[u8]
+    ensures meant { decode result.now ≡ drop count (decode raw.now) }
+    ensures within { length result.now ≤ length raw.now }
+{
+    let mut left = raw;
+    for _ in 0..count {
+        let Some((_, behind)) = first_meant(left) else {
+            return left;
+        };
+        left = behind;
+    }
+    left
+}
+
+// The first character that is meant, with U+FFFD for bytes that are none, and what stands behind it. Most characters are of
+// ASCII, and known by one byte.
+fn first_character(raw: &[u8]) -> Option<(char, &[u8])>
+    ensures { MatchOption result (decode raw.now ≡ [])
+        (λ first. (decoded raw.now ≡ encode_utf8 first.0 ++ decoded first.1.now) × (length first.1.now < length raw.now)) }
+{
+    let (byte, behind) = first_meant(raw)?;
+    if byte.is_ascii() {
+        return Some((byte as char, behind));
+    }
+    let mut room = [0; MAX_LEN_UTF8];
+    let count = write_meant(raw, &mut room);
+    let (character, size) = decode_lossy(&room[..count]);
+    Some((character, behind_meant(behind, size - 1)))
+}
+
+/// Whether a name or a value of a query stands for the text. It is read character by character, so no memory is taken.
+pub(crate) fn stands_for(raw: &[u8], text: &str) -> bool
+    ensures { result ≡ bytes_eq (decoded raw.now) text.now }
+{
+    let mut left = raw;
+    let mut wanted = text.chars();
+    while let Some((character, behind)) = first_character(left) {
+        let Some(next) = wanted.next() else {
+            return false;
+        };
+        if next != character {
             return false;
         }
         left = behind;
-        wanted = but_first(wanted);
     }
-    wanted.is_empty()
-}
-
-// Whether the text may have replacement characters in it.
-fn may_have_replacements(text: &[u8]) -> bool
-    ensures { result ≡ list_any is_replacing text.now }
-{
-    text.iter().any(|byte| *byte == 0xef)
-}
-
-/// Whether a name or a value of a query stands for the text. It takes memory only where the text has a character from U+F000
-/// to U+FFFF, as the replacement character is, and the bytes that are meant are not the text.
-pub(crate) fn stands_for(alloc: Global, raw: &[u8], text: &str) -> Result<bool, NoMemory>
-    ensures { IfOk result (λ is. is ≡ bytes_eq (decoded raw.now) text.now) }
-{
-    if means(raw, text.as_bytes()) {
-        return Ok(true);
-    }
-    if !may_have_replacements(text.as_bytes()) {
-        return Ok(false);
-    }
-    let decoded = decode(alloc, raw)?;
-    Ok(decoded.as_bytes() == text.as_bytes())
+    wanted.as_str().is_empty()
 }

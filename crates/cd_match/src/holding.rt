@@ -56,7 +56,7 @@ fn matcher_holds(alloc: Global, matcher: &Matcher, scene: &Scene) -> Result<bool
         Matcher::Path(matcher) => Ok(matcher.holds(scene)),
         Matcher::Method(matcher) => Ok(matcher.holds(scene)),
         Matcher::Header(matcher) => Ok(matcher.holds(scene)),
-        Matcher::Query(matcher) => matcher.holds(alloc, scene),
+        Matcher::Query(matcher) => Ok(matcher.holds(scene)),
         Matcher::Vars(matcher) => matcher.holds(alloc, scene),
         Matcher::Not(sets) => {
             let any = some_holds(alloc, sets.as_slice(), scene)?;

@@ -5,9 +5,8 @@
 //! its settings, how they are read, and when it holds. The names of matchers are in specs/Matchers.antt.
 //!
 //! `Sets::read` gives the settings, or the first fault with its path. `Sets::holds` says whether they hold for a scene, as
-//! specs/Holds.antt defines it. Patterns are read once; no field and no path is copied or lowered to be compared, and memory
-//! is taken where a key of `vars` is filled, and where a key or a value of a query that has escapes is compared with a text
-//! that has itself a character from U+F000 to U+FFFF, as the replacement character is.
+//! specs/Holds.antt defines it. Patterns are read once; no field, no path and no query is copied, lowered or decoded to be
+//! compared, and memory is taken where a key of `vars` is filled alone.
 //!
 //! When routes are reached, and what is done then, is left to the crates above.
 #![tactic(auto)]
@@ -21,6 +20,8 @@ mod matcher;
 mod method;
 mod path;
 mod query;
+#[cfg(test)]
+mod query_tests;
 mod reading;
 mod sets;
 #[cfg(test)]

@@ -1,5 +1,5 @@
 //! The matcher `query`.
-ghost use Rattle.std.specs.Prelude.{◌≡◌, ◌==◌, [], IfOk, length, unwrap_or};
+ghost use Rattle.std.specs.Prelude.{◌≡◌, ◌==◌, [], length, unwrap_or};
 ghost use Rattle.std.specs.List.{list_all};
 ghost use Rattle.form_urlencoded.specs.Form.{raw_pairs};
 ghost use Rattle.cd_fill.specs.Values.{decoded};
@@ -8,7 +8,7 @@ ghost use Rattle.cd_match.specs.Query.{key_test, is_wanted, key_passes, query_ho
 use crate::escapes::stands_for;
 use cd_fill::Scene;
 use cd_module::{LoadFault, Named, Settings};
-use cd_text::{List, NoMemory, Octets, Text};
+use cd_text::{List, Octets, Text};
 use cd_tree::{Path, Tree};
 use form_urlencoded::raw_pairs;
 use std::alloc::Global;
@@ -56,41 +56,39 @@ fn or_empty(query: &Option<Octets>) -> &[u8]
 }
 
 // Whether a value passes.
-fn is_wanted(alloc: Global, listed: &[Text], raw: &[u8]) -> Result<bool, NoMemory>
-    ensures { IfOk result (λ wanted. wanted ≡ is_wanted listed.now (decoded raw.now)) }
+fn is_wanted(listed: &[Text], raw: &[u8]) -> bool
+    ensures { result ≡ is_wanted listed.now (decoded raw.now) }
 {
     for one in listed {
-        if one.equals("*") || stands_for(alloc, raw, one.as_str())? {
-            return Ok(true);
+        if one.equals("*") || stands_for(raw, one.as_str()) {
+            return true;
         }
     }
-    Ok(false)
+    false
 }
 
 // Whether the key has a value that passes.
 #[tactic(auto, unfolding(crate::specs::Query::key_passes, cd_fill::specs::Values::query_values))]
-fn key_passes(alloc: Global, query: &[u8], test: &KeyTest) -> Result<bool, NoMemory>
-    ensures { IfOk result (λ passes. passes ≡ key_passes query.now test.now) }
+fn key_passes(query: &[u8], test: &KeyTest) -> bool
+    ensures { result ≡ key_passes query.now test.now }
 {
     for (name, value) in raw_pairs(query) {
-        if stands_for(alloc, name, test.key.as_str())?
-            && is_wanted(alloc, test.values.as_slice(), value)?
-        {
-            return Ok(true);
+        if stands_for(name, test.key.as_str()) && is_wanted(test.values.as_slice(), value) {
+            return true;
         }
     }
-    Ok(false)
+    false
 }
 
-fn all_pass(alloc: Global, query: &[u8], tests: &[KeyTest]) -> Result<bool, NoMemory>
-    ensures { IfOk result (λ passes. passes ≡ list_all (key_passes query.now) tests.now) }
+fn all_pass(query: &[u8], tests: &[KeyTest]) -> bool
+    ensures { result ≡ list_all (key_passes query.now) tests.now }
 {
     for test in tests {
-        if !key_passes(alloc, query, test)? {
-            return Ok(false);
+        if !key_passes(query, test) {
+            return false;
         }
     }
-    Ok(true)
+    true
 }
 
 fn has_no_pairs(query: &[u8]) -> bool
@@ -100,15 +98,15 @@ fn has_no_pairs(query: &[u8]) -> bool
 }
 
 impl QueryMatcher {
-    /// Whether it holds. It takes memory as `stands_for` does.
-    pub fn holds(&self, alloc: Global, scene: &Scene) -> Result<bool, NoMemory>
-        ensures { IfOk result (λ answer. answer ≡ query_holds self.now scene.now) }
+    /// Whether it holds.
+    pub fn holds(&self, scene: &Scene) -> bool
+        ensures { result ≡ query_holds self.now scene.now }
     {
         let query = or_empty(&scene.current.query);
         if self.tests.is_empty() {
-            Ok(has_no_pairs(query))
+            has_no_pairs(query)
         } else {
-            all_pass(alloc, query, self.tests.as_slice())
+            all_pass(query, self.tests.as_slice())
         }
     }
 }

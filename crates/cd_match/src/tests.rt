@@ -68,7 +68,7 @@ fn check_rows(
     Ok(())
 }
 
-fn check_head(
+pub(crate) fn check_head(
     rt: &impl Abort,
     alloc: Global,
     head: &str,
@@ -200,44 +200,6 @@ fn fields_are_absent_present_or_fit(rt: HostRuntime) -> Result<(), Fail> {
             (r#"[{"method":[]}]"#, "no"),
         ],
     )?;
-    Ok(())
-}
-
-#[test]
-fn keys_of_the_query_have_wanted_values(rt: HostRuntime) -> Result<(), Fail> {
-    let alloc = rt.alloc();
-    check_head(
-        &rt,
-        alloc,
-        "GET /?q=a+b&%71=c%2Bd&e&x=%FF&x=%e4%bd%a0&p=50% HTTP/1.0\r\n\r\n",
-        &[
-            (r#"[{"query":{"q":["a b"]}}]"#, "yes"),
-            (r#"[{"query":{"q":["x","c+d"]}}]"#, "yes"),
-            (r#"[{"query":{"q":["a+b"]}}]"#, "no"),
-            (r#"[{"query":{"Q":["*"]}}]"#, "no"),
-            (r#"[{"query":{"q":["*"]}}]"#, "yes"),
-            (r#"[{"query":{"q":["a*"]}}]"#, "no"),
-            (r#"[{"query":{"e":[""]}}]"#, "yes"),
-            (r#"[{"query":{"e":["*"],"q":["a b"]}}]"#, "yes"),
-            (r#"[{"query":{"e":["*"],"q":["no"]}}]"#, "no"),
-            (r#"[{"query":{"none":["*",""]}}]"#, "no"),
-            (r#"[{"query":{"q":[]}}]"#, "no"),
-            (r#"[{"query":{"x":["\ufffd"]}}]"#, "yes"),
-            (r#"[{"query":{"x":["\uf000"]}}]"#, "no"),
-            (r#"[{"query":{"x":["你"]}}]"#, "yes"),
-            (r#"[{"query":{"p":["50%"]}}]"#, "yes"),
-            (r#"[{"query":{"p":["50"]}}]"#, "no"),
-            (r#"[{"query":{}}]"#, "no"),
-        ],
-    )?;
-    for (head, wanted) in [
-        ("GET / HTTP/1.0\r\n\r\n", "yes"),
-        ("GET /? HTTP/1.0\r\n\r\n", "yes"),
-        ("GET /?& HTTP/1.0\r\n\r\n", "yes"),
-        ("GET /?a HTTP/1.0\r\n\r\n", "no"),
-    ] {
-        check_head(&rt, alloc, head, &[(r#"[{"query":{}}]"#, wanted)])?;
-    }
     Ok(())
 }
 

@@ -1,4 +1,4 @@
-use Rattle.std.proofs.Common.{◌∙◌, rules, arith, sym}
+use Rattle.std.proofs.Common.{rules}
 use Rattle.cd_match.proofs.Meanings.{meant_none, meant_escape, meant_plain, some_length, escape_length}
 use Rattle.cd_match.proofs.escapes.first_meant.Goals as goal
 

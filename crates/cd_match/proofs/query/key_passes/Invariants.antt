@@ -1,4 +1,4 @@
-use Rattle.std.proofs.Common.{◌≡◌, drop}
+use Rattle.std.proofs.Common.{◌≡◌}
 use Rattle.std.specs.List.{list_any}
 use Rattle.cd_fill.specs.Values.{query_values}
 use Rattle.cd_match.specs.Query.{is_wanted}
