@@ -13,9 +13,10 @@ use Rattle.cd_module.specs.Patterns.{pattern}
 use Rattle.cd_module.specs.Settings.{text, truth, list_of}
 use Rattle.cd_module.specs.declared.fault.LoadFault.{LoadFault}
 use Rattle.cd_module.proofs.Recursion.{▷-same}
-use Rattle.cd_module.proofs.Bare.{bare_layer, out-bare, text-bare, truth-bare, list_of-bare, members-bare, optional-bare, name_of-bare, object_of-bare}
+use Rattle.cd_module.proofs.Bare.{bare_layer, out-bare, text-bare, truth-bare, whole-bare, list_of-bare, members-bare, optional-bare, needed-bare, name_of-bare, object_of-bare}
 use Rattle.cd_handlers.specs.Status.{status, status_layer}
 use Rattle.cd_handlers.specs.FieldValues.{field_values, field_list, request_field, request_field_list}
+use Rattle.cd_handlers.specs.Rewrite.{method_text, find_text, limit, substring, rewrite}
 use Rattle.cd_handlers.specs.StaticResponse.{static_response}
 use Rattle.cd_handlers.specs.Headers.{request_changes, response_changes, headers}
 use Rattle.cd_handlers.specs.Vars.{text_layer, setting_text, setting, vars}
@@ -120,6 +121,38 @@ headers-bare = record {
       ▷-same _ _ _ _ (optional-bare response_changes response_changes-bare (codes "response") refl ms at) (λ response. refl)));
 }
 
+method_text-bare : SeesNoIds method_text
+unfolding method_text
+method_text-bare = record { same = λ t at. ▷-same _ _ _ _ (text-bare.same t at) (λ written. refl) }
+
+find_text-bare : SeesNoIds find_text
+unfolding find_text
+find_text-bare = record { same = λ t at. ▷-same _ _ _ _ (text-bare.same t at) (λ written. refl) }
+
+limit-bare : SeesNoIds limit
+unfolding limit
+limit-bare = record { same = λ t at. ▷-same _ _ _ _ (whole-bare.same t at) (λ number. refl) }
+
+substring-bare : SeesNoIds substring
+unfolding substring
+substring-bare = record {
+  same = λ t at. members-bare (codes "find replace limit") t at _ _ (λ ms.
+      ▷-same _ _ _ _ (needed-bare find_text find_text-bare (codes "find") refl ms at) (λ find.
+      ▷-same _ _ _ _ (optional-bare text text-bare (codes "replace") refl ms at) (λ replace.
+      ▷-same _ _ _ _ (optional-bare limit limit-bare (codes "limit") refl ms at) (λ limit. refl))));
+}
+
+rewrite-bare : SeesNoIds rewrite
+unfolding rewrite
+rewrite-bare = record {
+  same = λ t at. members-bare (codes "handler method uri strip_path_prefix strip_path_suffix uri_substring") t at _ _ (λ ms.
+      ▷-same _ _ _ _ (optional-bare method_text method_text-bare (codes "method") refl ms at) (λ method.
+      ▷-same _ _ _ _ (optional-bare text text-bare (codes "uri") refl ms at) (λ uri.
+      ▷-same _ _ _ _ (optional-bare text text-bare (codes "strip_path_prefix") refl ms at) (λ prefix.
+      ▷-same _ _ _ _ (optional-bare text text-bare (codes "strip_path_suffix") refl ms at) (λ suffix.
+      ▷-same _ _ _ _ (optional-bare (list_of substring) (list_of-bare substring substring-bare) (codes "uri_substring") refl ms at) (λ substrings. refl))))));
+}
+
 setting-bare : (name : List ℕ) → SeesNoIds (setting name)
 setting-bare name = record { same = λ t at. ▷-same _ _ _ _ (setting_text-bare.same t at) (λ text. refl) }
 
@@ -141,8 +174,9 @@ handler_named-bare name = record {
   same = λ t at.
       either (bytes_eq name (codes "static_response")) _ _ _ _ (▷-same _ _ _ _ (static_response-bare.same t at) (λ s. refl))
       (either (bytes_eq name (codes "headers")) _ _ _ _ (▷-same _ _ _ _ (headers-bare.same t at) (λ s. refl))
+      (either (bytes_eq name (codes "rewrite")) _ _ _ _ (▷-same _ _ _ _ (rewrite-bare.same t at) (λ s. refl))
       (either (bytes_eq name (codes "vars")) _ _ _ _ (▷-same _ _ _ _ (vars-bare.same t at) (λ s. refl))
-      (either (bytes_eq name (codes "error")) _ _ _ _ (▷-same _ _ _ _ (static_error-bare.same t at) (λ s. refl)) refl)));
+      (either (bytes_eq name (codes "error")) _ _ _ _ (▷-same _ _ _ _ (static_error-bare.same t at) (λ s. refl)) refl))));
 }
 
 pub handler-bare : SeesNoIds handler

@@ -1,3 +1,4 @@
 pub mod FieldLemmas
 pub mod Bare
 pub mod PlainStart
+pub mod Tokens

@@ -16,8 +16,6 @@ use Rattle.cd_tree.specs.Tree.{text}
 use Rattle.cd_tree.specs.declared.fault.TreeFault.{TreeFault}
 use Rattle.cd_tree.specs.declared.fault.TreeFault.TheVariants.{NotJson, TooDeep, TooLong}
 use Rattle.cd_tree.specs.declared.limits.TheConstants.{MAX_DEPTH, MAX_TEXT_BYTES}
-use Rattle.cd_tree.specs.declared.tree.Num.{Num}
-use Rattle.cd_tree.specs.declared.tree.Tree as tree
 use Rattle.cd_tree.specs.declared.tree.Tree.{Tree, the_lemmas}
 use Rattle.cd_handlers.specs.StaticResponse.{nests_if_tree, is_json, starts_plain}
 

@@ -7,6 +7,7 @@ use Rattle.cd_handlers.specs.declared.handler.Handler.TheVariants as kind
 use Rattle.cd_handlers.specs.declared.outcome.Effect.{Effect}
 use Rattle.cd_handlers.specs.Error.{error_effect}
 use Rattle.cd_handlers.specs.Headers.{headers_effect, headers_deferred}
+use Rattle.cd_handlers.specs.Rewrite.{rewrite_effect}
 use Rattle.cd_handlers.specs.StaticResponse.{static_effect}
 use Rattle.cd_handlers.specs.Vars.{variables_set}
 
@@ -14,6 +15,7 @@ use Rattle.cd_handlers.specs.Vars.{variables_set}
 unfoldable pub effect : Handler → Scene → Effect
 effect (kind.StaticResponse s) x = static_effect s x
 effect (kind.Headers s) x = headers_effect s x
+effect (kind.Rewrite s) x = rewrite_effect s x
 effect (kind.Vars s) x = variables_set s.settings x
 effect (kind.Error s) x = error_effect s x
 
@@ -21,5 +23,6 @@ effect (kind.Error s) x = error_effect s x
 unfoldable pub deferred : Handler → Scene → Option FilledChanges
 deferred (kind.StaticResponse s) x = None
 deferred (kind.Headers s) x = headers_deferred s x
+deferred (kind.Rewrite s) x = None
 deferred (kind.Vars s) x = None
 deferred (kind.Error s) x = None

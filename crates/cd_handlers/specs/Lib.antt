@@ -6,6 +6,7 @@ pub mod Changes
 pub mod Failing
 pub mod StaticResponse
 pub mod Headers
+pub mod Rewrite
 pub mod Vars
 pub mod Error
 pub mod Handlers

@@ -6,6 +6,7 @@ use crate::error::error_effect;
 use crate::handler::Handler;
 use crate::headers::{headers_deferred, headers_effect};
 use crate::outcome::Effect;
+use crate::rewriting::rewrite_effect;
 use crate::static_response::static_effect;
 use crate::vars::variables_set;
 use cd_fill::Scene;
@@ -20,6 +21,7 @@ pub fn effect(alloc: Global, handler: &Handler, scene: Scene) -> Result<Effect, 
     match handler {
         Handler::StaticResponse(settings) => static_effect(alloc, settings, scene),
         Handler::Headers(settings) => headers_effect(alloc, settings, scene),
+        Handler::Rewrite(settings) => rewrite_effect(alloc, settings, scene),
         Handler::Vars(settings) => variables_set(alloc, settings, scene),
         Handler::Error(settings) => error_effect(alloc, settings, scene),
     }

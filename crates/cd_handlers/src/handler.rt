@@ -3,6 +3,7 @@ ghost use Rattle.cd_handlers.specs.Handlers.{handler, handler_named};
 
 use crate::error::StaticError;
 use crate::headers::Headers;
+use crate::rewrite::Rewrite;
 use crate::static_response::StaticResponse;
 use crate::vars::Vars;
 use cd_module::{LoadFault, Settings, name_of};
@@ -16,6 +17,7 @@ use std::alloc::Global;
 pub enum Handler {
     StaticResponse(StaticResponse),
     Headers(Headers),
+    Rewrite(Rewrite),
     Vars(Vars),
     Error(StaticError),
 }
@@ -32,6 +34,10 @@ fn read_named(alloc: Global, name: &Text, tree: &Tree, at: &Path) -> Result<Hand
         "headers" => {
             let settings = Headers::read(alloc, tree, at)?;
             Ok(Handler::Headers(settings))
+        }
+        "rewrite" => {
+            let settings = Rewrite::read(alloc, tree, at)?;
+            Ok(Handler::Rewrite(settings))
         }
         "vars" => {
             let settings = Vars::read(alloc, tree, at)?;

@@ -6,6 +6,7 @@
 //!
 //! A handler whose texts can't be filled fails with 500 and an empty message, in the scene that it found, where its texts are
 //! filled too. `vars` alone sets one variable after another: each text sees those before, and they stay where it fails.
+//! `rewrite` has its settings in rewrite.rt; rewriting.rt fills its texts, and the crate `cd_rewrite` has its steps.
 //! Changes that `headers` defers are `deferred`, and `changed` makes them.
 //!
 //! Trees that differ in ids alone are the same handler (laws.rt).
@@ -25,6 +26,10 @@ mod handler;
 mod headers;
 mod laws;
 mod outcome;
+mod rewrite;
+#[cfg(test)]
+mod rewrite_tests;
+mod rewriting;
 mod static_response;
 mod status;
 #[cfg(test)]
@@ -43,6 +48,7 @@ pub use handler::Handler;
 pub use headers::{Headers, ResponseChanges};
 pub use laws::handlers_see_no_ids;
 pub use outcome::Effect;
+pub use rewrite::{MethodText, Rewrite, Substring};
 pub use static_response::StaticResponse;
 pub use status::{Status, usual_status};
 pub use vars::{Setting, Vars};

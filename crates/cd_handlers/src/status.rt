@@ -1,12 +1,11 @@
 ghost use Rattle.std.specs.Prelude.{◌≡◌};
-ghost use Rattle.std.specs.List.{list_any};
 ghost use Rattle.cd_text.specs.Gives.{Gives};
-ghost use Rattle.cd_fill.specs.Filling.{open_brace};
 ghost use Rattle.cd_handlers.specs.declared.fault.HandlerFault.{HandlerFault};
 ghost use Rattle.cd_handlers.specs.Status.{status, code_of, code_written, known, text_status, status_said, status_given, usual_status};
 
 use crate::fault::HandlerFault;
 use crate::filling::text_filled;
+use crate::texts::has_brace;
 use cd_fill::{Failure, Scene};
 use cd_module::{LoadFault, LoadKind, Settings};
 use cd_text::Text;
@@ -47,12 +46,6 @@ fn code_written(text: &[u8]) -> Option<u16>
         }
         _ => None,
     }
-}
-
-fn has_brace(text: &[u8]) -> bool
-    ensures { result ≡ list_any open_brace text.now }
-{
-    text.iter().any(|byte| *byte == b'{')
 }
 
 fn known(alloc: Global, code: Option<u16>, at: &Path) -> Result<Status, LoadFault>

@@ -1,6 +1,6 @@
 //! Handlers of a JSON list run one after another, and what comes of them as a text, for tests.
 use crate::{Effect, FilledChanges, Handler, changed, deferred, effect};
-use cd_fill::{Failure, MAX_FILLED_BYTES, Scene, Variable};
+use cd_fill::{Failure, MAX_FILLED_BYTES, RequestLine, Scene, Variable};
 use cd_module::{LoadFault, Settings};
 use cd_text::{List, NoMemory, Octets, Text, decimal};
 use cd_tree::{Path, TreeFault, read};
@@ -194,6 +194,59 @@ fn told_of(alloc: Global, handlers: &List<Handler>) -> Result<Octets, NoMemory> 
     if let Some(scene) = scene_of(alloc, HEAD.as_bytes())? {
         let made = run(alloc, handlers, scene)?;
         put_effect(alloc, &mut out, &made)?;
+    }
+    Ok(out)
+}
+
+// `METHOD | PATH | ?QUERY | URI`, with `-` where there is no query.
+fn put_line(alloc: Global, out: &mut Octets, line: &RequestLine) -> Result<(), NoMemory> {
+    out.append(line.method.as_str().as_bytes())?;
+    out.append(b" | ")?;
+    put_value(alloc, out, &line.path)?;
+    out.append(b" | ")?;
+    match &line.query {
+        Some(query) => {
+            out.push(b'?')?;
+            put_value(alloc, out, query)?;
+        }
+        None => out.push(b'-')?,
+    }
+    out.append(b" | ")?;
+    put_value(alloc, out, &line.uri)
+}
+
+fn put_lines(alloc: Global, out: &mut Octets, effect: &Effect) -> Result<(), NoMemory> {
+    match effect {
+        Effect::Next(scene) => put_line(alloc, out, &scene.current),
+        Effect::Answered(answer) => put_answer(alloc, out, answer),
+        Effect::Failed(scene, status, _) => {
+            put_number(alloc, out, u64::from(*status))?;
+            out.push(b' ')?;
+            put_line(alloc, out, &scene.current)
+        }
+    }
+}
+
+/// What is asked for behind handlers with these settings, where `asked` is the method and the target of the request, or the words
+/// of the refusal. A failure has its status in front, an answer is told as by `told`.
+pub(crate) fn told_line(alloc: Global, asked: &str, settings: &str) -> Result<Octets, NoMemory> {
+    let tree = match read(alloc, settings.as_bytes()) {
+        Ok(tree) => tree,
+        Err(TreeFault::NoMemory) => return Err(NoMemory),
+        Err(_) => return Octets::from_slice(alloc, b"no tree"),
+    };
+    match List::<Handler>::read(alloc, &tree, &Path::root(alloc)) {
+        Ok(handlers) => line_of(alloc, asked, &handlers),
+        Err(fault) => words_of(alloc, fault),
+    }
+}
+
+fn line_of(alloc: Global, asked: &str, handlers: &List<Handler>) -> Result<Octets, NoMemory> {
+    let head = format!(in alloc; "{asked} HTTP/1.1\r\nHost: h\r\nX-A: 0\r\n\r\n")?;
+    let mut out = Octets::new(alloc);
+    if let Some(scene) = scene_of(alloc, head.as_bytes())? {
+        let made = run(alloc, handlers, scene)?;
+        put_lines(alloc, &mut out, &made)?;
     }
     Ok(out)
 }

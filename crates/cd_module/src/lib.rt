@@ -39,5 +39,5 @@ pub use id::{IdFormFault, ModuleId};
 pub use laws::{ids_are_not_seen, lists_see_no_ids, objects_see_no_ids, recursions_see_no_ids};
 pub use members::{fields_of, is_a_setting, name_of, needed, optional};
 pub use named::{Named, object_by_name, object_by_name_with_nulls};
-pub use pattern::Pattern;
+pub use pattern::{Pattern, ends_in_any_case, starts_in_any_case};
 pub use settings::Settings;

@@ -78,13 +78,15 @@ fn stands_in(part: &[u8], text: &[u8]) -> bool
     true
 }
 
-fn starts_in_any_case(text: &[u8], start: &[u8]) -> bool
+/// Whether a text begins so, where the case of ASCII letters does not count. It takes no memory.
+pub fn starts_in_any_case(text: &[u8], start: &[u8]) -> bool
     ensures { result ≡ starts_with nat_eq (str_to_ascii_lowercase text.now) (str_to_ascii_lowercase start.now) }
 {
     start.eq_ignore_ascii_case(front(text, start.len()))
 }
 
-fn ends_in_any_case(text: &[u8], ending: &[u8]) -> bool
+/// Whether a text ends so, where the case of ASCII letters does not count. It takes no memory.
+pub fn ends_in_any_case(text: &[u8], ending: &[u8]) -> bool
     ensures { result ≡ ends_with nat_eq (str_to_ascii_lowercase text.now) (str_to_ascii_lowercase ending.now) }
 {
     ending.eq_ignore_ascii_case(end(text, ending.len()))

@@ -1,0 +1,108 @@
+-- A text is cut around the first occurrence that a search finds, and what is replaced goes on behind it.
+use Rattle.std.proofs.Common.{◌≡◌, ℕ, zero, suc, ◌+◌, ◌-◌, ◌<◌, ◌≤◌, List, [], ◌∷◌, ◌++◌, true, false, Option, Some, None, length, take, drop, refl, sym, ap, ◌∙◌, arith, inl, inr, append_assoc}
+use Rattle.std.specs.Prelude.{nat_eq, option_map}
+use Rattle.std.specs.List.{starts_with}
+use Rattle.std.specs.Cmp.Lexicographic.{pointwise_decides}
+use Rattle.std.proofs.lemmas.Bool.{cond-true, cond-false, cases_Bool}
+use Rattle.std.proofs.lemmas.Bool.Decides.{Decides-eqb}
+use Rattle.std.proofs.lemmas.List.{length-take}
+use Rattle.memchr.specs.Find.{FindsNeedle, OccursAt, NoneBefore}
+use Rattle.memchr.proofs.lemmas.MatchLemmas.{OccursAt-part, OccursAt-from_part}
+use Rattle.cd_rewrite.specs.Substrings.{around, replaced_up_to}
+
+-- ---- an occurrence at the beginning
+
+begun : (find text : List ℕ) → OccursAt text find 0 → starts_with nat_eq text find ≡ true
+begun find text occurs =
+    (pointwise_decides Decides-eqb find (take (length find) text)).1 (sym (OccursAt-part text find 0 occurs))
+
+occurs_first : (find text : List ℕ) → starts_with nat_eq text find ≡ true → OccursAt text find 0
+occurs_first find text e =
+    let same = (pointwise_decides Decides-eqb find (take (length find) text)).0 e in
+    OccursAt-from_part text find 0 (omega (arith, ap length same, length-take {A = ℕ})) (sym same)
+
+not_begun : (find text : List ℕ) → ¬ OccursAt text find 0 → starts_with nat_eq text find ≡ false
+not_begun find text not_there = elim (cases_Bool (starts_with nat_eq text find)) [
+  | inl e ↦ absurd (not_there (occurs_first find text e))
+  | inr e ↦ e
+]
+
+-- ---- an occurrence behind the first byte
+
+behind : (byte : ℕ) (find text : List ℕ) (at : ℕ) → OccursAt text find at → OccursAt (byte ∷ text) find (suc at)
+behind byte find text at occurs =
+    OccursAt-from_part (byte ∷ text) find (suc at) (omega (arith, occurs.fits)) (OccursAt-part text find at occurs)
+
+without_first : (byte : ℕ) (find text : List ℕ) (at : ℕ) → OccursAt (byte ∷ text) find (suc at) → OccursAt text find at
+without_first byte find text at occurs =
+    OccursAt-from_part text find at (omega (arith, occurs.fits)) (OccursAt-part (byte ∷ text) find (suc at) occurs)
+
+-- ---- the text around what was found
+
+abbrev cut_at : List ℕ → List ℕ → ℕ → List ℕ × List ℕ
+cut_at find text at = (take at text, drop (at + length find) text)
+
+abbrev one_more : ℕ → List ℕ × List ℕ → List ℕ × List ℕ
+one_more byte parts = (byte ∷ parts.0, parts.1)
+
+pub around_is : (find : List ℕ) → 0 < length find → (text : List ℕ) (r : Option ℕ) → FindsNeedle text find 0 r → around find text ≡ option_map (cut_at find text) r
+unfolding around
+around_is find some [] None h = refl
+around_is find some [] (Some at) h = absurd (omega (arith, h.1.fits))
+around_is find some (byte ∷ text) None h =
+    cond-false _ _ _ (not_begun find (byte ∷ text) (h 0 (omega arith) (omega arith)))
+    ∙ ap (option_map (one_more byte)) (around_is find some text None (λ at low high occurs. h (suc at) (omega arith) (omega arith) (behind byte find text at occurs)))
+around_is find some (byte ∷ text) (Some zero) h =
+    let same : length find ≡ 0 + length find = omega arith in
+    cond-true _ _ _ (begun find (byte ∷ text) h.1) ∙ ap (λ n. Some ([], drop n (byte ∷ text))) same
+around_is find some (byte ∷ text) (Some (suc at)) h =
+    let first : NoneBefore (OccursAt text find) 0 (length text + 1) at = record {
+      low = omega arith;
+      high = omega (arith, h.0.high);
+      before = λ k low high occurs. h.0.before (suc k) (omega arith) (omega arith) (behind byte find text k occurs);
+    } in
+    let same : suc (at + length find) ≡ suc at + length find = omega arith in
+    cond-false _ _ _ (not_begun find (byte ∷ text) (h.0.before 0 (omega arith) (omega arith)))
+    ∙ ap (option_map (one_more byte)) (around_is find some text (Some at) (first, without_first byte find text at h.1))
+    ∙ ap (λ n. Some (byte ∷ take at text, drop n (byte ∷ text))) same
+
+-- ---- what is replaced
+
+-- without an occurrence nothing is
+none_replaced : (n : ℕ) (find replace text : List ℕ) → around find text ≡ None → replaced_up_to n find replace text ≡ text
+unfolding replaced_up_to
+none_replaced zero find replace text e = refl
+none_replaced (suc n) find replace text e = rw e refl
+
+-- one occurrence is, and then those behind it
+one_replaced : (n : ℕ) (find replace text before rest : List ℕ) → around find text ≡ Some (before, rest)
+    → replaced_up_to (suc n) find replace text ≡ before ++ (replace ++ replaced_up_to n find replace rest)
+unfolding replaced_up_to
+one_replaced n find replace text before rest e = rw e refl
+
+regroup : (a b c d : List ℕ) → ((a ++ b) ++ c) ++ d ≡ a ++ (b ++ (c ++ d))
+regroup a b c d = simp append_assoc
+
+-- ---- a text that is being made
+
+-- without an occurrence what is left goes behind it
+pub made_to_end : (n : ℕ) (find replace text made longer : List ℕ) → around find text ≡ None → longer ≡ made ++ text
+    → longer ≡ made ++ replaced_up_to n find replace text
+made_to_end n find replace text made longer e is = is ∙ ap (λ rest. made ++ rest) (sym (none_replaced n find replace text e))
+
+-- and so where enough are replaced
+pub made_enough : (most done : ℕ) (find replace text made longer : List ℕ) → most ≤ done → longer ≡ made ++ text
+    → longer ≡ made ++ replaced_up_to (most - done) find replace text
+unfolding replaced_up_to
+made_enough most done find replace text made longer enough is =
+    let none : most - done ≡ 0 = omega arith in rw none is
+
+-- one more occurrence is replaced
+pub made_longer : (most done : ℕ) (find replace text before rest made longer : List ℕ) → done < most → around find text ≡ Some (before, rest)
+    → longer ≡ (made ++ before) ++ replace
+    → longer ++ replaced_up_to (most - (done + 1)) find replace rest ≡ made ++ replaced_up_to (most - done) find replace text
+made_longer most done find replace text before rest made longer under e is =
+    let left : suc (most - (done + 1)) ≡ most - done = omega arith in
+    ap (λ front. front ++ replaced_up_to (most - (done + 1)) find replace rest) is
+    ∙ regroup made before replace (replaced_up_to (most - (done + 1)) find replace rest)
+    ∙ ap (λ more. made ++ more) (sym (one_replaced (most - (done + 1)) find replace text before rest e) ∙ ap (λ n. replaced_up_to n find replace text) left)

@@ -1,0 +1,3 @@
+pub mod Substrings
+pub mod UriText
+pub mod Steps

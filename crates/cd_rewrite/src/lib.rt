@@ -1,0 +1,18 @@
+//! What is asked for, rewritten: the steps of the handler `rewrite`, over texts that are filled already.
+//!
+//! `Rewriting` says what is done to a method, a path and a query, and `rewritten` does it, step by step (specs/Steps.antt). Paths
+//! have their escapes read; the uri of a request is written again where its path or its query becomes another
+//! (specs/UriText.antt). How occurrences of a text are replaced is said in specs/Substrings.antt.
+//!
+//! Which texts a configuration gives, and how they are filled, is left to the crate above.
+#![tactic(auto)]
+
+mod rewriting;
+mod steps;
+mod substrings;
+#[cfg(test)]
+mod tests;
+mod uri_text;
+
+pub use rewriting::{QueryChange, Replacement, Rewriting, Target};
+pub use steps::rewritten;
