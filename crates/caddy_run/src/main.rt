@@ -22,6 +22,8 @@ mod laws;
 mod output;
 mod refusal;
 #[cfg(test)]
+mod request_tests;
+#[cfg(test)]
 mod running;
 mod serve;
 mod site;

@@ -28,7 +28,7 @@ fn answered<R: Threads + Wait + Sync>(
 }
 
 // Compares what a server with these members answers to these bytes.
-fn check_site<R: Threads + Wait + Sync + Abort>(
+pub fn check_site<R: Threads + Wait + Sync + Abort>(
     rt: &R,
     alloc: Global,
     members: &str,
@@ -262,6 +262,10 @@ fn the_first_fault_of_the_server_is_told(rt: HostRuntime) -> Result<(), NoMemory
         (
             r#"{"listen":[":1"],"routes":[{"match":[{"path":["/a*b"]}],"terminal":1}]}"#,
             "bad value at /apps/http/servers/s/routes/0/match/0/path/0",
+        ),
+        (
+            r#"{"listen":[":1"],"routes":[{"handle":[{"handler":"rewrite","uri_substring":[{"find":""}]}]}]}"#,
+            "bad value at /apps/http/servers/s/routes/0/handle/0/uri_substring/0/find",
         ),
         (
             r#"{"listen":[":1"],"errors":{"routes":[{"terminal":1}]}}"#,
