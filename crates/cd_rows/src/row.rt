@@ -125,7 +125,8 @@ fn put_pieces(alloc: Global, out: &mut Octets, pieces: &[Tree]) -> Result<(), Ro
 }
 
 // A piece is a text, a byte as its number, or an object: one of these as `repeat` and how often it is there as `times`, or a list
-// as `each`, which is there so often too, each time with the time's number in the place of null, from 0 up.
+// as `each`, which is there so often too, each time with a number in the place of null: from 0 or from `from` up, or down to it
+// where `falling` is true.
 fn put_piece(alloc: Global, out: &mut Octets, piece: &Tree) -> Result<(), RowFault> {
     match piece {
         Tree::Object(_) => put_object(alloc, out, piece),
@@ -134,12 +135,13 @@ fn put_piece(alloc: Global, out: &mut Octets, piece: &Tree) -> Result<(), RowFau
 }
 
 fn put_object(alloc: Global, out: &mut Octets, piece: &Tree) -> Result<(), RowFault> {
+    only(alloc, piece, "repeat each times from falling")?;
     let Some(Tree::Num(times)) = find(piece, "times") else {
         return Err(RowFault::Malformed("bytes without times"));
     };
     match find(piece, "repeat") {
         Some(again) => put_repeated(out, again, times.size),
-        None => put_each(alloc, out, find(piece, "each"), times.size),
+        None => put_each(alloc, out, piece, times.size),
     }
 }
 
@@ -150,19 +152,26 @@ fn put_repeated(out: &mut Octets, again: &Tree, times: u64) -> Result<(), RowFau
     Ok(())
 }
 
-fn put_each(
-    alloc: Global,
-    out: &mut Octets,
-    parts: Option<&Tree>,
-    times: u64,
-) -> Result<(), RowFault> {
-    let Some(Tree::Items(parts)) = parts else {
+fn put_each(alloc: Global, out: &mut Octets, piece: &Tree, times: u64) -> Result<(), RowFault> {
+    let Some(Tree::Items(parts)) = find(piece, "each") else {
         return Err(RowFault::Malformed("bytes with times alone"));
     };
+    let from = first_of(piece)?;
+    let falling = is_true(piece, "falling")?;
     for time in 0..times {
-        put_numbered(alloc, out, parts.as_slice(), time)?;
+        let step = if falling { times - 1 - time } else { time };
+        put_numbered(alloc, out, parts.as_slice(), from.saturating_add(step))?;
     }
     Ok(())
+}
+
+// The least number of an `each`.
+fn first_of(piece: &Tree) -> Result<u64, RowFault> {
+    match find(piece, "from") {
+        None => Ok(0),
+        Some(Tree::Num(number)) => Ok(number.size),
+        Some(_) => Err(RowFault::Malformed("no number")),
+    }
 }
 
 fn put_numbered(
