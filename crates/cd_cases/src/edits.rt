@@ -48,12 +48,7 @@ fn edit_of(alloc: Global, row: &Tree, tree: &Tree) -> Result<Outcome, RowFault>
     }
 }
 
-fn edit_by(
-    alloc: Global,
-    row: &Tree,
-    tree: &Tree,
-    body: Option<&Tree>,
-) -> Result<Outcome, RowFault>
+fn edit_by(alloc: Global, row: &Tree, tree: &Tree, body: Option<&Tree>) -> Result<Outcome, RowFault>
     requires tree { IsSound tree.now }
     requires body { ForSome (option_copied body) IsSound }
 {

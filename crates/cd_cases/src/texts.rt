@@ -4,8 +4,6 @@
 //!     {"number": TEXT, "found": DIGITS}         or "found": "none"
 //!     {"parts": BYTES, "found": BYTES}          what is between the slashes, with a `|` after each part
 //!     {"rising": [TEXT, ..], "gives": TRUTH}    whether each text is above those before it and equal to itself alone
-ghost use Rattle.std.specs.Prelude.{◌≡◌};
-
 use cd_rows::{Outcome, RowFault, bytes_at, find, only, says, text_of};
 use cd_text::{List, NoMemory, Octets, Text, decimal, number_of, parts_of};
 use cd_tree::{Num, Tree};
