@@ -11,8 +11,6 @@
 
 mod fault;
 mod index;
-#[cfg(test)]
-mod tests;
 mod walk;
 
 pub use fault::IdFault;

@@ -20,8 +20,6 @@ mod laws;
 mod looking;
 mod members;
 mod position;
-#[cfg(test)]
-mod tests;
 mod verb;
 
 pub use editing::edit;

@@ -14,8 +14,6 @@ mod fault;
 mod if_match;
 mod limits;
 mod tags;
-#[cfg(test)]
-mod tests;
 
 pub use fault::{IfMatchFault, TagFault};
 pub use if_match::{Tag, read_if_match};

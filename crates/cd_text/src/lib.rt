@@ -14,8 +14,6 @@ mod memory;
 mod numbers;
 mod octets;
 mod parts;
-#[cfg(test)]
-mod tests;
 mod text;
 
 pub use list::{List, place};

@@ -28,8 +28,6 @@ mod path;
 mod printing;
 mod reading;
 mod round_trip;
-#[cfg(test)]
-mod tests;
 mod tree;
 
 pub use copies::copy;

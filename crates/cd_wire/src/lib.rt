@@ -19,8 +19,6 @@ mod fields;
 mod framing;
 mod head;
 mod intake;
-#[cfg(test)]
-mod intake_tests;
 mod judging;
 mod laws;
 mod limits;
@@ -30,8 +28,6 @@ mod request;
 mod scanning;
 mod taking;
 mod targets;
-#[cfg(test)]
-mod tests;
 mod texts;
 
 pub use answer::Answer;
