@@ -17,7 +17,7 @@ use std::alloc::Global;
 pub struct Cases;
 
 impl Kinds for Cases {
-    fn outcome(alloc: Global, row: &Tree) -> Result<Outcome, RowFault> {
+    fn outcome(&self, alloc: Global, row: &Tree) -> Result<Outcome, RowFault> {
         of_edits(alloc, row)
     }
 }

@@ -17,7 +17,7 @@ use kinds::Cases;
 use std::process::ExitCode;
 
 fn main(rt: HostRuntime) -> ExitCode {
-    match check_files::<Cases>(&rt) {
+    match check_files(&rt, &Cases) {
         Ok(true) => ExitCode::SUCCESS,
         Ok(false) => ExitCode::from(1),
         Err(_) => ExitCode::from(2),
