@@ -15,7 +15,7 @@ use std::alloc::Global;
 pub struct SiteKinds {}
 
 impl Kinds for SiteKinds {
-    fn outcome(alloc: Global, row: &Tree) -> Result<Outcome, RowFault> {
+    fn outcome(&self, alloc: Global, row: &Tree) -> Result<Outcome, RowFault> {
         if has(row, "fill") {
             fill_outcome(alloc, row)
         } else if has(row, "scene") {

@@ -17,7 +17,7 @@ use kinds::SiteKinds;
 use std::process::ExitCode;
 
 fn main(rt: HostRuntime) -> ExitCode {
-    match check_files::<SiteKinds>(&rt) {
+    match check_files(&rt, &SiteKinds) {
         Ok(true) => ExitCode::SUCCESS,
         Ok(false) => ExitCode::from(1),
         Err(_) => ExitCode::from(2),
