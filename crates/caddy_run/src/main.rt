@@ -1,43 +1,18 @@
-//! The program: from the words of the command line to the bytes of each connection.
+//! The program: it gives `caddy_main` of `cd_program` the real forms of the outside.
 //!
-//! `caddy_main` (top.rt) is the whole program over the traits of the outside, and its contract is what the program promises.
-//! `main` hands it the real ones: standard streams and the file of the configuration (streams.rt, console.rt,
-//! config_file.rt). These tell nothing of content, so no contract speaks of what a stream or a file holds.
-//!
-//! The modules in between read the configuration (config.rt), find the server in it (site.rt), serve the connections of a
-//! lane one after another with what the server answers (serve.rt, connection.rt), count them (counts.rt), and say what was
-//! done (output.rt).
+//! These are the standard streams and the file of the configuration (streams.rt, console.rt, config_file.rt). They say nothing
+//! of content, so no contract speaks of what a stream or a file holds. What the program does with them is proved of
+//! `caddy_main`.
 #![tactic(auto)]
 
 ghost use Rattle.std.specs.Prelude.{◌≡◌, ◌∷◌, [], IfOk};
 
-mod config;
 mod config_file;
-mod connection;
 mod console;
-mod counts;
-#[cfg(test)]
-mod device_tests;
-mod laws;
-mod output;
-mod refusal;
-#[cfg(test)]
-mod request_tests;
-#[cfg(test)]
-mod running;
-mod serve;
-mod site;
-#[cfg(test)]
-mod site_tests;
-mod status;
 mod streams;
-#[cfg(test)]
-mod tests;
-mod top;
-mod way;
-mod words;
 
 use cd_outside::{MemoryFixtures, MemoryLane};
+use cd_program::caddy_main;
 use cd_text::{List, NoMemory, Text};
 use config_file::{ConfigFile, ConfigSource};
 use console::Console;
@@ -47,7 +22,6 @@ use std::process::ExitCode;
 use std::rt::{Env, Files};
 use std::{env, fs};
 use streams::StreamLane;
-use top::caddy_main;
 
 fn main(rt: HostRuntime) -> ExitCode {
     let alloc = rt.alloc();
@@ -77,7 +51,7 @@ fn main(rt: HostRuntime) -> ExitCode {
     ExitCode::from(status)
 }
 
-// The words behind the program's name. Words that are not UTF-8 are none that the program knows, so there are none then.
+// The words after the program's name. Words that are not UTF-8 are none that the program knows, so there are none then.
 fn words_of<R: Env + AllocGlobal>(rt: &R, alloc: Global) -> Result<List<Text>, NoMemory> {
     let mut words = List::new(alloc);
     let arguments = match env::args(rt) {
@@ -98,7 +72,7 @@ fn begins_with(words: &[Text], command: &str) -> bool {
     }
 }
 
-// The file that `--config` names, where it stands as the second of three words.
+// The file that `--config` names, where it is the second of three words.
 fn config_source<R: Files>(rt: &R, words: &[Text]) -> ConfigSource<R::File> {
     let file = match words {
         [_, option, file] if option.equals("--config") => match fs::open(rt, file.as_str()) {

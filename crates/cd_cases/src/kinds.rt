@@ -3,8 +3,11 @@
 //! There is a function for every few kinds, since each condition is known in all that come after it.
 ghost use Rattle.cd_tree.specs.Tree.{IsSound};
 
+use crate::devices::{fixtures_outcome, lane_outcome, sink_outcome, source_outcome};
 use crate::edits::{edit_outcome, look_outcome};
+use crate::histories::history_outcome;
 use crate::ids::find_outcome;
+use crate::pools::pool_outcome;
 use crate::tags::{holds_outcome, if_match_outcome, tag_outcome};
 use crate::texts::{decimal_outcome, number_outcome, parts_outcome, rising_outcome};
 use crate::trees::{need_outcome, nesting_outcome, read_outcome};
@@ -17,7 +20,7 @@ use std::alloc::Global;
 pub struct Cases;
 
 impl Kinds for Cases {
-    fn outcome(alloc: Global, row: &Tree) -> Result<Outcome, RowFault> {
+    fn outcome(&self, alloc: Global, row: &Tree) -> Result<Outcome, RowFault> {
         of_edits(alloc, row)
     }
 }
@@ -87,6 +90,30 @@ fn of_texts(alloc: Global, row: &Tree) -> Result<Outcome, RowFault> {
         parts_outcome(alloc, row)
     } else if has(row, "rising") {
         rising_outcome(alloc, row)
+    } else {
+        of_histories(alloc, row)
+    }
+}
+
+fn of_histories(alloc: Global, row: &Tree) -> Result<Outcome, RowFault> {
+    if has(row, "history") {
+        history_outcome(alloc, row)
+    } else if has(row, "pool") {
+        pool_outcome(alloc, row)
+    } else {
+        of_devices(alloc, row)
+    }
+}
+
+fn of_devices(alloc: Global, row: &Tree) -> Result<Outcome, RowFault> {
+    if has(row, "source") {
+        source_outcome(alloc, row)
+    } else if has(row, "sink") {
+        sink_outcome(alloc, row)
+    } else if has(row, "fixtures") {
+        fixtures_outcome(alloc, row)
+    } else if has(row, "lane") {
+        lane_outcome(alloc, row)
     } else {
         Err(RowFault::Malformed("no kind that is known"))
     }

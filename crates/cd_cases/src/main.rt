@@ -4,20 +4,26 @@
 //! is said in `cd_rows`. The exit status is 0 where every row of every file agrees.
 #![tactic(auto)]
 
+mod devices;
 mod edits;
+mod histories;
 mod ids;
+mod keys;
 mod kinds;
+mod pools;
+mod state_words;
 mod tags;
 mod texts;
 mod trees;
 mod wire;
+mod words;
 
 use cd_rows::check_files;
 use kinds::Cases;
 use std::process::ExitCode;
 
 fn main(rt: HostRuntime) -> ExitCode {
-    match check_files::<Cases>(&rt) {
+    match check_files(&rt, &Cases) {
         Ok(true) => ExitCode::SUCCESS,
         Ok(false) => ExitCode::from(1),
         Err(_) => ExitCode::from(2),

@@ -16,8 +16,6 @@ mod failure;
 mod fault;
 mod filling;
 mod form;
-#[cfg(test)]
-mod form_tests;
 mod host;
 mod joining;
 mod laws;
@@ -25,8 +23,6 @@ mod limits;
 mod query;
 mod request_line;
 mod scene;
-#[cfg(test)]
-mod tests;
 mod treating;
 mod uri;
 mod values;

@@ -86,16 +86,19 @@ impl Scene {
     pub fn new(alloc: Global, request: &Request) -> Result<Scene, NoMemory>
         ensures { IfOk result (λ scene. scene ≡ scene_of request.now) }
     {
+        let host = request.host.copy(alloc)?;
+        let fields = copy_fields(alloc, request.fields.as_slice())?;
+        let body = request.body.copy(alloc)?;
         Ok(Scene {
             current: line_of(alloc, request)?,
+            response: first_response(alloc)?,
             original: None,
-            host: request.host.copy(alloc)?,
+            host,
             minor: request.minor,
-            fields: copy_fields(alloc, request.fields.as_slice())?,
-            body: request.body.copy(alloc)?,
+            fields,
+            body,
             variables: List::new(alloc),
             groups: List::new(alloc),
-            response: first_response(alloc)?,
             error: None,
         })
     }

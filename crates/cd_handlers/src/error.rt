@@ -5,7 +5,7 @@ ghost use Rattle.cd_handlers.specs.Error.{static_error, failure_filled, error_ef
 
 use crate::fault::HandlerFault;
 use crate::filling::text_filled;
-use crate::outcome::Effect;
+use crate::outcome::{Effect, let_go};
 use crate::status::{Status, status_given};
 use crate::texts::no_text;
 use cd_fill::{Failure, Scene};
@@ -63,6 +63,6 @@ pub(crate) fn error_effect(
     match failure_filled(alloc, settings, &scene) {
         Ok(failure) => Ok(Effect::Failed(scene, failure.status, failure.message)),
         Err(HandlerFault::Unable) => Ok(Effect::Failed(scene, 500, Octets::new(alloc))),
-        Err(HandlerFault::NoMemory) => Err(NoMemory),
+        Err(HandlerFault::NoMemory) => Err(let_go(scene)),
     }
 }

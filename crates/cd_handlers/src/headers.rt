@@ -1,6 +1,7 @@
 ghost use Rattle.std.specs.Prelude.{◌≡◌, IfOk};
 ghost use Rattle.cd_text.specs.Gives.{Gives};
 ghost use Rattle.cd_handlers.specs.declared.fault.HandlerFault.{HandlerFault};
+ghost use Rattle.cd_handlers.specs.Changes.{changed_by};
 ghost use Rattle.cd_handlers.specs.Headers.{request_changes, response_changes, no_changes, request_or_none, response_or_none, headers, both_filled, goes_on, headers_effect, headers_deferred};
 
 use crate::changes::{
@@ -8,12 +9,14 @@ use crate::changes::{
 };
 use crate::fault::HandlerFault;
 use crate::field_values::{FieldList, RequestFieldList, fields_or_none, request_fields_or_none};
-use crate::outcome::Effect;
+use crate::outcome::{Effect, let_go};
 use cd_fill::Scene;
 use cd_module::{LoadFault, Pattern, Settings, fields_of, optional};
 use cd_text::{List, NoMemory, Octets};
 use cd_tree::{Path, Tree};
+use cd_wire::Field;
 use std::alloc::Global;
+use std::mem::replace;
 
 /// `headers`: changes of the fields of the request and of the answer (Caddy, JSON Config Structure, http.handlers.headers).
 #[derive(Debug, Drop)]
@@ -139,6 +142,20 @@ fn both_filled(alloc: Global, settings: &Headers, scene: &Scene) -> Result<Both,
     Ok(Both { request, response })
 }
 
+fn change(
+    alloc: Global,
+    side: Side,
+    values: FilledValues,
+    delete: &List<Pattern>,
+    fields: &mut List<Field>,
+) -> Result<(), NoMemory>
+    ensures { IfOk result (λ _. fields.new ≡ changed_by side values delete.now fields.old) }
+{
+    let now = replace(fields, List::new(alloc));
+    *fields = changed_by(alloc, side, values, delete, now)?;
+    Ok(())
+}
+
 // The scene in which the request goes on.
 #[tactic(auto, unfolding(crate::specs::Headers::goes_on))]
 fn goes_on(alloc: Global, settings: &Headers, both: Both, scene: Scene) -> Result<Scene, NoMemory>
@@ -147,13 +164,17 @@ fn goes_on(alloc: Global, settings: &Headers, both: Both, scene: Scene) -> Resul
     let Both { request, response } = both;
     let mut scene = scene;
     let delete = &settings.request.delete;
-    scene.fields = changed_by(alloc, Side::Request, request, delete, scene.fields)?;
+    let Ok(()) = change(alloc, Side::Request, request, delete, &mut scene.fields) else {
+        return Err(let_go(scene));
+    };
     if settings.response.deferred {
         return Ok(scene);
     }
     let delete = &settings.response.changes.delete;
-    scene.response = changed_by(alloc, Side::Answer, response, delete, scene.response)?;
-    Ok(scene)
+    match change(alloc, Side::Answer, response, delete, &mut scene.response) {
+        Ok(()) => Ok(scene),
+        Err(NoMemory) => Err(let_go(scene)),
+    }
 }
 
 /// Changes the fields of the request, and those of the answer unless that is deferred.
@@ -168,7 +189,7 @@ pub(crate) fn headers_effect(
     match both_filled(alloc, settings, &scene) {
         Ok(both) => Ok(Effect::Next(goes_on(alloc, settings, both, scene)?)),
         Err(HandlerFault::Unable) => Ok(Effect::Failed(scene, 500, Octets::new(alloc))),
-        Err(HandlerFault::NoMemory) => Err(NoMemory),
+        Err(HandlerFault::NoMemory) => Err(let_go(scene)),
     }
 }
 

@@ -27,15 +27,9 @@ mod headers;
 mod laws;
 mod outcome;
 mod rewrite;
-#[cfg(test)]
-mod rewrite_tests;
 mod rewriting;
 mod static_response;
 mod status;
-#[cfg(test)]
-mod telling;
-#[cfg(test)]
-mod tests;
 mod texts;
 mod vars;
 

@@ -1,6 +1,8 @@
+ghost use Rattle.std.specs.Prelude.{◌≡◌};
+
 use cd_fill::Scene;
-use cd_text::Octets;
-use cd_wire::Answer;
+use cd_text::{List, NoMemory, Octets};
+use cd_wire::{Answer, Field};
 
 /// What a handler does by itself.
 #[derive(Debug, Drop)]
@@ -11,4 +13,20 @@ pub enum Effect {
     Answered(Answer),
     /// The handler fails in this scene, with a status and a message.
     Failed(Scene, u16, Octets),
+}
+
+// A scene is let go of in these two functions alone. Each place where one is costs the proof seconds, and so does a `?` while
+// one is owned.
+
+/// Lets the scene go, where memory is wanting.
+pub(crate) fn let_go(scene: Scene) -> NoMemory {
+    let _scene = scene;
+    NoMemory
+}
+
+/// The fields that the answer is to have, of which alone the scene is still wanted.
+pub(crate) fn response_of(scene: Scene) -> List<Field>
+    ensures { result ≡ scene.response }
+{
+    scene.response
 }

@@ -1,21 +1,22 @@
 //! What `rewrite` does: its texts are filled, and then the steps are done.
-ghost use Rattle.std.specs.Prelude.{◌≡◌, IfOk, map};
+ghost use Rattle.std.specs.Prelude.{◌≡◌, IfOk, Option, map};
 ghost use Rattle.std.specs.Char.{to_ascii_uppercase};
 ghost use Rattle.std.specs.List.{before_first, position};
 ghost use Rattle.std.specs.Option.{option_copied};
 ghost use Rattle.cd_text.specs.Gives.{Gives};
 ghost use Rattle.cd_wire.specs.Targets.{is_question_mark, query_of};
-ghost use Rattle.cd_fill.specs.Scene.{with_slash};
+ghost use Rattle.cd_fill.specs.Scene.{original_line, with_slash};
 ghost use Rattle.cd_fill.specs.Filling.{fill_as};
+ghost use Rattle.cd_rewrite.specs.Steps.{rewritten};
 ghost use Rattle.cd_handlers.specs.declared.fault.HandlerFault.{HandlerFault};
 ghost use Rattle.cd_handlers.specs.Filling.{or_unable};
 ghost use Rattle.cd_handlers.specs.Rewrite.{method_said, method_filled, path_filled, query_said, query_filled, target_filled, prefix_filled, suffix_filled, substring_filled, each_filled, substrings_filled, rewrite_filled, rewritten_scene, rewrite_effect};
 
 use crate::fault::HandlerFault;
 use crate::filling::text_filled;
-use crate::outcome::Effect;
+use crate::outcome::{Effect, let_go};
 use crate::rewrite::{MethodText, Rewrite, Substring, is_token};
-use cd_fill::{Form, Scene, fill_as, with_slash};
+use cd_fill::{Form, RequestLine, Scene, fill_as, with_slash};
 use cd_rewrite::{QueryChange, Replacement, Rewriting, Target, rewritten};
 use cd_text::{List, NoMemory, Octets, Text};
 use std::alloc::Global;
@@ -247,19 +248,39 @@ fn rewrite_filled(
     })
 }
 
+fn line_rewritten(
+    alloc: Global,
+    filled: Rewriting,
+    line: &RequestLine,
+) -> Result<RequestLine, NoMemory>
+    ensures { IfOk result (λ made. made ≡ rewritten filled line.now) }
+{
+    let line = line.copy(alloc)?;
+    rewritten(alloc, filled, line)
+}
+
+fn put_line(line: RequestLine, scene: &mut Scene)
+    ensures { scene.new ≡ record scene.old { current = line; original = Option.Some (original_line scene.old) } }
+{
+    let first = replace(&mut scene.current, line);
+    if scene.original.is_none() {
+        scene.original = Some(first);
+    }
+}
+
 // The scene with what is asked for now. What was asked for at first is kept.
 #[tactic(auto, unfolding(crate::specs::Rewrite::rewritten_scene))]
 fn rewritten_scene(alloc: Global, filled: Rewriting, scene: Scene) -> Result<Scene, NoMemory>
     ensures { IfOk result (λ made. made ≡ rewritten_scene scene filled) }
 {
     let mut scene = scene;
-    let line = scene.current.copy(alloc)?;
-    let line = rewritten(alloc, filled, line)?;
-    let first = replace(&mut scene.current, line);
-    if scene.original.is_none() {
-        scene.original = Some(first);
+    match line_rewritten(alloc, filled, &scene.current) {
+        Ok(line) => {
+            put_line(line, &mut scene);
+            Ok(scene)
+        }
+        Err(NoMemory) => Err(let_go(scene)),
     }
-    Ok(scene)
 }
 
 /// Rewrites what is asked for.
@@ -274,6 +295,6 @@ pub(crate) fn rewrite_effect(
     match rewrite_filled(alloc, settings, &scene) {
         Ok(filled) => Ok(Effect::Next(rewritten_scene(alloc, filled, scene)?)),
         Err(HandlerFault::Unable) => Ok(Effect::Failed(scene, 500, Octets::new(alloc))),
-        Err(HandlerFault::NoMemory) => Err(NoMemory),
+        Err(HandlerFault::NoMemory) => Err(let_go(scene)),
     }
 }

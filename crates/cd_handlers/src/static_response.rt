@@ -8,7 +8,7 @@ use crate::fault::HandlerFault;
 use crate::field_values::{FieldList, FieldValues, fields_or_none};
 use crate::fields::{FilledField, has_field, replaced};
 use crate::filling::{fields_filled, text_filled};
-use crate::outcome::Effect;
+use crate::outcome::{Effect, let_go, response_of};
 use crate::status::{Status, status_given, usual_status};
 use crate::texts::no_text;
 use cd_fill::Scene;
@@ -180,10 +180,10 @@ pub(crate) fn static_effect(
 {
     match parts_filled(alloc, settings, &scene) {
         Ok(parts) => {
-            let answer = answered(alloc, settings, scene.response, parts)?;
+            let answer = answered(alloc, settings, response_of(scene), parts)?;
             Ok(Effect::Answered(answer))
         }
         Err(HandlerFault::Unable) => Ok(Effect::Failed(scene, 500, Octets::new(alloc))),
-        Err(HandlerFault::NoMemory) => Err(NoMemory),
+        Err(HandlerFault::NoMemory) => Err(let_go(scene)),
     }
 }

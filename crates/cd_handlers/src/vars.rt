@@ -1,4 +1,4 @@
-ghost use Rattle.std.specs.Prelude.{◌≡◌, IfOk};
+ghost use Rattle.std.specs.Prelude.{◌≡◌, ◌++◌, ◌∷◌, [], IfOk};
 ghost use Rattle.cd_text.specs.Gives.{Gives};
 ghost use Rattle.cd_tree.specs.Tree.{number_text};
 ghost use Rattle.cd_module.specs.declared.fault.LoadFault.{LoadFault};
@@ -6,7 +6,7 @@ ghost use Rattle.cd_handlers.specs.Vars.{variables, setting_text, setting, vars,
 
 use crate::fault::HandlerFault;
 use crate::filling::text_filled;
-use crate::outcome::Effect;
+use crate::outcome::{Effect, let_go};
 use cd_fill::{Scene, Variable};
 use cd_module::{LoadFault, LoadKind, Named, Settings, object_by_name};
 use cd_text::{List, NoMemory, Octets, Text};
@@ -94,13 +94,26 @@ impl Settings for Vars {
     }
 }
 
+fn add_variable(
+    alloc: Global,
+    name: &Text,
+    value: Octets,
+    variables: &mut List<Variable>,
+) -> Result<(), NoMemory>
+    ensures { IfOk result (λ _. variables.new ≡ variables.old ++ record { name = name.now; value = value } ∷ []) }
+{
+    let name = name.copy(alloc)?;
+    variables.push(Variable { name, value })
+}
+
 fn with_variable(alloc: Global, name: &Text, value: Octets, scene: Scene) -> Result<Scene, NoMemory>
     ensures { IfOk result (λ made. made ≡ with_variable name.now value scene) }
 {
     let mut scene = scene;
-    let name = name.copy(alloc)?;
-    scene.variables.push(Variable { name, value })?;
-    Ok(scene)
+    match add_variable(alloc, name, value, &mut scene.variables) {
+        Ok(()) => Ok(scene),
+        Err(NoMemory) => Err(let_go(scene)),
+    }
 }
 
 /// Sets one variable after another. Each text is filled in the scene that the ones before left.
@@ -119,7 +132,7 @@ pub(crate) fn variables_set(
             Err(HandlerFault::Unable) => {
                 return Ok(Effect::Failed(scene, 500, Octets::new(alloc)));
             }
-            Err(HandlerFault::NoMemory) => return Err(NoMemory),
+            Err(HandlerFault::NoMemory) => return Err(let_go(scene)),
         }
     }
     Ok(Effect::Next(scene))

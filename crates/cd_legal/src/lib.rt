@@ -25,10 +25,6 @@ mod plan;
 mod replaying;
 mod stands;
 mod state;
-#[cfg(test)]
-mod table_tests;
-#[cfg(test)]
-mod tests;
 mod tickets;
 
 pub use entry::{Change, Entry, Signed};

@@ -20,12 +20,8 @@ mod matcher;
 mod method;
 mod path;
 mod query;
-#[cfg(test)]
-mod query_tests;
 mod reading;
 mod sets;
-#[cfg(test)]
-mod tests;
 mod vars;
 
 pub use header::{FieldTest, HeaderMatcher};

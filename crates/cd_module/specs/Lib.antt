@@ -4,5 +4,4 @@ pub mod Ids
 pub mod Settings
 pub mod Patterns
 pub mod Recursion
-pub mod Nests
 pub mod Bare

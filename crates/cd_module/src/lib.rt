@@ -24,13 +24,7 @@ mod lists;
 mod members;
 mod named;
 mod pattern;
-#[cfg(test)]
-mod pattern_tests;
 mod settings;
-#[cfg(test)]
-mod tests;
-#[cfg(test)]
-mod toy;
 mod values;
 mod wording;
 

@@ -30,8 +30,6 @@ mod rooms;
 mod sink;
 mod source;
 mod taken;
-#[cfg(test)]
-mod tests;
 
 pub use accepted::Accepted;
 pub use address::Address;

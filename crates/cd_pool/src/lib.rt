@@ -13,8 +13,6 @@ mod digest;
 mod lease;
 mod pool;
 mod room;
-#[cfg(test)]
-mod tests;
 
 pub use lease::{Gave, Lease, Took};
 pub use pool::Pool;

@@ -10,8 +10,6 @@
 mod rewriting;
 mod steps;
 mod substrings;
-#[cfg(test)]
-mod tests;
 mod uri_text;
 
 pub use rewriting::{QueryChange, Replacement, Rewriting, Target};

@@ -1,7 +1,9 @@
 //! The steps by which what is asked for is rewritten.
-ghost use Rattle.std.specs.Prelude.{◌≡◌, ◌-◌, IfOk, take, drop, length, unwrap_or, option_map};
+ghost use Rattle.std.specs.Prelude.{◌≡◌, ◌-◌, IfOk, take, drop, length, unwrap_or, Option, option_map};
 ghost use Rattle.std.specs.Str.{bytes_eq};
 ghost use Rattle.cd_wire.specs.Targets.{or_root};
+ghost use Rattle.cd_fill.specs.Scene.{with_slash};
+ghost use Rattle.cd_rewrite.specs.declared.rewriting.QueryChange.TheVariants.{Becomes};
 ghost use Rattle.cd_rewrite.specs.Substrings.{substituted};
 ghost use Rattle.cd_rewrite.specs.Steps.{same_query, moved, method_changed, query_changed, target_changed, without_prefix, prefix_stripped, without_suffix, suffix_stripped, all_substituted, substrings_replaced, rewritten};
 
@@ -221,6 +223,24 @@ fn query_substituted(
     }
 }
 
+// Path and query as they are replaced.
+fn target_replaced(
+    alloc: Global,
+    replacements: &List<Replacement>,
+    line: &RequestLine,
+) -> Result<Target, NoMemory>
+    ensures { IfOk result (λ target. target ≡ record {
+      path = Option.Some (with_slash (all_substituted replacements.now line.now.path));
+      query = Becomes (option_map (all_substituted replacements.now) line.now.query);
+    }) }
+{
+    let path = all_substituted(alloc, replacements, &line.path)?;
+    let path = Some(with_slash(alloc, path.as_slice())?);
+    let query = query_substituted(alloc, replacements, &line.query)?;
+    let query = QueryChange::Becomes(query);
+    Ok(Target { path, query })
+}
+
 #[tactic(auto, unfolding(crate::specs::Steps::substrings_replaced, crate::specs::Steps::target_changed))]
 fn substrings_replaced(
     alloc: Global,
@@ -231,11 +251,8 @@ fn substrings_replaced(
 {
     match replacements {
         Some(replacements) => {
-            let path = all_substituted(alloc, replacements, &line.path)?;
-            let path = Some(with_slash(alloc, path.as_slice())?);
-            let query = query_substituted(alloc, replacements, &line.query)?;
-            let query = QueryChange::Becomes(query);
-            target_changed(alloc, Target { path, query }, line)
+            let target = target_replaced(alloc, replacements, &line)?;
+            target_changed(alloc, target, line)
         }
         None => Ok(line),
     }

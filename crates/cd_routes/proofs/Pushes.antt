@@ -100,9 +100,6 @@ goes_on h rest x y none next =
 
 -- ---- pushing on a copy
 
-pub copied_more : (new copy rest : List Work) (item : Work) → new ≡ copy ++ item ∷ [] → copy ≡ rest → new ≡ rest ++ item ∷ []
-copied_more new copy rest item is same = is ∙ ap (λ w. w ++ item ∷ []) same
-
 pub total_some : (ns : List ℕ) → 1 ≤ total ns
 total_some [] = omega arith
 total_some (n ∷ ns) = omega (arith, total_some ns)

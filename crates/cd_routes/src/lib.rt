@@ -17,14 +17,10 @@ mod laws;
 mod listen;
 mod outcome;
 mod reading;
-#[cfg(test)]
-mod reading_tests;
 mod route;
 mod running;
 mod server;
 mod serving;
-#[cfg(test)]
-mod tests;
 mod work;
 
 pub use laws::{a_route_does, a_step_does, routes_are};

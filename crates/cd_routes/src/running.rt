@@ -1,13 +1,14 @@
-ghost use Rattle.std.specs.Prelude.{◌≡◌, ◌+◌, ◌≤◌, ◌&&◌, ◌∷◌, true, not, IfOk, List, map, option_map, Option, if◌then◌else◌};
+ghost use Rattle.std.specs.Prelude.{◌≡◌, ◌+◌, ◌≤◌, ◌&&◌, [], ◌∷◌, ◌++◌, true, not, IfOk, List, map, option_map, Option, if◌then◌else◌};
 ghost use Rattle.std.specs.List.{list_any};
 ghost use Rattle.std.specs.Str.{bytes_eq};
 ghost use Rattle.cd_match.specs.Holds.{holds};
 ghost use Rattle.cd_routes.specs.declared.route.Route.{Route as RouteSettings, out-Route};
 ghost use Rattle.cd_routes.specs.declared.route.Subroute.{out-Subroute};
+ghost use Rattle.cd_routes.specs.declared.work.Work.TheVariants.{Routes};
 ghost use Rattle.cd_routes.specs.Running.{Rest, nothing_left, with_changes, handled, caught, is_taken, with_group, with_error, run_route, run_routes, run_step, run_steps};
 ghost use Rattle.cd_routes.specs.Work.{done, all_changes, weight, route_weight, step_weight, told, weight_left, total, subroute_weight};
 
-use crate::outcome::Outcome;
+use crate::outcome::{Outcome, let_go, response_of};
 use crate::route::{Route, Step, Subroute};
 use crate::work::{Progress, Work, behind, first_route, first_step, take_next};
 use cd_fill::{Failure, Scene};
@@ -23,7 +24,7 @@ fn nothing_left(alloc: Global, scene: Scene) -> Outcome
     let status = usual_status(&scene.error);
     Outcome::Answered(Answer {
         status,
-        fields: scene.response,
+        fields: response_of(scene),
         body: Octets::new(alloc),
         close: false,
     })
@@ -49,17 +50,23 @@ fn is_taken(group: &Option<Text>, scene: &Scene) -> bool
     }
 }
 
+fn add_group(alloc: Global, group: &Text, groups: &mut List<Text>) -> Result<(), NoMemory>
+    ensures { IfOk result (λ _. groups.new ≡ groups.old ++ group.now ∷ []) }
+{
+    let group = group.copy(alloc)?;
+    groups.push(group)
+}
+
 fn with_group(alloc: Global, group: &Option<Text>, scene: Scene) -> Result<Scene, NoMemory>
     ensures { IfOk result (λ made. made ≡ with_group group.now scene) }
 {
     let mut scene = scene;
     match group {
         None => Ok(scene),
-        Some(group) => {
-            let group = group.copy(alloc)?;
-            scene.groups.push(group)?;
-            Ok(scene)
-        }
+        Some(group) => match add_group(alloc, group, &mut scene.groups) {
+            Ok(()) => Ok(scene),
+            Err(NoMemory) => Err(let_go(scene)),
+        },
     }
 }
 
@@ -154,8 +161,10 @@ fn entered<'a>(
 {
     let scene = with_group(alloc, &route.group, scene)?;
     let mut rest = behind(route.terminal, rest);
-    rest.push(Work::Steps(route.handle.as_slice()))?;
-    Ok(Progress::Goes(rest, scene))
+    match rest.push(Work::Steps(route.handle.as_slice())) {
+        Ok(()) => Ok(Progress::Goes(rest, scene)),
+        Err(_) => Err(let_go(scene)),
+    }
 }
 
 // Routes, and what follows them.
@@ -168,12 +177,16 @@ fn on_routes<'a>(
     ensures meaning { IfOk result (λ progress. told progress ≡ run_routes routes.now (done rest.entry.items) scene) }
     ensures less { IfOk result (λ progress. weight_left progress ≤ weight rest.entry.items + total (map route_weight routes.now)) }
 {
-    let left = from_first_taken(alloc, routes, &scene)?;
+    let Ok(left) = from_first_taken(alloc, routes, &scene) else {
+        return Err(let_go(scene));
+    };
     match first_route(left) {
         None => Ok(Progress::Goes(rest, scene)),
         Some((route, others)) => {
             let mut rest = rest;
-            rest.push(Work::Routes(others))?;
+            let Ok(()) = rest.push(Work::Routes(others)) else {
+                return Err(let_go(scene));
+            };
             entered(alloc, route, rest, scene)
         }
     }
@@ -189,7 +202,9 @@ fn handle<'a>(
     ensures meaning { IfOk result (λ progress. told progress ≡ handled handler.now (done rest.entry.items) scene) }
     ensures less { IfOk result (λ progress. weight_left progress ≤ weight rest.entry.items + 2) }
 {
-    let changes = deferred(alloc, handler, &scene)?;
+    let Ok(changes) = deferred(alloc, handler, &scene) else {
+        return Err(let_go(scene));
+    };
     match effect(alloc, handler, scene)? {
         Effect::Next(scene) => match changes {
             None => Ok(Progress::Goes(rest, scene)),
@@ -218,7 +233,9 @@ fn on_steps<'a>(
         None => Ok(Progress::Goes(rest, scene)),
         Some((step, others)) => {
             let mut rest = rest;
-            rest.push(Work::Steps(others))?;
+            let Ok(()) = rest.push(Work::Steps(others)) else {
+                return Err(let_go(scene));
+            };
             begin(alloc, step, rest, scene)
         }
     }
@@ -241,6 +258,19 @@ fn begin<'a>(
     }
 }
 
+// The same work with routes in front of it.
+fn in_front<'a>(
+    alloc: Global,
+    routes: &'a [Route],
+    rest: &Vec<Work<'a>>,
+) -> Result<Vec<Work<'a>>, NoMemory>
+    ensures { IfOk result (λ made. made.items ≡ rest.now.items ++ Routes routes.entry ∷ []) }
+{
+    let mut tried = Vec::from_slice(alloc, rest.as_slice())?;
+    tried.push(Work::Routes(routes))?;
+    Ok(tried)
+}
+
 // A subroute, and what follows it.
 #[cycle(run)]
 fn nest<'a>(
@@ -257,17 +287,22 @@ fn nest<'a>(
     match &subroute.errors {
         None => {
             let mut rest = rest;
-            rest.push(Work::Routes(subroute.routes.as_slice()))?;
+            let Ok(()) = rest.push(Work::Routes(subroute.routes.as_slice())) else {
+                return Err(let_go(scene));
+            };
             Ok(Progress::Goes(rest, scene))
         }
         Some(errors) => {
-            let mut tried = Vec::from_slice(alloc, rest.as_slice())?;
-            tried.push(Work::Routes(subroute.routes.as_slice()))?;
+            let Ok(tried) = in_front(alloc, subroute.routes.as_slice(), &rest) else {
+                return Err(let_go(scene));
+            };
             match run(alloc, tried, scene)? {
                 Outcome::Answered(answer) => Ok(Progress::Ends(Outcome::Answered(answer))),
                 Outcome::Failed(scene, status, message) => {
                     let mut rest = rest;
-                    rest.push(Work::Routes(errors.as_slice()))?;
+                    let Ok(()) = rest.push(Work::Routes(errors.as_slice())) else {
+                        return Err(let_go(scene));
+                    };
                     Ok(Progress::Goes(rest, with_error(status, message, scene)))
                 }
             }
@@ -300,7 +335,9 @@ fn run<'a>(alloc: Global, work: Vec<Work<'a>>, scene: Scene) -> Result<Outcome, 
         match progress {
             Progress::Ends(outcome) => return with_all_changes(alloc, left, outcome),
             Progress::Leaves(changes, work, scene) => {
-                left.push(changes)?;
+                let Ok(()) = left.push(changes) else {
+                    return Err(let_go(scene));
+                };
                 progress = Progress::Goes(work, scene);
             }
             Progress::Goes(work, scene) => progress = advance(alloc, work, scene)?,
@@ -314,6 +351,8 @@ pub fn run_routes(alloc: Global, routes: &[Route], scene: Scene) -> Result<Outco
     ensures { IfOk result (λ outcome. outcome ≡ run_routes routes.now nothing_left scene) }
 {
     let mut work = Vec::new(alloc);
-    work.push(Work::Routes(routes))?;
-    run(alloc, work, scene)
+    match work.push(Work::Routes(routes)) {
+        Ok(()) => run(alloc, work, scene),
+        Err(_) => Err(let_go(scene)),
+    }
 }

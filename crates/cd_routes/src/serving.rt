@@ -2,7 +2,7 @@ ghost use Rattle.std.specs.Prelude.{◌≡◌, IfOk, [], false};
 ghost use Rattle.cd_routes.specs.Running.{nothing_left, run_routes, with_error};
 ghost use Rattle.cd_routes.specs.Serving.{answer_from, error_answer, restored, server_answer};
 
-use crate::outcome::Outcome;
+use crate::outcome::{Outcome, let_go, response_of};
 use crate::route::Route;
 use crate::running::{run_routes, with_error};
 use crate::server::Server;
@@ -65,11 +65,16 @@ fn error_answer(
     ensures { IfOk result (λ answer. answer
         ≡ error_answer scene status (run_routes errors.now nothing_left (with_error status message (restored scene)))) }
 {
-    let fields = copy_fields(alloc, &scene.response)?;
+    let Ok(fields) = copy_fields(alloc, &scene.response) else {
+        return Err(let_go(scene));
+    };
     let scene = with_error(status, message, restored(scene));
     match run_routes(alloc, errors, scene)? {
         Outcome::Answered(answer) => Ok(answer),
-        Outcome::Failed(_, _, _) => Ok(bare_answer(alloc, status, fields)),
+        Outcome::Failed(again, _, _) => {
+            let_go(again);
+            Ok(bare_answer(alloc, status, fields))
+        }
     }
 }
 
@@ -81,7 +86,7 @@ pub fn answer_from(alloc: Global, server: &Server, scene: Scene) -> Result<Answe
     match run_routes(alloc, server.routes.as_slice(), scene)? {
         Outcome::Answered(answer) => Ok(answer),
         Outcome::Failed(scene, status, message) => match &server.errors {
-            None => Ok(bare_answer(alloc, status, scene.response)),
+            None => Ok(bare_answer(alloc, status, response_of(scene))),
             Some(errors) => error_answer(alloc, errors.as_slice(), scene, status, message),
         },
     }

@@ -9,10 +9,10 @@ use std::alloc::Global;
 use std::rt::{Env, Files};
 use std::{env, fs, io};
 
-/// The kinds of rows that a program knows.
+/// The kinds of rows that a program knows. A value of it has what the calls need besides the row, as the runtime.
 pub trait Kinds {
     /// What the call of the row comes to.
-    fn outcome(alloc: Global, row: &Tree) -> Result<Outcome, RowFault>
+    fn outcome(&self, alloc: Global, row: &Tree) -> Result<Outcome, RowFault>
         requires { IsSound row.now };
 }
 
@@ -20,12 +20,15 @@ pub trait Kinds {
 /// file, its line, what was wanted and what came, and a line for each file. Each line of a file that is neither empty nor begins
 /// with `#` is a row, a JSON object. A row that can't be read, or is of no known kind, or has an unknown member, or wants nothing,
 /// does not agree, nor does a file without rows.
-pub fn check_files<K: Kinds>(rt: &(impl Env + Files + Print + AllocGlobal)) -> io::Result<bool> {
+pub fn check_files<K: Kinds>(
+    rt: &(impl Env + Files + Print + AllocGlobal),
+    kinds: &K,
+) -> io::Result<bool> {
     let mut files = 0u64;
     let mut differing = 0u64;
     for name in env::args(rt)?.skip(1) {
         files = files.saturating_add(1);
-        if !check_file::<K>(rt, name.as_str())? {
+        if !check_file(rt, kinds, name.as_str())? {
             differing = differing.saturating_add(1);
         }
     }
@@ -33,9 +36,13 @@ pub fn check_files<K: Kinds>(rt: &(impl Env + Files + Print + AllocGlobal)) -> i
 }
 
 // Whether the file can be read, has rows, and each agrees.
-fn check_file<K: Kinds>(rt: &(impl Files + Print + AllocGlobal), name: &str) -> io::Result<bool> {
+fn check_file<K: Kinds>(
+    rt: &(impl Files + Print + AllocGlobal),
+    kinds: &K,
+    name: &str,
+) -> io::Result<bool> {
     match fs::read(rt, name) {
-        Ok(bytes) => check_rows::<K>(rt, name, bytes.as_slice()),
+        Ok(bytes) => check_rows(rt, kinds, name, bytes.as_slice()),
         Err(_) => {
             println!(rt; "{name}: can't be read")?;
             Ok(false)
@@ -45,6 +52,7 @@ fn check_file<K: Kinds>(rt: &(impl Files + Print + AllocGlobal), name: &str) -> 
 
 fn check_rows<K: Kinds>(
     rt: &(impl Print + AllocGlobal),
+    kinds: &K,
     name: &str,
     bytes: &[u8],
 ) -> io::Result<bool> {
@@ -55,7 +63,7 @@ fn check_rows<K: Kinds>(
         line_number = line_number.saturating_add(1);
         if is_row(line) {
             rows = rows.saturating_add(1);
-            if !check_row::<K>(rt, name, line_number, line)? {
+            if !check_row(rt, kinds, name, line_number, line)? {
                 differing = differing.saturating_add(1);
             }
         }
@@ -84,11 +92,12 @@ fn conclude(rt: &impl Print, name: &str, rows: u64, differing: u64) -> io::Resul
 // Whether the row agrees.
 fn check_row<K: Kinds>(
     rt: &(impl Print + AllocGlobal),
+    kinds: &K,
     name: &str,
     line_number: u64,
     line: &[u8],
 ) -> io::Result<bool> {
-    match difference_in::<K>(rt.alloc(), line) {
+    match difference_in(rt.alloc(), kinds, line) {
         Ok(None) => Ok(true),
         Ok(Some(words)) => differs(rt, name, line_number, words.as_str()),
         Err(RowFault::Malformed(words)) => differs(rt, name, line_number, words),
@@ -102,9 +111,13 @@ fn differs(rt: &impl Print, name: &str, line_number: u64, words: &str) -> io::Re
 }
 
 // How the row of this line differs, if it does.
-fn difference_in<K: Kinds>(alloc: Global, line: &[u8]) -> Result<Option<String>, RowFault> {
+fn difference_in<K: Kinds>(
+    alloc: Global,
+    kinds: &K,
+    line: &[u8],
+) -> Result<Option<String>, RowFault> {
     let row = tree_of(alloc, line)?;
     let name = wanted_name(&row)?;
-    let outcome = K::outcome(alloc, &row)?;
+    let outcome = kinds.outcome(alloc, &row)?;
     difference_of(alloc, &row, name, &outcome)
 }

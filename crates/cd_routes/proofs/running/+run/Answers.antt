@@ -5,7 +5,7 @@ use Rattle.cd_routes.specs.declared.route.Subroute.{out-Subroute}
 use Rattle.cd_routes.specs.Running.{run_routes, run_steps, run_step, handled}
 use Rattle.cd_routes.specs.Work.{done, all_changes, told, weight_left, weight, total, route_weight, step_weight, subroute_weight, errors_weight}
 use Rattle.cd_routes.proofs.Equations.{run_handler_is, run_subroute_is, handler_weight_is, subroute_weight_is}
-use Rattle.cd_routes.proofs.Pushes.{changes_none, changes_left, done_none, done_more, weight_more, steps_begun, steps_weigh, nest_plain, nest_answered, nest_failed, copied_more, errors_some, total_some}
+use Rattle.cd_routes.proofs.Pushes.{changes_none, changes_left, done_none, done_more, weight_more, steps_begun, steps_weigh, nest_plain, nest_answered, nest_failed, errors_some, total_some}
 use Rattle.cd_routes.proofs.running.+run.Goals as goal
 
 pub advance-returns-in-None-clause-meaning : goal.advance-returns-in-None-clause-meaning
@@ -69,44 +69,41 @@ begin-returns-in-Subroute-clause-less t c =
 
 pub nest-returns-in-None-clause-meaning : goal.nest-returns-in-None-clause-meaning
 nest-returns-in-None-clause-meaning t c =
-    nest_plain (out-Subroute c.args.subroute.now).errors (out-Subroute c.args.subroute.now).routes c.as_slice.result c.args.rest.items c.push.new.self.items c.args.scene c.in-None.is c.in_ok-push-in-None.ensures.items c.as_slice.ensures
+    nest_plain (out-Subroute c.args.subroute.now).errors (out-Subroute c.args.subroute.now).routes c.as_slice.result c.args.rest.items c.push.new.self.items c.args.scene c.in-None.is c.in-Ok.ensures.items c.as_slice.ensures
 
 pub nest-returns-in-None-clause-less : goal.nest-returns-in-None-clause-less
 nest-returns-in-None-clause-less t c =
     let e : weight c.push.new.self.items ≡ weight c.args.rest.items + total (map route_weight c.as_slice.result.now) =
-    weight_more c.push.new.self.items c.args.rest.items (Routes c.as_slice.result) (Routes c.as_slice.result) c.in_ok-push-in-None.ensures.items refl in
+    weight_more c.push.new.self.items c.args.rest.items (Routes c.as_slice.result) (Routes c.as_slice.result) c.in-Ok.ensures.items refl in
     let f : total (map route_weight c.as_slice.result.now) ≡ total (map route_weight (out-Subroute c.args.subroute.now).routes) = ap (λ rs. total (map route_weight rs)) c.as_slice.ensures in
     omega arith
 
 pub nest-run-requires : goal.nest-run-requires
 nest-run-requires t c =
-    let n : c.push-in-Some.new.self.items ≡ c.args.rest.items ++ Routes c.as_slice-in-Some-2.result ∷ [] =
-    copied_more c.push-in-Some.new.self.items c.in_ok-tried-in-Some.tried.items c.args.rest.items (Routes c.as_slice-in-Some-2.result) c.in_ok-push-in-Some.ensures.items (c.in_ok-tried-in-Some.ensures.items ∙ c.as_slice-in-Some.ensures.value) in
-    let e : weight c.push-in-Some.new.self.items ≡ weight c.args.rest.items + total (map route_weight c.as_slice-in-Some-2.result.now) =
-    weight_more c.push-in-Some.new.self.items c.args.rest.items (Routes c.as_slice-in-Some-2.result) (Routes c.as_slice-in-Some-2.result) n refl in
-    let f : total (map route_weight c.as_slice-in-Some-2.result.now) ≡ total (map route_weight (out-Subroute c.args.subroute.now).routes) = ap (λ rs. total (map route_weight rs)) c.as_slice-in-Some-2.ensures in
+    let n : c.in-Ok-in_front.tried.items ≡ c.args.rest.items ++ Routes c.as_slice-in-Some.result ∷ [] = c.in-Ok-in_front.ensures in
+    let e : weight c.in-Ok-in_front.tried.items ≡ weight c.args.rest.items + total (map route_weight c.as_slice-in-Some.result.now) =
+    weight_more c.in-Ok-in_front.tried.items c.args.rest.items (Routes c.as_slice-in-Some.result) (Routes c.as_slice-in-Some.result) n refl in
+    let f : total (map route_weight c.as_slice-in-Some.result.now) ≡ total (map route_weight (out-Subroute c.args.subroute.now).routes) = ap (λ rs. total (map route_weight rs)) c.as_slice-in-Some.ensures in
     let k : 1 ≤ errors_weight (option_map (map route_weight) (out-Subroute c.args.subroute.now).errors) = errors_some _ c.in-Some.errors c.in-Some.is in
     (omega arith, tt)
 
 pub nest-returns-in-Answered-clause-meaning : goal.nest-returns-in-Answered-clause-meaning
 nest-returns-in-Answered-clause-meaning t c =
-    let n : c.push-in-Some.new.self.items ≡ c.args.rest.items ++ Routes c.as_slice-in-Some-2.result ∷ [] =
-    copied_more c.push-in-Some.new.self.items c.in_ok-tried-in-Some.tried.items c.args.rest.items (Routes c.as_slice-in-Some-2.result) c.in_ok-push-in-Some.ensures.items (c.in_ok-tried-in-Some.ensures.items ∙ c.as_slice-in-Some.ensures.value) in
-    nest_answered (out-Subroute c.args.subroute.now).errors c.in-Some.errors (out-Subroute c.args.subroute.now).routes c.as_slice-in-Some-2.result c.args.rest.items c.push-in-Some.new.self.items c.args.scene
-    c.in_ok-answer-in-Some.field-0 c.in-Answered.answer c.in-Some.is n c.as_slice-in-Some-2.ensures c.in_ok-answer-in-Some.ensures c.in-Answered.is
+    let n : c.in-Ok-in_front.tried.items ≡ c.args.rest.items ++ Routes c.as_slice-in-Some.result ∷ [] = c.in-Ok-in_front.ensures in
+    nest_answered (out-Subroute c.args.subroute.now).errors c.in-Some.errors (out-Subroute c.args.subroute.now).routes c.as_slice-in-Some.result c.args.rest.items c.in-Ok-in_front.tried.items c.args.scene
+    c.in_ok-answer-in-Some.field-0 c.in-Answered.answer c.in-Some.is n c.as_slice-in-Some.ensures c.in_ok-answer-in-Some.ensures c.in-Answered.is
 
 pub nest-returns-clause-meaning : goal.nest-returns-clause-meaning
 nest-returns-clause-meaning t c =
-    let n : c.push-in-Some.new.self.items ≡ c.args.rest.items ++ Routes c.as_slice-in-Some-2.result ∷ [] =
-    copied_more c.push-in-Some.new.self.items c.in_ok-tried-in-Some.tried.items c.args.rest.items (Routes c.as_slice-in-Some-2.result) c.in_ok-push-in-Some.ensures.items (c.in_ok-tried-in-Some.ensures.items ∙ c.as_slice-in-Some.ensures.value) in
-    nest_failed (out-Subroute c.args.subroute.now).errors c.in-Some.errors (out-Subroute c.args.subroute.now).routes c.as_slice-in-Some-2.result c.as_slice-in-Failed.result c.args.rest.items c.push-in-Some.new.self.items c.push-in-Failed.new.self.items
+    let n : c.in-Ok-in_front.tried.items ≡ c.args.rest.items ++ Routes c.as_slice-in-Some.result ∷ [] = c.in-Ok-in_front.ensures in
+    nest_failed (out-Subroute c.args.subroute.now).errors c.in-Some.errors (out-Subroute c.args.subroute.now).routes c.as_slice-in-Some.result c.as_slice-in-Failed.result c.args.rest.items c.in-Ok-in_front.tried.items c.push-in-Failed.new.self.items
     c.args.scene c.in-Failed.scene c.with_error.result c.in-Failed.status c.in-Failed.message c.in_ok-answer-in-Some.field-0
-    c.in-Some.is n c.as_slice-in-Some-2.ensures c.in_ok-answer-in-Some.ensures c.in-Failed.is c.in_ok-push-in-Failed.ensures.items c.as_slice-in-Failed.ensures c.with_error.ensures
+    c.in-Some.is n c.as_slice-in-Some.ensures c.in_ok-answer-in-Some.ensures c.in-Failed.is c.in-Ok-push.ensures.items c.as_slice-in-Failed.ensures c.with_error.ensures
 
 pub nest-returns-clause-less : goal.nest-returns-clause-less
 nest-returns-clause-less t c =
     let e : weight c.push-in-Failed.new.self.items ≡ weight c.args.rest.items + total (map route_weight c.as_slice-in-Failed.result.now) =
-    weight_more c.push-in-Failed.new.self.items c.args.rest.items (Routes c.as_slice-in-Failed.result) (Routes c.as_slice-in-Failed.result) c.in_ok-push-in-Failed.ensures.items refl in
+    weight_more c.push-in-Failed.new.self.items c.args.rest.items (Routes c.as_slice-in-Failed.result) (Routes c.as_slice-in-Failed.result) c.in-Ok-push.ensures.items refl in
     let k : total (map route_weight c.as_slice-in-Failed.result.now) ≡ errors_weight (option_map (map route_weight) (out-Subroute c.args.subroute.now).errors) =
     ap (λ rs. total (map route_weight rs)) c.as_slice-in-Failed.ensures ∙ sym (ap (λ e. errors_weight (option_map (map route_weight) e)) c.in-Some.is) in
     let l : 1 ≤ total (map route_weight (out-Subroute c.args.subroute.now).routes) = total_some _ in
@@ -115,19 +112,19 @@ nest-returns-clause-less t c =
 pub on_steps-begin-requires : goal.on_steps-begin-requires
 on_steps-begin-requires t c =
     let e : weight c.args.rest.items + total (map step_weight c.args.steps.now) ≡ weight c.push.new.self.items + step_weight c.in-Some.step.now =
-    steps_weigh c.args.steps.now c.in-Some.step.now c.in-Some.others c.args.rest.items c.push.new.self.items c.in-Some.ensures c.in_ok-push-in-Some.ensures.items in
+    steps_weigh c.args.steps.now c.in-Some.step.now c.in-Some.others c.args.rest.items c.push.new.self.items c.in-Some.ensures c.in-Ok.ensures.items in
     (omega arith, tt)
 
-pub on_steps-returns-in_ok-push-in-Some-clause-meaning : goal.on_steps-returns-in_ok-push-in-Some-clause-meaning
-on_steps-returns-in_ok-push-in-Some-clause-meaning t c =
+pub on_steps-returns-in-Ok-clause-meaning : goal.on_steps-returns-in-Ok-clause-meaning
+on_steps-returns-in-Ok-clause-meaning t c =
     let e : run_steps c.args.steps.now (done c.args.rest.items) c.args.scene ≡ run_step c.in-Some.step.now (done c.push.new.self.items) c.args.scene =
-    steps_begun c.args.steps.now c.in-Some.step.now c.in-Some.others c.args.rest.items c.push.new.self.items c.args.scene c.in-Some.ensures c.in_ok-push-in-Some.ensures.items in
+    steps_begun c.args.steps.now c.in-Some.step.now c.in-Some.others c.args.rest.items c.push.new.self.items c.args.scene c.in-Some.ensures c.in-Ok.ensures.items in
     rw e c.begin.ensures.meaning
 
-pub on_steps-returns-in_ok-push-in-Some-clause-less : goal.on_steps-returns-in_ok-push-in-Some-clause-less
-on_steps-returns-in_ok-push-in-Some-clause-less t c =
+pub on_steps-returns-in-Ok-clause-less : goal.on_steps-returns-in-Ok-clause-less
+on_steps-returns-in-Ok-clause-less t c =
     let e : weight c.args.rest.items + total (map step_weight c.args.steps.now) ≡ weight c.push.new.self.items + step_weight c.in-Some.step.now =
-    steps_weigh c.args.steps.now c.in-Some.step.now c.in-Some.others c.args.rest.items c.push.new.self.items c.in-Some.ensures c.in_ok-push-in-Some.ensures.items in
+    steps_weigh c.args.steps.now c.in-Some.step.now c.in-Some.others c.args.rest.items c.push.new.self.items c.in-Some.ensures c.in-Ok.ensures.items in
     rw e c.begin.ensures.less
 
 pub run-loop-progress-init : goal.run-loop-progress-init
@@ -137,6 +134,6 @@ pub run-loop-progress-preserved-in-Leaves : goal.run-loop-progress-preserved-in-
 run-loop-progress-preserved-in-Leaves t c =
     let e : all_changes c.loop-progress.left (told (Leaves c.in-Leaves.changes c.in-Leaves.work c.in-Leaves.scene)) ≡ done c.args.work.items c.args.scene =
     sym (ap (λ p. all_changes c.loop-progress.left (told p)) c.in-Leaves.is) ∙ c.loop-progress.invariant.0 in (
-      changes_left c.push.new.self c.loop-progress.left c.in-Leaves.changes (done c.in-Leaves.work.items c.in-Leaves.scene) (done c.args.work.items c.args.scene) c.in_ok-push-in-Leaves.ensures.ok e,
+      changes_left c.push.new.self c.loop-progress.left c.in-Leaves.changes (done c.in-Leaves.work.items c.in-Leaves.scene) (done c.args.work.items c.args.scene) c.in-Ok.ensures.ok e,
       omega (arith, ap weight_left c.in-Leaves.is, c.loop-progress.invariant.1),
     )

@@ -7,21 +7,21 @@ use Rattle.cd_routes.proofs.running.on_routes.Goals as goal
 
 pub returns-in-None-clause-meaning : goal.returns-in-None-clause-meaning
 returns-in-None-clause-meaning c =
-    routes_none c.in_ok-left.left.now (done c.args.rest.items) c.args.scene c.in-None.ensures ∙ c.in_ok-left.ensures.same (done c.args.rest.items)
+    routes_none c.in-Ok.left.now (done c.args.rest.items) c.args.scene c.in-None.ensures ∙ c.in-Ok.ensures.same (done c.args.rest.items)
 
 pub returns-in-None-clause-less : goal.returns-in-None-clause-less
 returns-in-None-clause-less c = omega (arith, total_some (map route_weight c.args.routes.now))
 
-pub returns-in_ok-push-in-Some-clause-meaning : goal.returns-in_ok-push-in-Some-clause-meaning
-returns-in_ok-push-in-Some-clause-meaning c =
+pub returns-in-Ok-push-clause-meaning : goal.returns-in-Ok-push-clause-meaning
+returns-in-Ok-push-clause-meaning c =
     let e : run_routes c.args.routes.now (done c.args.rest.items) c.args.scene ≡ run_route c.in-Some.route.now (done c.push.new.self.items) c.args.scene =
-    sym (c.in_ok-left.ensures.same (done c.args.rest.items))
-    ∙ routes_begun c.in_ok-left.left.now c.in-Some.route.now c.in-Some.others c.args.rest.items c.push.new.self.items c.args.scene c.in-Some.ensures c.in_ok-push-in-Some.ensures.items in
-    let f = route_entered c.in-Some.route.now (done c.push.new.self.items) c.args.scene (c.in_ok-left.ensures.first c.in-Some.route.now c.in-Some.others.now c.in-Some.ensures) in
+    sym (c.in-Ok.ensures.same (done c.args.rest.items))
+    ∙ routes_begun c.in-Ok.left.now c.in-Some.route.now c.in-Some.others c.args.rest.items c.push.new.self.items c.args.scene c.in-Some.ensures c.in-Ok-push.ensures.items in
+    let f = route_entered c.in-Some.route.now (done c.push.new.self.items) c.args.scene (c.in-Ok.ensures.first c.in-Some.route.now c.in-Some.others.now c.in-Some.ensures) in
     rw (e ∙ f) c.entered.ensures.meaning
 
-pub returns-in_ok-push-in-Some-clause-less : goal.returns-in_ok-push-in-Some-clause-less
-returns-in_ok-push-in-Some-clause-less c =
-    let e : weight c.args.rest.items + total (map route_weight c.in_ok-left.left.now) ≡ weight c.push.new.self.items + route_weight c.in-Some.route.now =
-    routes_weigh c.in_ok-left.left.now c.in-Some.route.now c.in-Some.others c.args.rest.items c.push.new.self.items c.in-Some.ensures c.in_ok-push-in-Some.ensures.items in
-    more_left c.entered.result (weight c.push.new.self.items + route_weight c.in-Some.route.now) (weight c.args.rest.items + total (map route_weight c.args.routes.now)) c.entered.ensures.less (omega (arith, e, c.in_ok-left.ensures.less))
+pub returns-in-Ok-push-clause-less : goal.returns-in-Ok-push-clause-less
+returns-in-Ok-push-clause-less c =
+    let e : weight c.args.rest.items + total (map route_weight c.in-Ok.left.now) ≡ weight c.push.new.self.items + route_weight c.in-Some.route.now =
+    routes_weigh c.in-Ok.left.now c.in-Some.route.now c.in-Some.others c.args.rest.items c.push.new.self.items c.in-Some.ensures c.in-Ok-push.ensures.items in
+    more_left c.entered.result (weight c.push.new.self.items + route_weight c.in-Some.route.now) (weight c.args.rest.items + total (map route_weight c.args.routes.now)) c.entered.ensures.less (omega (arith, e, c.in-Ok.ensures.less))

@@ -1,5 +1,0 @@
-use Rattle.caddy_run.proofs.Causes.{covered}
-use Rattle.caddy_run.proofs.laws.every_mishap_has_its_cause.Goals as goal
-
-pub returns : goal.returns
-returns c = λ answer p q before now answered cut added. covered answer p q before now answered cut added

@@ -1,0 +1,35 @@
+ghost use Rattle.std.specs.Prelude.{◌≡◌};
+
+use crate::way::{Ending, Way};
+
+/// How many requests were answered, and how many connections were cut short for want of memory. Each stays at its end.
+#[derive(Clone, Copy, Debug)]
+pub struct Counts {
+    pub answered: u64,
+    pub cut: u64,
+}
+
+impl Counts {
+    ghost use Rattle.cd_program.specs.Counted.{counted};
+
+    /// Nothing was counted yet.
+    pub fn new() -> Counts
+        ensures { result ≡ record { answered = 0; cut = 0 } }
+    {
+        Counts {
+            answered: 0,
+            cut: 0,
+        }
+    }
+
+    /// Counts a connection that ended so.
+    pub fn add(&mut self, ending: Ending)
+        ensures { self.new ≡ counted ending self.old }
+    {
+        self.answered = self.answered.saturating_add(ending.answered);
+        match ending.way {
+            Way::NoMemory => self.cut = self.cut.saturating_add(1),
+            Way::Clean | Way::Cut | Way::Refused(_) | Way::Closed | Way::Failed | Way::Dropped => {}
+        }
+    }
+}

@@ -1,0 +1,49 @@
+ghost use Rattle.std.specs.Prelude.{◌≡◌, ◌≤◌, ◌<◌, ◌++◌, List, ℕ, codes, length, option_map, IfOk};
+ghost use Rattle.cd_outside.specs.Counts.{Rose};
+ghost use Rattle.cd_outside.specs.Given.{IsGivenOf};
+ghost use Rattle.cd_program.specs.Site.{words_of};
+ghost use Rattle.cd_program.specs.Output.{served_line, refused_line};
+
+use crate::refusal::{Refusal, fault_words};
+use cd_outside::{Given, Sink};
+use cd_text::{NoMemory, Text};
+use std::alloc::Global;
+
+/// Writes a text, which may not be empty.
+pub fn say<O: Sink>(out: &mut O, text: &str) -> Given
+    requires { 0 < length text.now }
+    ensures part { (part : List ℕ) × IsGivenOf result part text.now × (O.holds out.new ≡ option_map (λ held. held ++ part) (O.holds out.old)) }
+    ensures later { O.faults out.old ≤ O.faults out.new }
+    ensures failed { result ≡ Given.Failed → Rose (O.faults out.old) (O.faults out.new) }
+{
+    out.write(text.as_bytes())
+}
+
+/// The last line of a run.
+#[tactic(auto, unfolding(crate::specs::Output::served_line))]
+pub fn served_line(alloc: Global, answered: u64, published: u32) -> Result<Text, NoMemory>
+    ensures { IfOk result (λ line. line ≡ served_line answered published) }
+{
+    let line = format!(in alloc; "served {answered} requests under {published} configurations\n")?;
+    Ok(Text::from_string(line))
+}
+
+// The line of a refusal in these words.
+fn line_of(alloc: Global, words: &str) -> Result<Text, NoMemory>
+    ensures { IfOk result (λ line. line ≡ refused_line words.now) }
+{
+    let line = format!(in alloc; "refused: {words}\n")?;
+    Ok(Text::from_string(line))
+}
+
+/// The line that tells why a configuration is refused. Want of memory has no words.
+pub fn refused_line(alloc: Global, refusal: &Refusal) -> Result<Text, NoMemory>
+    ensures { IfOk result (λ line. line ≡ refused_line (words_of refusal.now)) }
+{
+    match refusal {
+        Refusal::NoTree(fault) => line_of(alloc, fault_words(*fault)),
+        Refusal::NotYet => line_of(alloc, "not yet"),
+        Refusal::Settings(fault) => line_of(alloc, fault.words(alloc)?.as_str()),
+        Refusal::NoMemory => line_of(alloc, ""),
+    }
+}

@@ -1,0 +1,259 @@
+//! A conversation with the program, as a row says it.
+ghost use Rattle.std.specs.Prelude.{◌≡◌, ◌∷◌, [], IfOk, None};
+ghost use Rattle.cd_tree.specs.Tree.{IsSound};
+
+use crate::ending::text_of;
+use crate::resting::RestingLane;
+use cd_outside::{Address, Call, MemoryFixtures, MemoryLane, MemorySink, MemorySource};
+use cd_program::caddy_main;
+use cd_rows::{
+    Kinds, Outcome, RowFault, bytes_at, bytes_of, find, has, is_true, needed, number_of, only,
+};
+use cd_text::{List, NoMemory, Octets, Text};
+use cd_tree::{Tree, print};
+use std::alloc::Global;
+use std::sync::Wait;
+use std::thread::Threads;
+
+// The configuration of a row that names none. It is that of examples/hello.json.
+const HELLO: &str =
+    r#"{"apps":{"http":{"servers":{"s":{"listen":[":8080"],"routes":[{"handle":[{"handler":"static_response","body":"hi"}]}]}}}}}"#;
+
+// The words of a row that has none.
+const WORDS: [&str; 3] = ["stdio", "--config", "hello.json"];
+
+/// The one kind of row: a conversation with the program, which runs on this runtime.
+#[derive(Drop)]
+pub struct Conversations<'a, R> {
+    pub rt: &'a R,
+}
+
+impl<R: Threads + Wait + Sync> Kinds for Conversations<'_, R> {
+    fn outcome(&self, alloc: Global, row: &Tree) -> Result<Outcome, RowFault> {
+        only(
+            alloc,
+            row,
+            "asked configuration configuration_bytes connections ends fails pieces rests sizes words",
+        )?;
+        Ok(Outcome {
+            member: "ends",
+            bytes: ended_in_pieces(self.rt, alloc, row)?,
+        })
+    }
+}
+
+// How the program ends where what is asked comes in pieces of each size that the row names, or, where it names none, whole and
+// byte by byte. It has to end in the same way.
+fn ended_in_pieces<R: Threads + Wait + Sync>(
+    rt: &R,
+    alloc: Global,
+    row: &Tree,
+) -> Result<Octets, RowFault>
+    requires { IsSound row.now }
+{
+    let Some(sizes) = find(row, "sizes") else {
+        let whole = ended(rt, alloc, row, usize::MAX)?;
+        return same(whole, ended(rt, alloc, row, 1)?);
+    };
+    let Tree::Items(sizes) = sizes else {
+        return Err(RowFault::Malformed("sizes that are no list"));
+    };
+    let [first, others @ ..] = sizes.as_slice() else {
+        return Err(RowFault::Malformed("no size"));
+    };
+    let mut text = ended(rt, alloc, row, usize::from(number_of(first)?))?;
+    for size in others {
+        text = same(text, ended(rt, alloc, row, usize::from(number_of(size)?))?)?;
+    }
+    Ok(text)
+}
+
+// The text of both, or what shows that they differ.
+fn same(mut one: Octets, other: Octets) -> Result<Octets, RowFault> {
+    if !one.equals(other.as_slice()) {
+        one.append(b"\n== and in other pieces\n")?;
+        one.append(other.as_slice())?;
+    }
+    Ok(one)
+}
+
+// How the program ends where what is asked comes in pieces of this size.
+fn ended<R: Threads + Wait + Sync>(
+    rt: &R,
+    alloc: Global,
+    row: &Tree,
+    size: usize,
+) -> Result<Octets, RowFault>
+    requires { IsSound row.now }
+{
+    let words = words_of(alloc, row)?;
+    let mut config = source_of(alloc, row)?;
+    let mut out = MemorySink::new(alloc, failing(alloc, row, "output")?);
+    let fixtures = MemoryFixtures::new(alloc, List::new(alloc))?;
+    let lane = lane_of(
+        alloc,
+        script_of(alloc, row, size)?,
+        failing(alloc, row, "lane")?,
+    );
+    let lanes = one_lane(alloc, RestingLane::new(lane))?;
+    let ended = caddy_main(
+        rt,
+        alloc,
+        words.as_slice(),
+        &mut config,
+        &mut out,
+        fixtures,
+        lanes,
+    );
+    text_of(alloc, &ended, &out, is_true(row, "rests")?)
+}
+
+fn words_of(alloc: Global, row: &Tree) -> Result<List<Text>, RowFault> {
+    let mut words = List::new(alloc);
+    match find(row, "words") {
+        None => {
+            for word in WORDS {
+                words.push(Text::from_str(alloc, word)?)?;
+            }
+        }
+        Some(Tree::Items(texts)) => {
+            for text in texts.as_slice() {
+                words.push(word_of(alloc, text)?)?;
+            }
+        }
+        Some(_) => return Err(RowFault::Malformed("words that are no list")),
+    }
+    Ok(words)
+}
+
+fn word_of(alloc: Global, text: &Tree) -> Result<Text, RowFault> {
+    match text {
+        Tree::Text(text) => Ok(text.copy(alloc)?),
+        _ => Err(RowFault::Malformed("a word that is no text")),
+    }
+}
+
+fn source_of(alloc: Global, row: &Tree) -> Result<MemorySource, RowFault>
+    requires { IsSound row.now }
+{
+    let bytes = configuration_of(alloc, row)?;
+    let pieces = pieces(alloc, bytes.as_slice(), 100_000)?;
+    Ok(MemorySource::new(pieces, failing(alloc, row, "configuration")?))
+}
+
+fn configuration_of(alloc: Global, row: &Tree) -> Result<Octets, RowFault>
+    requires { IsSound row.now }
+{
+    if has(row, "configuration_bytes") {
+        return bytes_at(alloc, row, "configuration_bytes");
+    }
+    if has(row, "configuration") {
+        let text = print(alloc, needed(alloc, row, "configuration")?)?;
+        return Ok(Octets::from_slice(alloc, text.as_str().as_bytes())?);
+    }
+    Ok(Octets::from_slice(alloc, HELLO.as_bytes())?)
+}
+
+// The numbers of the calls that fail of this part of the outside.
+fn failing(alloc: Global, row: &Tree, part: &str) -> Result<List<u64>, RowFault> {
+    let Some(parts) = find(row, "fails") else {
+        return Ok(List::new(alloc));
+    };
+    only(alloc, parts, "configuration lane output")?;
+    match find(parts, part) {
+        None => Ok(List::new(alloc)),
+        Some(Tree::Items(numbers)) => numbers_of(alloc, numbers.as_slice()),
+        Some(_) => Err(RowFault::Malformed("calls that are no list")),
+    }
+}
+
+fn numbers_of(alloc: Global, trees: &[Tree]) -> Result<List<u64>, RowFault> {
+    let mut numbers = List::new(alloc);
+    for tree in trees {
+        numbers.push(u64::from(number_of(tree)?))?;
+    }
+    Ok(numbers)
+}
+
+// The connections: those that the row lists, or the one that the row itself says, or none.
+fn script_of(alloc: Global, row: &Tree, size: usize) -> Result<List<Call>, RowFault> {
+    let mut script = List::new(alloc);
+    match find(row, "connections") {
+        Some(Tree::Items(connections)) => {
+            for connection in connections.as_slice() {
+                only(alloc, connection, "asked host pieces port")?;
+                script.push(call_of(alloc, connection, size)?)?;
+            }
+        }
+        Some(_) => return Err(RowFault::Malformed("connections that are no list")),
+        None => {
+            if has(row, "asked") || has(row, "pieces") {
+                script.push(call_of(alloc, row, size)?)?;
+            }
+        }
+    }
+    Ok(script)
+}
+
+fn call_of(alloc: Global, connection: &Tree, size: usize) -> Result<Call, RowFault> {
+    Ok(Call {
+        address: address_of(alloc, connection)?,
+        pieces: pieces_of(alloc, connection, size)?,
+    })
+}
+
+fn address_of(alloc: Global, connection: &Tree) -> Result<Address, RowFault> {
+    let host = match find(connection, "host") {
+        None => "stdio",
+        Some(Tree::Text(host)) => host.as_str(),
+        Some(_) => return Err(RowFault::Malformed("a host that is no text")),
+    };
+    let port = match find(connection, "port") {
+        None => 0,
+        Some(number) => number_of(number)?,
+    };
+    Ok(Address {
+        host: Text::from_str(alloc, host)?,
+        port,
+    })
+}
+
+// What comes on a connection: its pieces as the row has them, or its bytes in pieces of this size.
+fn pieces_of(alloc: Global, connection: &Tree, size: usize) -> Result<List<Octets>, RowFault> {
+    match find(connection, "pieces") {
+        None => {
+            let bytes = bytes_at(alloc, connection, "asked")?;
+            Ok(pieces(alloc, bytes.as_slice(), size)?)
+        }
+        Some(Tree::Items(trees)) => {
+            let mut pieces = List::new(alloc);
+            for tree in trees.as_slice() {
+                pieces.push(bytes_of(alloc, tree)?)?;
+            }
+            Ok(pieces)
+        }
+        Some(_) => Err(RowFault::Malformed("pieces that are no list")),
+    }
+}
+
+fn pieces(alloc: Global, bytes: &[u8], size: usize) -> Result<List<Octets>, NoMemory> {
+    let mut pieces = List::new(alloc);
+    for piece in bytes.chunks(size.max(1)) {
+        pieces.push(Octets::from_slice(alloc, piece)?)?;
+    }
+    Ok(pieces)
+}
+
+fn lane_of(alloc: Global, script: List<Call>, failing: List<u64>) -> MemoryLane
+    ensures { result.current ≡ None }
+{
+    MemoryLane::new(alloc, script, failing)
+}
+
+fn one_lane<L: Drop>(alloc: Global, lane: L) -> Result<List<L>, NoMemory>
+    ensures { IfOk result (λ lanes. lanes ≡ lane ∷ []) }
+{
+    let mut lanes = List::new(alloc);
+    lanes.push(lane)?;
+    Ok(lanes)
+}

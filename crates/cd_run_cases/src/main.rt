@@ -1,0 +1,24 @@
+//! Whole conversations with the program, as rows of data files.
+//!
+//! A row says with which words the program is called, with which configuration, what comes on which connections, and which calls
+//! of the outside fail (conversation.rt). The program is run over forms in memory, and what a row wants is the exit status, the
+//! counts, the output, and what each connection was sent (ending.rt). data/README.md says how a row is written.
+//!
+//! What is proved here is safety. That a row agrees is said by the run.
+#![tactic(auto)]
+
+mod conversation;
+mod ending;
+mod resting;
+
+use cd_rows::check_files;
+use conversation::Conversations;
+use std::process::ExitCode;
+
+fn main(rt: HostRuntime) -> ExitCode {
+    match check_files(&rt, &Conversations { rt: &rt }) {
+        Ok(true) => ExitCode::SUCCESS,
+        Ok(false) => ExitCode::from(1),
+        Err(_) => ExitCode::from(2),
+    }
+}

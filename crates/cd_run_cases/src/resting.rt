@@ -1,0 +1,53 @@
+ghost use Rattle.std.specs.Prelude.{◌≡◌, None, false};
+
+use cd_outside::{Accepted, Given, Key, Lane, MemoryLane, Taken};
+use cd_text::Text;
+
+/// A lane in memory that counts how often it may rest.
+#[derive(Drop)]
+pub struct RestingLane {
+    pub lane: MemoryLane,
+    pub rests: u64,
+}
+
+impl RestingLane {
+    /// This lane, on which no connection is there.
+    pub fn new(lane: MemoryLane) -> RestingLane
+        requires { lane.current ≡ None }
+        ensures { ⟦<RestingLane as Lane>⟧.busy result ≡ false }
+    {
+        RestingLane { lane, rests: 0 }
+    }
+}
+
+impl Lane for RestingLane {
+    ghost faults = { λ resting. ⟦<MemoryLane as Lane>⟧.faults resting.lane };
+
+    ghost busy = { λ resting. ⟦<MemoryLane as Lane>⟧.busy resting.lane };
+
+    ghost past = { λ resting. ⟦<MemoryLane as Lane>⟧.past resting.lane };
+
+    fn accept(&mut self) -> Accepted {
+        self.lane.accept()
+    }
+
+    fn read(&mut self, into: &mut [u8]) -> Taken {
+        self.lane.read(into)
+    }
+
+    fn rest(&mut self) {
+        self.rests = self.rests.saturating_add(1);
+    }
+
+    fn write(&mut self, piece: &[u8]) -> Given {
+        self.lane.write(piece)
+    }
+
+    fn log(&mut self, key: &Key, line: &Text) -> Given {
+        self.lane.log(key, line)
+    }
+
+    fn end(&mut self) {
+        self.lane.end()
+    }
+}

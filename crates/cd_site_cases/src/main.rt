@@ -1,0 +1,25 @@
+//! Cases of sites: rows of data files that say what servers, matchers, handlers and placeholders come to.
+//!
+//! The words are names of files. Each line of a file is a row (see the crate cd_rows), and a member of the row names its kind
+//! (kinds.rt). Most rows have a server or a part of one, and what is asked of it (servers.rt). Others look at a scene and at texts
+//! filled in it (fill.rt, scene.rt), or at names, patterns and the words of refusals (words.rt). data/README.md describes the rows.
+#![tactic(auto)]
+
+mod asked;
+mod fill;
+mod kinds;
+mod scene;
+mod servers;
+mod words;
+
+use cd_rows::check_files;
+use kinds::SiteKinds;
+use std::process::ExitCode;
+
+fn main(rt: HostRuntime) -> ExitCode {
+    match check_files(&rt, &SiteKinds) {
+        Ok(true) => ExitCode::SUCCESS,
+        Ok(false) => ExitCode::from(1),
+        Err(_) => ExitCode::from(2),
+    }
+}
