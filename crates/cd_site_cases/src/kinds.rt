@@ -12,7 +12,7 @@ use cd_rows::{Kinds, Outcome, RowFault, has};
 use cd_tree::Tree;
 use std::alloc::Global;
 
-pub struct SiteKinds {}
+pub struct SiteKinds;
 
 impl Kinds for SiteKinds {
     fn outcome(&self, alloc: Global, row: &Tree) -> Result<Outcome, RowFault> {
