@@ -9,8 +9,7 @@ use std::alloc::Global;
 use std::rt::{Env, Files};
 use std::{env, fs, io};
 
-/// The kinds of rows that a program knows. A program whose calls take the runtime goes over its files itself, since a bound as
-/// `Sync` of the runtime is known in a function, and not in a method of an `impl`.
+/// The kinds of rows that a program knows. A value of it has what the calls need besides the row, as the runtime.
 pub trait Kinds {
     /// What the call of the row comes to.
     fn outcome(&self, alloc: Global, row: &Tree) -> Result<Outcome, RowFault>
@@ -72,16 +71,14 @@ fn check_rows<K: Kinds>(
     conclude(rt, name, rows, differing)
 }
 
-/// Whether a line of a file is a row: it is neither empty nor begins with `#`.
-pub fn is_row(line: &[u8]) -> bool {
+fn is_row(line: &[u8]) -> bool {
     match line {
         [] => false,
         [first, ..] => *first != b'#',
     }
 }
 
-/// Prints how many rows of a file agree, and answers whether there are rows and each does.
-pub fn conclude(rt: &impl Print, name: &str, rows: u64, differing: u64) -> io::Result<bool> {
+fn conclude(rt: &impl Print, name: &str, rows: u64, differing: u64) -> io::Result<bool> {
     if rows == 0 {
         println!(rt; "{name}: no rows")?;
     } else if differing == 0 {
@@ -100,18 +97,7 @@ fn check_row<K: Kinds>(
     line_number: u64,
     line: &[u8],
 ) -> io::Result<bool> {
-    let difference = difference_in(rt.alloc(), kinds, line);
-    check_difference(rt, name, line_number, &difference)
-}
-
-/// Whether a row has no difference. It prints one that there is.
-pub fn check_difference(
-    rt: &impl Print,
-    name: &str,
-    line_number: u64,
-    difference: &Result<Option<String>, RowFault>,
-) -> io::Result<bool> {
-    match difference {
+    match difference_in(rt.alloc(), kinds, line) {
         Ok(None) => Ok(true),
         Ok(Some(words)) => differs(rt, name, line_number, words.as_str()),
         Err(RowFault::Malformed(words)) => differs(rt, name, line_number, words),

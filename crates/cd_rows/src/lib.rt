@@ -12,10 +12,9 @@ mod outcome;
 mod row;
 mod wanted;
 
-pub use files::{Kinds, check_difference, check_files, conclude, is_row};
+pub use files::{Kinds, check_files};
 pub use outcome::{Outcome, gives, refuses, says};
 pub use row::{
     RowFault, bytes_at, bytes_of, find, has, is_true, member, needed, number_of, only, path_at,
     text_of, tree_of,
 };
-pub use wanted::{difference_of, wanted_name};

@@ -6,7 +6,9 @@ use crate::ending::text_of;
 use crate::resting::RestingLane;
 use cd_outside::{Address, Call, MemoryFixtures, MemoryLane, MemorySink, MemorySource};
 use cd_program::caddy_main;
-use cd_rows::{Outcome, RowFault, bytes_at, bytes_of, find, has, is_true, needed, number_of, only};
+use cd_rows::{
+    Kinds, Outcome, RowFault, bytes_at, bytes_of, find, has, is_true, needed, number_of, only,
+};
 use cd_text::{List, NoMemory, Octets, Text};
 use cd_tree::{Tree, print};
 use std::alloc::Global;
@@ -20,23 +22,24 @@ const HELLO: &str =
 // The words of a row that has none.
 const WORDS: [&str; 3] = ["stdio", "--config", "hello.json"];
 
-/// What the conversation of the row comes to.
-pub fn conversation_outcome<R: Threads + Wait + Sync>(
-    rt: &R,
-    alloc: Global,
-    row: &Tree,
-) -> Result<Outcome, RowFault>
-    requires { IsSound row.now }
-{
-    only(
-        alloc,
-        row,
-        "asked configuration configuration_bytes connections ends fails pieces rests sizes words",
-    )?;
-    Ok(Outcome {
-        member: "ends",
-        bytes: ended_in_pieces(rt, alloc, row)?,
-    })
+/// The one kind of row: a conversation with the program, which runs on this runtime.
+#[derive(Drop)]
+pub struct Conversations<'a, R> {
+    pub rt: &'a R,
+}
+
+impl<R: Threads + Wait + Sync> Kinds for Conversations<'_, R> {
+    fn outcome(&self, alloc: Global, row: &Tree) -> Result<Outcome, RowFault> {
+        only(
+            alloc,
+            row,
+            "asked configuration configuration_bytes connections ends fails pieces rests sizes words",
+        )?;
+        Ok(Outcome {
+            member: "ends",
+            bytes: ended_in_pieces(self.rt, alloc, row)?,
+        })
+    }
 }
 
 // How the program ends where what is asked comes in pieces of each size that the row names, or, where it names none, whole and

@@ -9,14 +9,14 @@
 
 mod conversation;
 mod ending;
-mod files;
 mod resting;
 
-use files::check_files;
+use cd_rows::check_files;
+use conversation::Conversations;
 use std::process::ExitCode;
 
 fn main(rt: HostRuntime) -> ExitCode {
-    match check_files(&rt) {
+    match check_files(&rt, &Conversations { rt: &rt }) {
         Ok(true) => ExitCode::SUCCESS,
         Ok(false) => ExitCode::from(1),
         Err(_) => ExitCode::from(2),
