@@ -3,6 +3,7 @@ ghost use Rattle.std.specs.Prelude.{◌≡◌, ◌∷◌, [], IfOk, None};
 ghost use Rattle.cd_tree.specs.Tree.{IsSound};
 
 use crate::ending::text_of;
+use crate::handles::Handles;
 use crate::resting::RestingLane;
 use cd_outside::{Address, Call, MemoryFixtures, MemoryLane, MemorySink, MemorySource};
 use cd_program::caddy_main;
@@ -22,13 +23,13 @@ const HELLO: &str =
 // The words of a row that has none.
 const WORDS: [&str; 3] = ["stdio", "--config", "hello.json"];
 
-/// The one kind of row: a conversation with the program, which runs on this runtime.
+/// The one kind of row: a conversation with the program, which has these handles of the runtime.
 #[derive(Drop)]
-pub struct Conversations<'a, R> {
-    pub rt: &'a R,
+pub struct Conversations<R> {
+    pub handles: Handles<R>,
 }
 
-impl<R: Threads + Wait + Sync> Kinds for Conversations<'_, R> {
+impl<R: Threads + Wait + Sync> Kinds for Conversations<R> {
     fn outcome(&self, alloc: Global, row: &Tree) -> Result<Outcome, RowFault> {
         only(
             alloc,
@@ -37,7 +38,7 @@ impl<R: Threads + Wait + Sync> Kinds for Conversations<'_, R> {
         )?;
         Ok(Outcome {
             member: "ends",
-            bytes: ended_in_pieces(self.rt, alloc, row)?,
+            bytes: ended_in_pieces(&self.handles, alloc, row)?,
         })
     }
 }

@@ -9,14 +9,19 @@
 
 mod conversation;
 mod ending;
+mod handles;
 mod resting;
 
 use cd_rows::check_files;
 use conversation::Conversations;
+use handles::Handles;
 use std::process::ExitCode;
 
 fn main(rt: HostRuntime) -> ExitCode {
-    match check_files(&rt, &Conversations { rt: &rt }) {
+    let conversations = Conversations {
+        handles: Handles::of(&rt),
+    };
+    match check_files(&rt, &conversations) {
         Ok(true) => ExitCode::SUCCESS,
         Ok(false) => ExitCode::from(1),
         Err(_) => ExitCode::from(2),
