@@ -186,7 +186,7 @@ fn read_more<L: Lane>(session: &mut Session, lane: &mut L) -> Option<Way>
     take_more(session, lane)
 }
 
-// The same, once the lane knows whether all was answered.
+// Reads, after the lane was told whether it may rest.
 fn take_more<L: Lane>(session: &mut Session, lane: &mut L) -> Option<Way>
     requires busy { L.busy lane.old ≡ true }
     requires more { session.old.ended ≡ false }

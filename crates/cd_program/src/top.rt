@@ -177,7 +177,7 @@ fn usage(words: &[Text]) -> &'static str
 /// |---|---|
 /// | 0 | the run has ended |
 /// | 1 | the configuration is refused |
-/// | 2 | the words are none of these |
+/// | 2 | the words start nothing: what they name is not built yet, or unknown |
 /// | 3 | the configuration could not be read |
 /// | 4 | a line of a run could not be written |
 /// | 5 | want of memory |
