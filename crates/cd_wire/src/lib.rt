@@ -2,7 +2,8 @@
 //!
 //! `Intake` takes the bytes of a connection in any pieces and gives its requests, one after another, by the definition in
 //! specs/Requests.antt: the requests of an input are a relation over all its bytes, where the grammar of a head is
-//! `httparse`'s. `requests_are_unique`, `requests_stay` and `splits_stay` are its laws. Bodies are read by their length; a
+//! `httparse`'s. `requests_are_unique`, `requests_exist`,
+//! `requests_stay` and `splits_stay` are its laws. Bodies are read by their length; a
 //! coding is not known yet.
 //!
 //! `render` gives exactly the bytes that specs/Render.antt defines for an answer. `fields_go_by_name` says of the order of
@@ -35,7 +36,8 @@ pub use fault::WireFault;
 pub use fields::Field;
 pub use intake::{Intake, Next};
 pub use laws::{
-    fields_go_by_name, no_bytes_are_no_request, requests_are_unique, requests_stay, splits_stay,
+    fields_go_by_name, limits_are, no_bytes_are_no_request, requests_are_unique, requests_exist,
+    requests_stay, splits_stay,
 };
 pub use limits::{MAX_BODY_BYTES, MAX_CHUNK_LINE_BYTES, MAX_HEAD_BYTES, MAX_HEAD_FIELDS};
 pub use refusals::refusal;
