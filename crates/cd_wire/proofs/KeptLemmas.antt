@@ -1,10 +1,10 @@
 -- What is kept of an input holds of it when more bytes come.
-use Rattle.std.proofs.Common.{inl, ◌≡◌, ℕ, zero, suc, lit<, ◌+◌, ◌≤◌, IsTrue, List, [], ◌∷◌, ◌++◌, length, take, drop, refl, sym, ap, ◌∙◌, subst, arith, length-append}
+use Rattle.std.proofs.Common.{inl, ◌≡◌, ℕ, zero, suc, lit<, ◌+◌, ◌≤◌, IsTrue, List, [], ◌∷◌, ◌++◌, length, drop, refl, sym, ap, ◌∙◌, subst, arith, length-append}
 use Rattle.std.proofs.lemmas.List.{drop-append-le, take-append-le, take_all, append-nil}
 use Rattle.std.proofs.lemmas.List.Elements.{All-nil, All-cons}
 use Rattle.std.proofs.lemmas.Str.{IsUtf8-from_ascii}
 use Rattle.std.specs.Str.{IsAscii}
-use Rattle.httparse.specs.Grammar.{lf, Field, IsField, RequestHead, print_request, is_token_byte, is_uri_byte, MayBecomeRequest}
+use Rattle.httparse.specs.Grammar.{lf, IsField, RequestHead, print_request, is_token_byte, is_uri_byte, MayBecomeRequest}
 use Rattle.cd_wire.specs.declared.scanning.Line.TheVariants.{Blank}
 use Rattle.cd_wire.specs.declared.scanning.Scanned.{Scanned}
 use Rattle.cd_wire.specs.declared.taking.Front.{Front}
