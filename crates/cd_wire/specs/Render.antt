@@ -2,20 +2,24 @@
 use Rattle.std.specs.Prelude.{◌≡◌, ℕ, ◌⊎◌, Bool, true, false, ◌&&◌, ◌||◌, not, List, [], ◌∷◌, ◌++◌, length, codes, ◌==◌, nat_lt, nat_le, if◌then◌else◌, unwrap_or, map, filter, fold, decimal}
 use Rattle.std.specs.List.{flat_map}
 use Rattle.std.specs.Char.{to_ascii_uppercase}
+use Rattle.std.specs.Str.{bytes_eq, str_to_ascii_lowercase}
 use Rattle.std.specs.Ordering.{nat_cmp, is_le}
 use Rattle.std.specs.Cmp.Lexicographic.{slice_cmp}
 use Rattle.httparse.specs.Ascii.{tab, space, del, crlf_bytes}
 use Rattle.http.specs.StatusCode.{reason_phrase}
 use Rattle.cd_wire.specs.declared.fields.Field.{Field}
 use Rattle.cd_wire.specs.declared.answer.Answer.{Answer}
-use Rattle.cd_wire.specs.Fields.{is_named}
 
--- the field is sent as it stands: its name is not one of the lines that frame an answer
+-- the field has that name, which is in lower case: names of fields are case-insensitive (RFC 9110, section 5.1)
+abbrev pub has_name : List ℕ → Field → Bool
+has_name name field = bytes_eq (str_to_ascii_lowercase field.name) name
+
+-- the field is sent as it is given: it is none of those that frame an answer
 abbrev pub is_sent : Field → Bool
 is_sent field =
-    not (is_named (codes "content-length") field)
-    && not (is_named (codes "connection") field)
-    && not (is_named (codes "transfer-encoding") field)
+    not (has_name (codes "content-length") field)
+    && not (has_name (codes "connection") field)
+    && not (has_name (codes "transfer-encoding") field)
 
 -- the first field's name is not greater than the second's
 abbrev pub name_le : Field → Field → Bool

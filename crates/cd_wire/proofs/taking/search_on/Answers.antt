@@ -1,7 +1,7 @@
 use Rattle.std.proofs.Common.{List, ℕ, length, subst, sym}
 use Rattle.cd_wire.specs.Taking.{IsBegun}
 use Rattle.cd_wire.proofs.TakingLemmas.{no_length, is_nil}
-use Rattle.cd_wire.proofs.taking.find_front.Goals as goal
+use Rattle.cd_wire.proofs.taking.search_on.Goals as goal
 
 -- nothing came
 pub returns-then-is_empty : goal.returns-then-is_empty
