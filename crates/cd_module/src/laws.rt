@@ -2,6 +2,7 @@ ghost use Rattle.std.specs.Prelude.{◌≡◌, ℕ, List};
 ghost use Rattle.cd_module.specs.Bare.{bare, SeesNoIds};
 ghost use Rattle.cd_module.specs.Recursion.{Inward, recursive};
 ghost use Rattle.cd_module.specs.Settings.{Reader, list_of, object_of, object_with_nulls};
+ghost use Rattle.cd_module.specs.declared.limits.TheConstants.{MAX_MODULES, MAX_ADDRESSES, MAX_SERVERS, MAX_ERROR_SUBROUTES};
 
 use crate::named::Named;
 use crate::settings::Settings;
@@ -42,3 +43,11 @@ pub fn recursions_see_no_ids<T: Drop>(tree: &Tree, at: &Path)
     let _ = tree;
     let _ = at;
 }
+
+/// The limits of a configuration, as numbers.
+pub fn limits_of_configurations()
+    ensures modules { MAX_MODULES ≡ 65536 }
+    ensures addresses { MAX_ADDRESSES ≡ 1024 }
+    ensures servers { MAX_SERVERS ≡ 256 }
+    ensures error_subroutes { MAX_ERROR_SUBROUTES ≡ 8 }
+{}
