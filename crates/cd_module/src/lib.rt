@@ -33,8 +33,8 @@ mod wording;
 pub use fault::{LoadFault, LoadKind, Refusal};
 pub use id::{IdFormFault, ModuleId};
 pub use laws::{
-    ids_are_not_seen, limits_of_configurations, lists_see_no_ids, objects_see_no_ids,
-    recursions_see_no_ids,
+    ids_are_not_seen, ids_read_back, limits_of_configurations, lists_see_no_ids,
+    objects_see_no_ids, recursions_see_no_ids,
 };
 pub use limits::{Limit, MAX_ADDRESSES, MAX_ERROR_SUBROUTES, MAX_MODULES, MAX_SERVERS};
 pub use members::{fields_of, is_a_setting, name_of, needed, optional};
