@@ -1,1 +1,4 @@
 mod Ports
+mod Cuts
+mod Hosts
+mod ReadBack

@@ -14,16 +14,19 @@ pub own : IsNumeralModel (AllDigits 10) (digits_value 10)
 own = numerals_by_value (AllDigits 10) tells_digits
 
 -- the tests of numbers, as facts
-is_lt : (a b : ℕ) → a < b → nat_lt a b ≡ true
+pub is_lt : (a b : ℕ) → a < b → nat_lt a b ≡ true
 is_lt a b h = grind (arith, nat_tests)
 
-is_le : (a b : ℕ) → a ≤ b → nat_le a b ≡ true
+pub is_le : (a b : ℕ) → a ≤ b → nat_le a b ≡ true
 is_le a b h = grind (arith, nat_tests)
 
-le_is : (a b : ℕ) → nat_le a b ≡ true → a ≤ b
+pub le_is : (a b : ℕ) → nat_le a b ≡ true → a ≤ b
 le_is a b h = grind (arith, nat_tests)
 
-no_lt : (a b : ℕ) → b ≤ a → nat_lt a b ≡ false
+pub lt_is : (a b : ℕ) → nat_lt a b ≡ true → a < b
+lt_is a b h = grind (arith, nat_tests)
+
+pub no_lt : (a b : ℕ) → b ≤ a → nat_lt a b ≡ false
 no_lt a b h = grind (arith, nat_tests)
 
 no_le : (a b : ℕ) → b < a → nat_le a b ≡ false

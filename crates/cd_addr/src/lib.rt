@@ -15,7 +15,7 @@ mod reading;
 mod writing;
 
 pub use fault::AddrFault;
-pub use laws::limits_of_addresses;
+pub use laws::{limits_of_addresses, what_is_read_reads_back};
 pub use limits::{MAX_PORT, MAX_RANGE_PORTS};
 pub use reading::read;
 pub use writing::write;
