@@ -1,6 +1,6 @@
 use cd_text::{NoMemory, Text};
 use cd_tree::Path;
-use std::alloc::{AllocError, AllocFailed};
+use std::alloc::AllocFailed;
 
 /// Why a tree has no index of its ids.
 #[derive(Debug, Drop)]
@@ -19,17 +19,6 @@ impl From<NoMemory> for IdFault {
     ghost from_gives = { λ _ fault. fault ≡ out_of_memory };
 
     fn from(_: NoMemory) -> IdFault {
-        IdFault::NoMemory
-    }
-}
-
-impl From<AllocError> for IdFault {
-    ghost use Rattle.std.specs.Prelude.{◌≡◌};
-    ghost use Rattle.cd_ids.specs.declared.fault.IdFault.TheVariants.{NoMemory as out_of_memory};
-
-    ghost from_gives = { λ _ fault. fault ≡ out_of_memory };
-
-    fn from(_: AllocError) -> IdFault {
         IdFault::NoMemory
     }
 }
