@@ -1,5 +1,5 @@
 -- The bytes of an answer (RFC 9112, sections 4 to 6).
-use Rattle.std.specs.Prelude.{◌≡◌, ℕ, ◌⊎◌, Bool, true, false, ◌&&◌, ◌||◌, not, List, [], ◌∷◌, ◌++◌, length, codes, ◌==◌, nat_lt, nat_le, if◌then◌else◌, unwrap_or, map, filter, fold, decimal}
+use Rattle.std.specs.Prelude.{◌≡◌, ℕ, ◌⊎◌, Bool, true, false, ◌&&◌, ◌||◌, not, List, [], ◌∷◌, ◌++◌, length, codes, ◌==◌, nat_lt, nat_le, if◌then◌else◌, unwrap_or, map, filter, decimal}
 use Rattle.std.specs.List.{flat_map}
 use Rattle.std.specs.Char.{to_ascii_uppercase}
 use Rattle.std.specs.Str.{bytes_eq, str_to_ascii_lowercase}
@@ -25,15 +25,16 @@ is_sent field =
 abbrev pub name_le : Field → Field → Bool
 name_le one other = is_le (slice_cmp nat_cmp one.name other.name)
 
--- one more field among fields by rising name: behind all whose names are not greater
+-- one more field among fields by rising name: before the first whose name is not less
 abbrev pub put_by_name : Field → List Field → List Field
 put_by_name field [] = field ∷ []
 put_by_name field (other ∷ others) =
-    if name_le other field then other ∷ put_by_name field others else field ∷ (other ∷ others)
+    if name_le field other then field ∷ (other ∷ others) else other ∷ put_by_name field others
 
 -- the fields by rising name, and equal names in their order: what that says is the law `fields_go_by_name`
 abbrev pub by_name : List Field → List Field
-by_name fields = fold (λ sorted field. put_by_name field sorted) [] fields
+by_name [] = []
+by_name (field ∷ fields) = put_by_name field (by_name fields)
 
 -- each letter that begins a word in upper case
 abbrev pub titled : Bool → List ℕ → List ℕ
