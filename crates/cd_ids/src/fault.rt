@@ -9,6 +9,7 @@ pub enum IdFault {
     Repeated(Text, Path, Path),
     /// An `@id` is neither a text nor a whole number nor null. The path leads to it.
     BadKind(Path),
+    /// Memory ran out.
     NoMemory,
 }
 

@@ -16,10 +16,10 @@ pub enum EditFault {
     /// A position is not below the length of its list. For PUT a last one may be the length.
     #[error("a position is out of bounds")]
     OutOfBounds,
-    /// A part, but for a last `...`, names something in a value that is neither a list nor an object.
+    /// A part, other than a last `...`, goes into a value that is neither a list nor an object.
     #[error("a value on the way is neither a list nor an object")]
     NotTraversable,
-    /// POST with a last part `...`, and no list stands there.
+    /// POST with a last part `...`, and there is no list.
     #[error("there is no list to append to")]
     NotAList,
     /// The same, and the body is no list.
@@ -40,6 +40,7 @@ pub enum EditFault {
     /// The compact text of the result has more than `cd_tree::MAX_TEXT_BYTES` bytes.
     #[error("the result is too long")]
     ResultTooLong,
+    /// Memory ran out.
     #[error("out of memory")]
     NoMemory,
 }

@@ -19,6 +19,7 @@ pub enum TreeFault {
     /// The text, or the compact text of its tree, has more than `MAX_TEXT_BYTES` bytes.
     #[error("the text is too long")]
     TooLong,
+    /// Memory ran out.
     #[error("out of memory")]
     NoMemory,
 }
@@ -54,6 +55,7 @@ pub enum FieldFault {
     WrongKind(Path),
     /// A member that is needed is absent or null. The path leads to it.
     Missing(Path),
+    /// Memory ran out.
     NoMemory,
 }
 
