@@ -36,7 +36,7 @@ abbrev pub by_name : List Field → List Field
 by_name [] = []
 by_name (field ∷ fields) = put_by_name field (by_name fields)
 
--- each letter that begins a word in upper case
+-- a letter that begins the name or follows `-` in upper case; any other byte there stays
 abbrev pub titled : Bool → List ℕ → List ℕ
 titled begins [] = []
 titled begins (byte ∷ bytes) = (if begins then to_ascii_uppercase byte else byte) ∷ titled (byte == 45) bytes
@@ -71,7 +71,7 @@ unfoldable pub length_line : Answer → List ℕ
 length_line answer =
     if has_body answer.status then codes "Content-Length: " ++ decimal (length answer.body) ++ crlf_bytes else []
 
--- where the connection ends behind the answer, it says so
+-- where the connection ends after the answer, it says so
 unfoldable pub close_line : Bool → List ℕ
 close_line close = if close then codes "Connection: close" ++ crlf_bytes else []
 
