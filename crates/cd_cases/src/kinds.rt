@@ -9,6 +9,7 @@ use crate::edits::{edit_outcome, look_outcome};
 use crate::histories::history_outcome;
 use crate::ids::find_outcome;
 use crate::pools::pool_outcome;
+use crate::storms::storm_outcome;
 use crate::tags::{holds_outcome, if_match_outcome, tag_outcome};
 use crate::texts::{decimal_outcome, number_outcome, parts_outcome, rising_outcome};
 use crate::trees::{need_outcome, nesting_outcome, read_outcome};
@@ -109,6 +110,8 @@ fn of_addresses(alloc: Global, row: &Tree) -> Result<Outcome, RowFault> {
 fn of_histories(alloc: Global, row: &Tree) -> Result<Outcome, RowFault> {
     if has(row, "history") {
         history_outcome(alloc, row)
+    } else if has(row, "storm") {
+        storm_outcome(alloc, row)
     } else if has(row, "pool") {
         pool_outcome(alloc, row)
     } else {

@@ -13,6 +13,7 @@ mod keys;
 mod kinds;
 mod pools;
 mod state_words;
+mod storms;
 mod tags;
 mod texts;
 mod trees;
