@@ -41,7 +41,11 @@ pub(crate) fn with_replaced(
 }
 
 /// Copies of the elements but that at `at`.
-pub(crate) fn with_removed(alloc: Global, items: &List<Tree>, at: usize) -> Result<List<Tree>, NoMemory>
+pub(crate) fn with_removed(
+    alloc: Global,
+    items: &List<Tree>,
+    at: usize,
+) -> Result<List<Tree>, NoMemory>
     requires { at < length items.now }
     ensures { IfOk result (λ made. made ≡ remove items.now at) }
 {
@@ -53,7 +57,11 @@ pub(crate) fn with_removed(alloc: Global, items: &List<Tree>, at: usize) -> Resu
 }
 
 /// Copies of the elements, and then of others.
-pub(crate) fn joined(alloc: Global, items: &List<Tree>, more: &List<Tree>) -> Result<List<Tree>, NoMemory>
+pub(crate) fn joined(
+    alloc: Global,
+    items: &List<Tree>,
+    more: &List<Tree>,
+) -> Result<List<Tree>, NoMemory>
     ensures { IfOk result (λ made. made ≡ items.now ++ more.now) }
 {
     let mut made = List::new(alloc);
@@ -63,7 +71,11 @@ pub(crate) fn joined(alloc: Global, items: &List<Tree>, more: &List<Tree>) -> Re
 }
 
 /// Copies of the elements, and then another one.
-pub(crate) fn with_appended(alloc: Global, items: &List<Tree>, new: Tree) -> Result<List<Tree>, NoMemory>
+pub(crate) fn with_appended(
+    alloc: Global,
+    items: &List<Tree>,
+    new: Tree,
+) -> Result<List<Tree>, NoMemory>
     ensures { IfOk result (λ made. made ≡ items.now ++ new ∷ []) }
 {
     let mut made = List::new(alloc);

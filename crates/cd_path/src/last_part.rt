@@ -39,7 +39,12 @@ pub(crate) fn edit_last(
 }
 
 /// The tree at the empty path, edited as a key is: null counts as absent, and a removal leaves null.
-pub(crate) fn edit_root(alloc: Global, verb: Verb, body: &Tree, tree: &Tree) -> Result<Tree, EditFault>
+pub(crate) fn edit_root(
+    alloc: Global,
+    verb: Verb,
+    body: &Tree,
+    tree: &Tree,
+) -> Result<Tree, EditFault>
     ensures { Gives EditFault.NoMemory result (root_edit verb body.now tree.now) }
 {
     let old = match tree {

@@ -1,10 +1,10 @@
 -- The places in a value are those of the form.
-use Rattle.std.proofs.Common.{◌≡◌, ◌≢◌, ℕ, suc, ◌+◌, ◌-◌, ◌<◌, ◌≤◌, ◌==◌, ◌&&◌, Bool, true, false, cond, List, [], ◌∷◌, ◌++◌, length, take, drop, get_or, codes, Result, Ok, Err, IfOk, refl, sym, ap, ap₂, ◌∙◌, subst, arith, append_assoc, append-nil, length-append}
-use Rattle.std.specs.Prelude.{nat_le, nat_eq, IsTrue}
-use Rattle.std.specs.List.{list_all, slice_range, starts_with}
+use Rattle.std.proofs.Common.{◌≡◌, ◌≢◌, ℕ, suc, ◌+◌, ◌-◌, ◌==◌, ◌&&◌, Bool, true, false, cond, List, [], ◌∷◌, ◌++◌, length, take, drop, get_or, Result, Ok, Err, IfOk, refl, sym, ap, ap₂, ◌∙◌, subst, arith, append_assoc, append-nil, length-append}
+use Rattle.std.specs.Prelude.{nat_eq}
+use Rattle.std.specs.List.{list_all, starts_with}
 use Rattle.std.proofs.lemmas.Bool.{and_parts, leb-true, le-leb}
 use Rattle.std.proofs.lemmas.Bool.Decides.{Decides-eqb}
-use Rattle.std.proofs.lemmas.List.{drop_all, drop_at, take_at, take-append-drop, length-drop, length-take-le}
+use Rattle.std.proofs.lemmas.List.{drop_all, drop_at, take_at, length-drop, length-take-le}
 use Rattle.std.proofs.lemmas.List.Folds.{drop_split}
 use Rattle.std.proofs.lemmas.Slice.Eq.{starts_is}
 use Rattle.std.proofs.Math.Seq.{split_at}
@@ -17,7 +17,7 @@ use Rattle.cd_tags.specs.IfMatch.{is_lower_hex, IsDigest, parts_of_path, IsTagOf
 use Rattle.cd_tags.specs.declared.fault.IfMatchFault.{IfMatchFault}
 use Rattle.cd_tags.specs.declared.fault.IfMatchFault.TheVariants.{Malformed, NoMemory}
 use Rattle.cd_tags.specs.declared.if_match.Tag.{Tag}
-use Rattle.cd_tags.specs.declared.limits.TheConstants.{HEX_DIGITS, OPENING_BYTES, CLOSING_BYTES}
+use Rattle.cd_tags.specs.declared.limits.TheConstants.{OPENING_BYTES, CLOSING_BYTES}
 
 -- a space, digits, and `"`
 abbrev closed : List ℕ → List ℕ

@@ -1,13 +1,12 @@
 -- What a tag is written of is read back.
-use Rattle.std.proofs.Common.{◌≡◌, ◌≢◌, ℕ, zero, suc, ◌+◌, ◌*◌, ◌/◌, ◌%◌, ◌^◌, ◌<◌, ◌==◌, ◌&&◌, ◌||◌, Bool, true, false, not, cond, nat_lt, List, [], ◌∷◌, ◌++◌, length, map, codes, Result, Ok, Err, Option, refl, sym, ap, ap₂, ◌∙◌, subst, arith, length-append, inl, inr, true≢false}
-use Rattle.std.specs.Prelude.{IsTrue, All, slice_index, if◌then◌else◌}
+use Rattle.std.proofs.Common.{◌≡◌, ◌≢◌, ℕ, zero, suc, ◌*◌, ◌/◌, ◌%◌, ◌^◌, ◌<◌, ◌==◌, ◌&&◌, ◌||◌, Bool, true, false, cond, nat_lt, List, [], ◌∷◌, ◌++◌, length, map, Result, Ok, Err, Option, refl, sym, ap, ap₂, ◌∙◌, subst, arith, length-append, inl, inr, true≢false}
+use Rattle.std.specs.Prelude.{All, slice_index}
 use Rattle.std.specs.Char.{is_ascii_hexdigit}
 use Rattle.std.specs.Fmt.{digit_glyph}
-use Rattle.std.specs.Int.{bytes_high_first, byte_at, to_be_bytes, w32}
-use Rattle.std.specs.List.{list_all, slice_split, join_with_byte}
-use Rattle.std.specs.Str.{bytes_eq, is_utf8}
+use Rattle.std.specs.Int.{byte_at, to_be_bytes, w32}
+use Rattle.std.specs.List.{list_all, slice_split}
+use Rattle.std.specs.Str.{is_utf8}
 use Rattle.std.proofs.lemmas.Bool.{and_parts, agree_below_at, ltb-true, lt-ltb, cases_eq, ne_eqb}
-use Rattle.std.proofs.lemmas.Bool.Decides.{nat_tests}
 use Rattle.std.proofs.lemmas.List.Folds.{list_all-append}
 use Rattle.std.proofs.Math.Nat.{mod-lt}
 use Rattle.std.proofs.lemmas.List.Splits.{slice_split_none, slice_split_at}
@@ -30,11 +29,9 @@ use Rattle.cd_tags.specs.Encoding.{is_unreserved, encoded_byte, encoded, encoded
 use Rattle.cd_tags.specs.IfMatch.{is_lower_hex, IsDigest, is_path_byte, whole_escapes, decoded, all_decoded, split_path, parts_of_path, IsTagOf}
 use Rattle.cd_tags.specs.Parts.{are_bytes, is_text, are_texts}
 use Rattle.cd_tags.specs.Tags.{digest, digest_found, digest_at, tag_of, is_digest, tag_holds}
-use Rattle.cd_tags.specs.declared.fault.IfMatchFault.{IfMatchFault}
 use Rattle.cd_tags.specs.declared.fault.IfMatchFault.TheVariants.{Malformed}
 use Rattle.cd_tags.specs.declared.fault.TagFault.{TagFault}
 use Rattle.cd_tags.specs.declared.if_match.Tag.{Tag}
-use Rattle.cd_tags.specs.declared.limits.TheConstants.{HEX_DIGITS}
 use Rattle.cd_tags.proofs.Forms.{one_tag}
 
 -- ---- bytes

@@ -1,4 +1,3 @@
-use Rattle.std.proofs.Common.{◌≡◌, Result, Ok, Err, IfOk, sym, ◌∙◌}
 use Rattle.cd_tags.proofs.Forms.{tag_given, never_malformed}
 use Rattle.cd_tags.proofs.if_match.read_if_match.Goals as goal
 

@@ -1,5 +1,4 @@
 use Rattle.std.proofs.Common.{rules}
-use Rattle.cd_tags.specs.Parts.{are_texts}
 use Rattle.cd_tags.proofs.ReadBack.{read_back}
 use Rattle.cd_tags.proofs.laws.tags_read_back.Goals as goal
 
