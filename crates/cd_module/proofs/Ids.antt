@@ -1,11 +1,11 @@
 -- Labels joined by dots, and read back.
-use Rattle.std.proofs.Common.{◌≡◌, ℕ, List, [], ◌∷◌, ◌++◌, get_or, Bool, true, false, Result, Ok, Err, sym, ap, ◌∙◌, refl, arith, append_assoc}
-use Rattle.std.specs.Prelude.{◌==◌, if◌then◌else◌}
+use Rattle.std.proofs.Common.{◌≡◌, ℕ, List, [], ◌∷◌, ◌++◌, get_or, Bool, true, false, Result, Ok, Err, sym, ap, subst, ◌∙◌, refl, arith, append_assoc}
+use Rattle.std.specs.Prelude.{not, length, ◌==◌, if◌then◌else◌}
 use Rattle.std.specs.List.{All, list_all, join_with_byte}
-use Rattle.std.proofs.lemmas.Bool.{and_parts}
+use Rattle.std.proofs.lemmas.Bool.{and_parts, and_from, ne_eqb}
 use Rattle.std.proofs.lemmas.Bool.Decides.{nat_tests, eqb_tells}
 use Rattle.std.proofs.lemmas.List.Elements.{All-from_get_or}
-use Rattle.std.proofs.lemmas.List.Splits.{slice_split_none, slice_split_at, join_with_byte-slice_split}
+use Rattle.std.proofs.lemmas.List.Splits.{slice_split_none, slice_split_at, length-slice_split, join_with_byte-slice_split}
 use Rattle.std.proofs.lemmas.List.Sums.{AllPass-from_list_all}
 use Rattle.cd_module.specs.Ids.{is_label_byte, is_label, labels_in, id_of, is_id, dotted}
 use Rattle.cd_module.specs.declared.id.ModuleId.{ModuleId}
@@ -49,3 +49,15 @@ read_text text false found h = cc
 -- what reads as an id is its text
 pub text_is_dotted : (text : List ℕ) (found : ModuleId) → id_of text ≡ Ok found → dotted found ≡ text
 text_is_dotted text found h = ap (join_with_byte 46) (read_text text (list_all is_label (labels_in text)) found h) ∙ join_with_byte-slice_split 46 text
+
+-- a text has one part at least
+some_part : (text : List ℕ) → not (length (labels_in text) == 0) ≡ true
+some_part text = ap not (ne_eqb (length (labels_in text)) 0 (λ none. omega (arith, none, length-slice_split (λ b. b == 46) text)))
+
+read_by : (text : List ℕ) (b : Bool) (found : ModuleId) → list_all is_label (labels_in text) ≡ b → (if b then Ok (record { labels = labels_in text }) else Err BadForm) ≡ Ok found → is_id found ≡ true
+read_by text true found e h = let same : record { labels = labels_in text } ≡ found = cc in subst (λ id. is_id id ≡ true) same (and_from _ _ (some_part text) e)
+read_by text false found e h = cc
+
+-- what is read is one label or more
+pub read_is_id : (text : List ℕ) (found : ModuleId) → id_of text ≡ Ok found → is_id found ≡ true
+read_is_id text found h = read_by text (list_all is_label (labels_in text)) found refl h

@@ -56,9 +56,10 @@ pub fn limits_of_configurations()
     ensures error_subroutes { MAX_ERROR_SUBROUTES ≡ 8 }
 {}
 
-/// The text of an id reads as that id, and a text that reads as an id is its text.
+/// What a text reads as is an id, and the text of an id reads as that id. A text that reads as an id is its text.
 pub fn ids_read_back(id: &ModuleId, text: &Text)
     ensures id { is_id id.now ≡ true → id_of (dotted id.now) ≡ Ok id.now }
+    ensures read { (found : ModuleId) → id_of text.now ≡ Ok found → is_id found ≡ true }
     ensures text { (found : ModuleId) → id_of text.now ≡ Ok found → dotted found ≡ text.now }
 {
     let _ = id;
