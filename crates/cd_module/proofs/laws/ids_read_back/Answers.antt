@@ -1,0 +1,8 @@
+use Rattle.cd_module.proofs.Ids.{id_reads_back, text_is_dotted}
+use Rattle.cd_module.proofs.laws.ids_read_back.Goals as goal
+
+pub returns-clause-id : goal.returns-clause-id
+returns-clause-id c = id_reads_back c.args.id.now.labels
+
+pub returns-clause-text : goal.returns-clause-text
+returns-clause-text c = text_is_dotted c.args.text.now
