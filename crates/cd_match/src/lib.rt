@@ -2,7 +2,7 @@
 //!
 //! A route's `match` is a list of sets, each an object of matchers by name. A set holds where all its matchers hold, and a
 //! route is taken where one of its sets holds, or where it has none. Each matcher has a file of its own, here and in specs/:
-//! its settings, how they are read, and when it holds. The names of matchers are in specs/Matchers.antt.
+//! its settings, how they are read, and when it holds. The names of matchers are one table (kind.rt, specs/Names.antt).
 //!
 //! `Sets::read` gives the settings, or the first fault with its path. `Sets::holds` says whether they hold for a scene, as
 //! specs/Holds.antt defines it. Patterns are read once; no field, no path and no query is copied, lowered or decoded to be

@@ -2,6 +2,7 @@
 ghost use Rattle.cd_tree.specs.Tree.{IsSound};
 
 use crate::fill::fill_outcome;
+use crate::parts::{error_subroutes_outcome, listen_outcome, names_outcome};
 use crate::scene::scene_outcome;
 use crate::servers::{
     handle_outcome, line_outcome, match_outcome, routes_outcome, server_outcome,
@@ -61,6 +62,18 @@ fn outcome_of_server(alloc: Global, row: &Tree) -> Result<Outcome, RowFault>
         line_outcome(alloc, row)
     } else if has(row, "handle") {
         handle_outcome(alloc, row)
+    } else {
+        outcome_of_part(alloc, row)
+    }
+}
+
+fn outcome_of_part(alloc: Global, row: &Tree) -> Result<Outcome, RowFault> {
+    if has(row, "listen") {
+        listen_outcome(alloc, row)
+    } else if has(row, "names_in") {
+        names_outcome(alloc, row)
+    } else if has(row, "error_subroutes") {
+        error_subroutes_outcome(alloc, row)
     } else {
         Err(RowFault::Malformed("no kind that is known"))
     }
