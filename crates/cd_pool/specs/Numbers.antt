@@ -1,11 +1,6 @@
--- The rooms of a pool: what a room shows, and how leases are numbered.
-use Rattle.std.specs.Prelude.{ℕ, ◌+◌, ◌≤◌, ◌==◌, cond, nat_lt, List, [], ◌∷◌, ◌++◌, map, zero, suc}
-use Rattle.cd_pool.specs.declared.room.Room.{Room}
-use Rattle.cd_pool.specs.Pairs.{Leased}
-
--- a room's pair with its number
-abbrev pub leased : Room → Leased
-leased room = record { number = room.number; pair = room.pair.value }
+-- The numbers of leases.
+use Rattle.std.specs.Prelude.{ℕ, ◌+◌, ◌≤◌, ◌==◌, cond, nat_lt, List, [], ◌∷◌, ◌++◌, zero, suc}
+use Rattle.cd_pool.specs.declared.lease.Leased.{Leased}
 
 -- how often a number is among these leases
 abbrev pub uses : ℕ → List Leased → ℕ
@@ -20,10 +15,6 @@ times n (m ∷ ms) = cond (m == n) (1 + times n ms) (times n ms)
 -- each number below `places` is that of a lease or free, at most once; and no other number is
 abbrev pub AreNumbers : List Leased → List ℕ → ℕ → Type 0
 AreNumbers held free places = (n : ℕ) → uses n held + times n free ≤ cond (nat_lt n places) 1 0
-
--- the same of rooms
-abbrev pub AreNumbered : List Room → List Room → ℕ → Type 0
-AreNumbered held free places = AreNumbers (map leased held) (map (λ room. room.number) free) places
 
 -- so many numbers from n on
 abbrev pub numbers_from : ℕ → ℕ → List ℕ
