@@ -1,6 +1,6 @@
 -- The names of servers rise where the keys of their object do.
 use Rattle.std.proofs.Common.{◌≡◌, ℕ, List, [], ◌∷◌, Bool, true, false, ◌&&◌, map, refl, ap, sym, ◌∙◌, Result, Ok}
-use Rattle.std.specs.Prelude.{if◌then◌else◌}
+use Rattle.std.specs.Prelude.{codes, if◌then◌else◌}
 use Rattle.std.specs.List.{list_all}
 use Rattle.std.proofs.lemmas.Bool.{and_parts}
 use Rattle.cd_text.specs.Steps.{◌▷◌}
@@ -76,3 +76,10 @@ rise-layer (Tree-F.Object ms) at read ordered e = rise-all ms at read (and_parts
 
 pub names_rise_there : (t : Tree) (at : Path) (read : List Server) → IsSound t → object_of server t at ≡ Ok read → names_rise (names_of read) ≡ true
 names_rise_there t at read sound e = rise-layer (out-Tree t) at read (sym (is_ordered-out t) ∙ (parts_of t sound).ordered) e
+
+-- names that rise, and one that stands twice
+rising : names_rise (codes "a" ∷ codes "ab" ∷ codes "b" ∷ []) ≡ true
+rising = refl
+
+twice : names_rise (codes "a" ∷ codes "a" ∷ []) ≡ false
+twice = refl
