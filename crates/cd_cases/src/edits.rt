@@ -93,7 +93,8 @@ pub fn look_outcome(alloc: Global, row: &Tree) -> Result<Outcome, RowFault>
     }
 }
 
-fn look_at(alloc: Global, tree: &Tree, path: &Path) -> Result<Outcome, RowFault>
+/// What is at a path.
+pub fn look_at(alloc: Global, tree: &Tree, path: &Path) -> Result<Outcome, RowFault>
     requires { IsSound tree.now }
 {
     match look(tree, path) {

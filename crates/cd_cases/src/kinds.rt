@@ -3,11 +3,13 @@
 //! There is a function for every few kinds, since each condition is known in all that come after it.
 ghost use Rattle.cd_tree.specs.Tree.{IsSound};
 
+use crate::addresses::{address_outcome, addresses_outcome};
 use crate::devices::{fixtures_outcome, lane_outcome, sink_outcome, source_outcome};
 use crate::edits::{edit_outcome, look_outcome};
 use crate::histories::history_outcome;
 use crate::ids::find_outcome;
 use crate::pools::pool_outcome;
+use crate::storms::storm_outcome;
 use crate::tags::{holds_outcome, if_match_outcome, tag_outcome};
 use crate::texts::{decimal_outcome, number_outcome, parts_outcome, rising_outcome};
 use crate::trees::{need_outcome, nesting_outcome, read_outcome};
@@ -91,6 +93,16 @@ fn of_texts(alloc: Global, row: &Tree) -> Result<Outcome, RowFault> {
     } else if has(row, "rising") {
         rising_outcome(alloc, row)
     } else {
+        of_addresses(alloc, row)
+    }
+}
+
+fn of_addresses(alloc: Global, row: &Tree) -> Result<Outcome, RowFault> {
+    if has(row, "addresses") {
+        addresses_outcome(alloc, row)
+    } else if has(row, "address") {
+        address_outcome(alloc, row)
+    } else {
         of_histories(alloc, row)
     }
 }
@@ -98,6 +110,8 @@ fn of_texts(alloc: Global, row: &Tree) -> Result<Outcome, RowFault> {
 fn of_histories(alloc: Global, row: &Tree) -> Result<Outcome, RowFault> {
     if has(row, "history") {
         history_outcome(alloc, row)
+    } else if has(row, "storm") {
+        storm_outcome(alloc, row)
     } else if has(row, "pool") {
         pool_outcome(alloc, row)
     } else {

@@ -28,7 +28,8 @@ pub fn tag_outcome(alloc: Global, row: &Tree) -> Result<Outcome, RowFault>
     }
 }
 
-fn tag_at(alloc: Global, tree: &Tree, path: &Path) -> Result<Outcome, RowFault>
+/// The tag of what is at a path.
+pub fn tag_at(alloc: Global, tree: &Tree, path: &Path) -> Result<Outcome, RowFault>
     requires { IsSound tree.now }
 {
     match tag(alloc, tree, path) {

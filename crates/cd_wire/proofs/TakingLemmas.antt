@@ -19,8 +19,8 @@ use Rattle.cd_wire.specs.Targets.{is_target}
 use Rattle.cd_wire.specs.Bodies.{BeginsBody, RefusesBody}
 use Rattle.cd_wire.specs.Requests.{BeginsRequest, HasNoRequest, RefusesAfterHead, EndsInBody}
 use Rattle.cd_wire.specs.declared.taking.Front.{Front}
-use Rattle.cd_wire.specs.Scanning.{HasFront}
-use Rattle.cd_wire.specs.Taking.{IsNext}
+use Rattle.cd_wire.specs.Taking.{HasFront}
+use Rattle.cd_wire.specs.Intake.{IsNext}
 use Rattle.cd_wire.specs.declared.intake.Next.TheVariants as next
 use Rattle.cd_wire.proofs.RequestLaws.{BeginsHead-unique}
 
