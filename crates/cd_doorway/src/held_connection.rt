@@ -1,4 +1,5 @@
-ghost use Rattle.std.specs.Prelude.{◌≡◌, ◌<◌, length};
+ghost use Rattle.std.specs.Prelude.{◌≡◌, ◌<◌, length, IsTrue};
+ghost use Rattle.std.specs.Io.KnownBytes.{Appends};
 ghost use Rattle.cd_outside.specs.Taken.{IsTakenWithin};
 ghost use Rattle.cd_doorway.specs.Got.{IsGotWithin};
 
@@ -56,8 +57,10 @@ impl<S: Patient> Held<S> {
         self.waited = Duration::ZERO;
     }
 
-    /// Writes the whole piece, and says whether it was written.
-    pub fn write<R: Clock>(&mut self, rt: &R, piece: &[u8]) -> bool {
+    /// Writes the whole piece, and says whether it was written: of a stream that tells its bytes, these are then its last ones.
+    pub fn write<R: Clock>(&mut self, rt: &R, piece: &[u8]) -> bool
+        ensures { IsTrue result → Appends (S.contents self.old.guest.stream) (S.contents self.new.guest.stream) piece.now }
+    {
         self.parting = Parting::Linger;
         write_whole(rt, &mut self.guest.stream, piece)
     }
