@@ -1,6 +1,8 @@
 pub mod Histories
+pub mod Facts
 pub mod Places
 pub mod Apart
+pub mod Cores
 pub mod Counting
 pub mod Logs
 pub mod Owing
@@ -17,8 +19,10 @@ pub mod Lives
 pub mod Serials
 pub mod Leaving
 pub mod Confs
+pub mod Owners
 pub mod Shutting
 pub mod Undone
+pub mod Closed
 pub mod Sound
 pub mod Ending
 pub mod Running
