@@ -15,6 +15,7 @@ pub mod Parts
 pub mod Filters
 pub mod Replayed
 pub mod Others
+pub mod Effects
 pub mod Lives
 pub mod Serials
 pub mod Leaving
