@@ -37,7 +37,7 @@ are_signed_from before (x ∷ xs) = may_sign x.by (owes_of x.by before) x.entry 
 abbrev pub are_signed : List Signed → Bool
 are_signed log = are_signed_from [] log
 
--- what passes make together: a legal list, so signed
+-- what passes make together: a legal list whose entries are so signed
 pub record IsHistory (log : List Signed) : Type 0 where
   pub is_legal : IsLegal log
   pub is_signed : IsTrue (are_signed log)

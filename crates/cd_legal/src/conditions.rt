@@ -36,7 +36,7 @@ pub(crate) fn may_make(
     }
 }
 
-/// Whether the app is the next one behind all instances, and its keys fit.
+/// Whether the app is the next one, after all instances, and its keys fit.
 pub(crate) fn may_start(
     drafted: &Drafted,
     place: u32,

@@ -63,7 +63,7 @@ pub fn what_is_over_is_whole()
     ensures { (log : List Entry) → IsTrue (legal log) → IsOver (state_of log) → IsWhole log }
 {}
 
-/// Each front of a legal list is legal, and each front of a history is a history.
+/// Each prefix of a legal list is legal, and each prefix of a history is a history.
 pub fn prefixes_are_histories()
     ensures legal { (front log : List Signed) → IsPrefix front log → IsLegal log → IsLegal front }
     ensures signed { (front log : List Signed) → IsPrefix front log → IsHistory log → IsHistory front }
