@@ -1,14 +1,11 @@
 -- A history is legal where it is so without its tickets, and its tickets fit.
 use Rattle.std.proofs.Common.{◌≡◌, ℕ, Bool, true, false, ◌&&◌, not, cond, List, [], ◌∷◌, refl, ap, ◌∙◌, Some, is_none, suc, nat_lt}
 use Rattle.cd_legal.specs.declared.entry.Entry.{Entry}
-use Rattle.cd_legal.specs.declared.entry.Entry.TheVariants.{Draft, Made, Started, Publish, Abandon, Stopped, Begin, Finish, Retire, Cleaned, Halt}
+use Rattle.cd_legal.specs.declared.entry.Entry.TheVariants.{Begin, Finish, Retire}
 use Rattle.cd_legal.specs.declared.state.State.{State}
 use Rattle.cd_legal.specs.State.{opening_state, has_number, apps_stopped, is_ticketed}
 use Rattle.cd_legal.specs.Legal.{allowed, after, legal_from, legal, refused_from, refused_at}
-use Rattle.cd_legal.specs.Laws.{core, tickets_fit}
-
-abbrev bare : State → State
-bare s = record s { tickets = [] }
+use Rattle.cd_legal.specs.Laws.{core, tickets_fit, bare}
 
 ahead : (a b c : Bool) → (a && (b && c)) ≡ (b && (a && c))
 ahead true b c = refl
@@ -31,15 +28,8 @@ apart_from : (s : State) (log : List Entry) → legal_from s log ≡ (legal_from
 apart_from s [] = refl
 apart_from s (Begin k n ∷ es) = ap (λ z. allowed s (Begin k n) && z) (apart_from (after s (Begin k n)) es) ∙ ahead (allowed s (Begin k n)) _ _
 apart_from s (Finish k ∷ es) = ap (λ z. allowed s (Finish k) && z) (apart_from (after s (Finish k)) es) ∙ ahead (allowed s (Finish k)) _ _
-apart_from s (Draft d tree plan ∷ es) = ap (λ z. allowed s (Draft d tree plan) && z) (apart_from (after s (Draft d tree plan)) es) ∙ plain (allowed s (Draft d tree plan)) _ _
-apart_from s (Made d i taken failed ∷ es) = ap (λ z. allowed s (Made d i taken failed) && z) (apart_from (after s (Made d i taken failed)) es) ∙ plain (allowed s (Made d i taken failed)) _ _
-apart_from s (Started d i taken failed ∷ es) = ap (λ z. allowed s (Started d i taken failed) && z) (apart_from (after s (Started d i taken failed)) es) ∙ plain (allowed s (Started d i taken failed)) _ _
-apart_from s (Publish d n from change ∷ es) = ap (λ z. allowed s (Publish d n from change) && z) (apart_from (after s (Publish d n from change)) es) ∙ plain (allowed s (Publish d n from change)) _ _
-apart_from s (Abandon d ∷ es) = ap (λ z. allowed s (Abandon d) && z) (apart_from (after s (Abandon d)) es) ∙ plain (allowed s (Abandon d)) _ _
-apart_from s (Stopped d a ∷ es) = ap (λ z. allowed s (Stopped d a) && z) (apart_from (after s (Stopped d a)) es) ∙ plain (allowed s (Stopped d a)) _ _
 apart_from s (Retire n ∷ es) = ap (λ z. allowed s (Retire n) && z) (apart_from (after s (Retire n)) es) ∙ retire (nat_lt n s.serial) (not (has_number n s.retired)) (apps_stopped s n) (not (is_ticketed n s.tickets)) _ _
-apart_from s (Cleaned d i ∷ es) = ap (λ z. allowed s (Cleaned d i) && z) (apart_from (after s (Cleaned d i)) es) ∙ plain (allowed s (Cleaned d i)) _ _
-apart_from s (Halt n ∷ es) = ap (λ z. allowed s (Halt n) && z) (apart_from (after s (Halt n)) es) ∙ plain (allowed s (Halt n)) _ _
+apart_from s (e ∷ es) = ap (λ z. allowed s e && z) (apart_from (after s e) es) ∙ plain (allowed s e) _ _
 
 pub apart : (log : List Entry) → legal log ≡ (legal (core log) && tickets_fit opening_state log)
 apart log = apart_from opening_state log

@@ -1,5 +1,5 @@
 -- The count of requests that began under the current serial.
-use Rattle.std.proofs.Common.{◌≡◌, ◌≢◌, ◌<◌, ℕ, suc, ◌+◌, ◌==◌, Bool, true, false, cond, List, [], ◌∷◌, refl, ap, ◌∙◌, arith, eq-eqb, ne_eqb}
+use Rattle.std.proofs.Common.{◌≡◌, ◌≢◌, ◌<◌, ℕ, suc, ◌+◌, ◌==◌, Bool, true, false, cond, List, [], ◌∷◌, ◌++◌, refl, ap, ◌∙◌, arith, eq-eqb, ne_eqb}
 use Rattle.cd_legal.specs.declared.entry.Entry.{Entry}
 use Rattle.cd_legal.specs.declared.entry.Entry.TheVariants.{Publish, Begin, Halt}
 use Rattle.cd_legal.specs.declared.state.State.{State}
@@ -7,7 +7,7 @@ use Rattle.cd_legal.specs.State.{opening_state}
 use Rattle.cd_legal.specs.Legal.{allowed, after, legal, legal_from, state_from, state_of}
 use Rattle.cd_legal.specs.Begins.{begins_at, begins_by, begins_from, begins_now}
 use Rattle.cd_legal.proofs.Histories.{first, second}
-use Rattle.cd_legal.proofs.Fresh.{publishes, halts, begins}
+use Rattle.cd_legal.proofs.Facts.{Publishes, Begins, Halts, can}
 
 one_more : (b : Bool) (n : ℕ) → cond b (suc n) n ≡ cond b (suc 0) 0 + n
 one_more true n = omega arith
@@ -30,17 +30,19 @@ one_here m n z same = ap (λ (b : Bool). z + cond b (suc 0) 0) (eq-eqb m n same)
 
 counts : (s : State) (e : Entry) (begun : ℕ) (count : ℕ → ℕ) → allowed s e ≡ true → Counts s begun count → Counts (after s e) (begins_by begun e) (λ n. count n + begins_at n (e ∷ []))
 counts s (Begin k m) begun count may had =
-    let is = begins s k m may in record {
+    let f : Begins s k m = can s (Begin k m) may in
+    let is = f.current in record {
       now = one_here m s.serial (count s.serial) is ∙ ap (λ (z : ℕ). suc z) had.now;
       later = λ n up. none_other m n (count n) (λ same. absurd (omega arith)) (had.later n up);
     }
 counts s (Publish d m from c) begun count may had =
-    let is = publishes s d m from c may in record {
-      now = let e = had.later m (omega (arith, is.0, is.1)) in omega arith;
-      later = λ n up. let e = had.later n (omega (arith, is.0, is.1)) in omega arith;
+    let f : Publishes s d m from = can s (Publish d m from c) may in record {
+      now = let e = had.later m (omega (arith, f.current, f.next)) in omega arith;
+      later = λ n up. let e = had.later n (omega (arith, f.current, f.next)) in omega arith;
     }
 counts s (Halt m) begun count may had =
-    let is = halts s m may in record {
+    let f : Halts s m = can s (Halt m) may in
+    let is = f.next in record {
       now = let e = had.later m (omega arith) in omega arith;
       later = λ n up. let e = had.later n (omega arith) in omega arith;
     }
@@ -62,4 +64,23 @@ counts_from s (e ∷ es) begun count legal had =
 pub begins-now : (log : List Entry) → legal log ≡ true → begins_now log ≡ begins_at (state_of log).serial log
 begins-now log legal =
     let all = counts_from opening_state log 0 (λ n. 0) legal (record { now = refl; later = λ n up. refl }) in
+    omega arith
+
+-- ---- one entry more
+
+begins_from-snoc : (begun : ℕ) (log : List Entry) (e : Entry) → begins_from begun (log ++ e ∷ []) ≡ begins_by (begins_from begun log) e
+begins_from-snoc begun [] e = refl
+begins_from-snoc begun (x ∷ xs) e = begins_from-snoc (begins_by begun x) xs e
+
+-- counted entry by entry
+pub begins_now-snoc : (log : List Entry) (e : Entry) → begins_now (log ++ e ∷ []) ≡ begins_by (begins_now log) e
+begins_now-snoc log e = begins_from-snoc 0 log e
+
+-- and under each serial
+pub begins_at-snoc : (n : ℕ) (log : List Entry) (e : Entry) → begins_at n (log ++ e ∷ []) ≡ begins_at n log + begins_at n (e ∷ [])
+begins_at-snoc n [] e = omega arith
+begins_at-snoc n (x ∷ xs) e =
+    let rest = begins_at-snoc n xs e in
+    let whole = begins_at-cons n x (xs ++ e ∷ []) in
+    let front = begins_at-cons n x xs in
     omega arith

@@ -1,5 +1,5 @@
 -- The tickets of callers, and of serials.
-use Rattle.std.proofs.Common.{◌≡◌, ◌≢◌, ◌≤◌, ◌<◌, ℕ, suc, ◌+◌, ◌==◌, Bool, true, false, not, cond, List, [], ◌∷◌, ◌++◌, Option, Some, None, refl, sym, ap, subst, ◌∙◌, arith, eq-eqb, ne_eqb}
+use Rattle.std.proofs.Common.{◌≡◌, ◌≢◌, ◌≤◌, ◌<◌, ℕ, suc, ◌+◌, ◌==◌, Bool, true, false, cond, List, [], ◌∷◌, ◌++◌, Option, Some, None, refl, sym, ap, subst, ◌∙◌, arith, eq-eqb, ne_eqb}
 use Rattle.std.specs.Prelude.{◌||◌, is_some}
 use Rattle.std.proofs.lemmas.Bool.{eqb-true}
 use Rattle.cd_legal.specs.declared.entry.Entry.{Entry}
@@ -8,8 +8,9 @@ use Rattle.cd_legal.specs.declared.state.State.{State}
 use Rattle.cd_legal.specs.declared.state.OpenTicket.{OpenTicket}
 use Rattle.cd_legal.specs.State.{opening_state, has_ticket, is_ticketed, without_ticket, ticket_of, open_by, open_at}
 use Rattle.cd_legal.specs.Legal.{allowed, after, legal, state_of}
-use Rattle.cd_legal.proofs.Histories.{second, along}
-use Rattle.cd_legal.proofs.Fresh.{serial_rises, begins}
+use Rattle.cd_legal.proofs.Histories.{along}
+use Rattle.cd_legal.proofs.Facts.{Begins, can}
+use Rattle.cd_legal.proofs.Fresh.{serial_rises}
 
 -- ---- lists of tickets
 
@@ -163,10 +164,6 @@ module _ (k n m : ℕ) where
 
 -- ---- a history
 
-pub not_false : (b : Bool) → not b ≡ true → b ≡ false
-not_false true is = cc
-not_false false is = refl
-
 one_if : (j k n : ℕ) → n ≤ 1 → (j ≡ k → n ≡ 0) → cond (j == k) 1 0 + n ≤ 1
 one_if j k n le none = by_test (j == k) (λ is. none (eqb-true j k is))
   where
@@ -180,7 +177,7 @@ IsSingle s = (k : ℕ) → open_by k s.tickets ≤ 1
 single : (s : State) (e : Entry) → allowed s e ≡ true → IsSingle s → IsSingle (after s e)
 single s (Begin j n) may one = λ k.
     subst (λ (z : ℕ). z ≤ 1) (sym (open_by-push k s.tickets (record { caller = j; serial = n })))
-    (one_if j k (open_by k s.tickets) (one k) (λ same. open_by-none k s.tickets (subst (λ (z : ℕ). has_ticket z s.tickets ≡ false) same (not_false (has_ticket j s.tickets) (second (n == s.serial) _ may)))))
+    (one_if j k (open_by k s.tickets) (one k) (λ same. open_by-none k s.tickets (subst (λ (z : ℕ). has_ticket z s.tickets ≡ false) same (can s (Begin j n) may).free)))
 single s (Finish j) may one = λ k. let less = open_by-without k j s.tickets in let had = one k in omega arith
 single s e may one = one
 
@@ -196,7 +193,7 @@ IsBorn s = (n : ℕ) → s.serial < n → open_at n s.tickets ≡ 0
 
 born : (s : State) (e : Entry) → allowed s e ≡ true → IsBorn s → IsBorn (after s e)
 born s (Begin j m) may none = λ n up.
-    open_at-push n s.tickets (record { caller = j; serial = m }) ∙ not_at m n (open_at n s.tickets) (λ same. absurd (let e = begins s j m may in omega arith)) (none n up)
+    open_at-push n s.tickets (record { caller = j; serial = m }) ∙ not_at m n (open_at n s.tickets) (λ same. absurd (let f : Begins s j m = can s (Begin j m) may in omega (arith, f.current))) (none n up)
 born s (Finish j) may none = λ n up. let less = open_at-without n j s.tickets in let had = none n up in omega arith
 born s e may none = λ n up. let low = serial_rises s e may in none n (omega arith)
 

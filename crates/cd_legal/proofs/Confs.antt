@@ -1,5 +1,5 @@
 -- The configurations of a legal history.
-use Rattle.std.proofs.Common.{◌≡◌, ◌≤◌, ◌<◌, ℕ, zero, suc, ◌==◌, Bool, true, false, ◌&&◌, not, cond, List, [], ◌∷◌, ◌++◌, length, slice_get, refl, sym, ap, subst, ◌∙◌, arith, eq-eqb, ne_eqb}
+use Rattle.std.proofs.Common.{◌≡◌, ◌≤◌, ◌<◌, ◌+◌, Option, Some, None, ℕ, zero, suc, ◌==◌, Bool, true, false, ◌&&◌, cond, List, [], ◌∷◌, ◌++◌, length, slice_get, refl, sym, ap, subst, ◌∙◌, arith, eq-eqb, ne_eqb}
 use Rattle.std.proofs.lemmas.Option.{slice_get_past}
 use mathlib.Core.List.{IsPrefix}
 use Rattle.cd_legal.specs.declared.entry.Entry.{Entry}
@@ -11,13 +11,14 @@ use Rattle.cd_legal.specs.declared.state.Life.TheVariants.{Published}
 use Rattle.cd_legal.specs.Entry.{entries}
 use Rattle.cd_legal.specs.State.{opening_state, change_at, Conf, conf_in, conf_at, conf_of, new_draft}
 use Rattle.cd_legal.specs.Legal.{allowed, after, legal, legal_from, state_from, state_of, state_at, IsLegal}
-use Rattle.cd_legal.specs.Serials.{conf_by, conf_from, last_conf}
+use Rattle.cd_legal.specs.Serials.{conf_by, conf_from, last_conf, is_halted}
 use Rattle.cd_legal.proofs.Histories.{first, second, along}
 use Rattle.cd_legal.proofs.Logs.{state-append, legal-front, legal-back}
-use Rattle.cd_legal.proofs.Fresh.{serial_rises, publishes, halts}
+use Rattle.cd_legal.proofs.Facts.{Publishes, Halts, can}
+use Rattle.cd_legal.proofs.Fresh.{serial_rises}
 use Rattle.cd_legal.proofs.Lives.{are_there, there}
 use Rattle.cd_legal.proofs.Leaving.{conf_in-change, conf_at-change, conf_at-push, at_each, with_confs}
-use Rattle.cd_legal.proofs.Serials.{Agree, agree, opening_agrees, count_running, running, get_last}
+use Rattle.cd_legal.proofs.Serials.{published-count, Agree, agree, opening_agrees, count_running, get_last}
 
 -- each state of a legal history: its serials agree, and its published drafts are there
 pub record IsSteady (s : State) : Type 0 where
@@ -86,30 +87,30 @@ get_before (x ∷ xs) ys (suc n) low = get_before xs ys n (omega arith)
 stays : (s : State) (e : Entry) (n : ℕ) → allowed s e ≡ true → IsSteady s → n ≤ s.serial → conf_of (after s e) n ≡ conf_of s n
 stays s (Publish d m from c) zero may is low = refl
 stays s (Publish d m from c) (suc n) may is low =
-    let free = first (not s.halted) _ may in
-    let was = count_running s free is.agrees.count in
-    let halt = running s.halted free in
+    let halt = (can s (Publish d m from c) may).running in
+    let was = count_running s halt is.agrees.count in
     ap (λ (b : Bool). conf_at (b && (suc n == m)) (change_at (λ x. record x { life = Published m }) d s.drafts) (slice_get (s.published ++ d ∷ []) n)) halt
     ∙ (ap (conf_at false (change_at (λ x. record x { life = Published m }) d s.drafts)) (get_before s.published (d ∷ []) n (omega arith))
     ∙ (conf_at-change (λ x. record x { life = Published m }) (λ x. refl) false s.drafts d (slice_get s.published n) ∙ sym (not_the_halt s n halt)))
 stays s (Halt m) zero may is low = refl
 stays s (Halt m) (suc n) may is low =
-    let next = halts s m may in
+    let f : Halts s m = can s (Halt m) may in
+    let next = f.next in
     ap (λ (b : Bool). conf_at b s.drafts (slice_get s.published n)) (ne_eqb (suc n) m (λ same. absurd (omega arith)))
-    ∙ sym (not_the_halt s n (running s.halted (first (not s.halted) _ may)))
+    ∙ sym (not_the_halt s n f.running)
 stays s e n may is low = confs_kept s e n is.there refl
 
 -- the current one is that of the last Publish, or the halted one
 now : (s : State) (e : Entry) → allowed s e ≡ true → IsSteady s → conf_of (after s e) (after s e).serial ≡ conf_by s (conf_of s s.serial) e
 now s (Publish d n from c) may is =
-    let facts = publishes s d n from c may in
-    let was = count_running s (first (not s.halted) _ may) is.agrees.count in
-    published_conf s (change_at (λ x. record x { life = Published n }) d s.drafts) d n (omega (arith, facts.0, facts.1))
+    let f : Publishes s d n from = can s (Publish d n from c) may in
+    let was = count_running s f.running is.agrees.count in
+    published_conf s (change_at (λ x. record x { life = Published n }) d s.drafts) d n (omega (arith, f.current, f.next))
     ∙ conf_in-change (λ x. record x { life = Published n }) (λ x. refl) s.drafts d d
 now s (Halt n) may is =
-    let next = halts s n may in
-    let was = count_running s (first (not s.halted) _ may) is.agrees.count in
-    halted_conf s n (omega arith)
+    let f : Halts s n = can s (Halt n) may in
+    let was = count_running s f.running is.agrees.count in
+    halted_conf s n (omega (arith, f.next))
 now s e may is = confs_kept s e s.serial is.there refl
 
 now_from : (s : State) (log : List Entry) → legal_from s log ≡ true → IsSteady s → conf_of (state_from s log) (state_from s log).serial ≡ conf_from s (conf_of s s.serial) log
@@ -136,3 +137,26 @@ conf-stays front log n p is low =
     ap (λ (z : List Signed). conf_of (state_at z) n) (sym p.1)
     ∙ (ap (λ (s : State). conf_of s n) (state-append front p.0)
     ∙ stays_from (state_at front) (entries p.0) n (legal-back front p.0 whole) (legal-steady (entries front) (legal-front front log p is)) low)
+
+-- ---- the halted one
+
+not_halted : (o : Option Drafted) → is_halted (conf_in o) ≡ false
+not_halted None = refl
+not_halted (Some x) = refl
+
+run_none : (drafts : List Drafted) (o : Option ℕ) → is_halted (conf_at false drafts o) ≡ false
+run_none drafts None = refl
+run_none drafts (Some d) = not_halted (slice_get drafts d)
+
+runs : (s : State) (n : ℕ) → s.halted ≡ false → is_halted (conf_of s n) ≡ false
+runs s zero free = refl
+runs s (suc n) free = ap is_halted (not_the_halt s n free) ∙ run_none s.drafts (slice_get s.published n)
+
+by_halt : (s : State) (b : Bool) → s.halted ≡ b → length s.published + cond {A = ℕ} b 1 0 ≡ s.serial → is_halted (conf_of s s.serial) ≡ b
+by_halt s true halted count =
+    ap (λ (z : State). is_halted (conf_of z s.serial)) (let same : s ≡ record s { serial = s.serial; halted = true } = ap (λ (b : Bool). record s { halted = b }) halted in same) ∙ ap is_halted (halted_conf s s.serial (omega arith))
+by_halt s false halted count = runs s s.serial halted
+
+-- the current configuration is the halted one where the host has halted
+pub conf-halted : (log : List Entry) → legal log ≡ true → is_halted (conf_of (state_of log) (state_of log).serial) ≡ (state_of log).halted
+conf-halted log legal = by_halt (state_of log) (state_of log).halted refl (published-count log legal)

@@ -1,7 +1,6 @@
 -- How often a history stops and cleans what a holder names.
-use Rattle.std.proofs.Common.{◌≡◌, ℕ, ◌+◌, ◌==◌, zero, suc, Bool, true, false, ◌&&◌, not, cond, nat_lt, nat_le, List, [], ◌∷◌, ◌++◌, slice_get, Option, Some, None, option_map, refl, sym, ap, ◌∙◌, ⊎_elim, arith}
-use Rattle.std.proofs.lemmas.Bool.Decides.{nat_tests, eqb_tells}
-use Rattle.std.proofs.lemmas.Bool.{eqb-true}
+use Rattle.std.proofs.Common.{◌≡◌, ℕ, ◌+◌, ◌==◌, Bool, true, false, ◌&&◌, cond, nat_lt, nat_le, List, [], ◌∷◌, slice_get, Option, Some, None, refl, sym, ◌∙◌, arith}
+use Rattle.std.proofs.lemmas.Bool.Decides.{nat_tests}
 use Rattle.cd_outside.specs.declared.key.Key.{Key}
 use Rattle.cd_outside.specs.declared.holder.Holder.{Holder}
 use Rattle.cd_outside.specs.declared.holder.Pair.{Pair}
@@ -9,20 +8,20 @@ use Rattle.cd_outside.specs.Keys.{holder_eq, bool_eq}
 use Rattle.cd_tree.specs.declared.tree.Tree.{Tree}
 use Rattle.cd_legal.specs.declared.plan.Plan.{Plan}
 use Rattle.cd_legal.specs.declared.entry.Entry.{Entry}
-use Rattle.cd_legal.specs.declared.entry.Entry.TheVariants.{Draft, Made, Started, Publish, Abandon, Stopped, Begin, Finish, Retire, Cleaned, Halt}
+use Rattle.cd_legal.specs.declared.entry.Entry.TheVariants.{Draft, Made, Started, Publish, Abandon, Stopped, Cleaned}
 use Rattle.cd_legal.specs.declared.state.State.{State}
 use Rattle.cd_legal.specs.declared.state.Drafted.{Drafted}
-use Rattle.cd_legal.specs.State.{opening_state, holds, change_at, is_live, is_over, is_done, all_stopped, instance_of, app_of, new_draft}
-use Rattle.cd_legal.specs.Legal.{allowed, after, legal_from, legal, state_from, state_of, may_make, may_start, may_stop, may_clean, is_complete, is_open}
+use Rattle.cd_legal.specs.State.{opening_state, is_live, instance_of, app_of, new_draft}
+use Rattle.cd_legal.specs.Legal.{allowed, after, legal_from, legal, state_from, state_of, may_make, may_start, may_stop, may_clean, is_complete}
 use Rattle.cd_legal.specs.Whole.{ended}
 use Rattle.cd_legal.proofs.Histories.{first, second}
-use Rattle.cd_legal.proofs.Places.{get_change_same, get_change_other}
-use Rattle.cd_legal.proofs.Counting.{made_of, add_none, plus_none, counted}
+use Rattle.cd_legal.proofs.Facts.{makes, starts, stops, cleans, can}
+use Rattle.cd_legal.proofs.Counting.{made_of, plus_none, counted, kept, pushed, one_more}
 use Rattle.cd_legal.proofs.Sound.{is_sound, bound_of, are_sound, sound, sound_at, live_whole}
 
 -- how many instances of a draft are cleaned, or apps stopped
-abbrev pub over_of : Bool → Drafted → ℕ
-over_of app x = cond app x.stopped x.cleaned
+abbrev pub ended_of : Bool → Drafted → ℕ
+ended_of app x = cond app x.stopped x.cleaned
 
 -- whether the place is among the last so many of those that were made
 abbrev pub past : ℕ → ℕ → ℕ → ℕ
@@ -30,22 +29,13 @@ past place made over = cond (nat_lt place made && nat_le made (place + over)) 1 
 
 abbrev pub ended_by : Bool → ℕ → Option Drafted → ℕ
 ended_by app place None = 0
-ended_by app place (Some x) = past place (made_of app x) (over_of app x)
+ended_by app place (Some x) = past place (made_of app x) (ended_of app x)
 
 -- whether the state has ended what the holder names
 abbrev pub ended_in : Holder → State → ℕ
 ended_in h s = ended_by h.app h.place (slice_get s.drafts h.draft)
 
 -- ---- entries that end nothing
-
-module _ (app : Bool) (p : ℕ) (may : Drafted → Bool) (f : Drafted → Drafted) (same : (x : Drafted) → may x ≡ true → ended_by app p (Some (f x)) ≡ ended_by app p (Some x)) where
-  -- a change that ends nothing
-  kept : (xs : List Drafted) (d j : ℕ) → holds may (slice_get xs d) ≡ true → ended_by app p (slice_get (change_at f d xs) j) ≡ ended_by app p (slice_get xs j)
-  kept [] d j m = refl
-  kept (x ∷ xs) zero zero m = same x m
-  kept (x ∷ xs) zero (suc j) m = refl
-  kept (x ∷ xs) (suc d) zero m = refl
-  kept (x ∷ xs) (suc d) (suc j) m = kept xs d j m
 
 none_past : (p : ℕ) → past p 0 0 ≡ 0
 none_past p = grind (arith, nat_tests)
@@ -54,13 +44,6 @@ none_past p = grind (arith, nat_tests)
 new_past : (app : Bool) (p : ℕ) (tree : Tree) (plan : Plan) → ended_by app p (Some (new_draft tree plan)) ≡ 0
 new_past true p tree plan = none_past p
 new_past false p tree plan = none_past p
-
--- so a new draft ends nothing
-drafted : (app : Bool) (p : ℕ) (tree : Tree) (plan : Plan) (xs : List Drafted) (j : ℕ) → ended_by app p (slice_get (xs ++ new_draft tree plan ∷ []) j) ≡ ended_by app p (slice_get xs j)
-drafted app p tree plan [] zero = new_past app p tree plan
-drafted app p tree plan [] (suc j) = refl
-drafted app p tree plan (x ∷ xs) zero = refl
-drafted app p tree plan (x ∷ xs) (suc j) = drafted app p tree plan xs j
 
 not_past : (p m e : ℕ) → e ≡ 0 → past p m e ≡ 0
 not_past p m e none = grind (arith, nat_tests)
@@ -72,11 +55,11 @@ still_none p m e none = not_past p (m + 1) e none ∙ sym (not_past p m e none)
 -- one more instance of a sound draft
 made_one : (bound i taken : ℕ) (failed : Option Key) (ps : List Pair) (app : Bool) (p : ℕ) (x : Drafted) → (is_sound bound x && may_make i taken failed ps x) ≡ true → ended_by app p (Some (record x { made = x.made + 1; failed = failed })) ≡ ended_by app p (Some x)
 made_one bound i taken failed ps true p x m = refl
-made_one bound i taken failed ps false p x m = still_none p x.made x.cleaned (live_whole bound x (first (is_open x) _ (second (is_sound bound x) _ m)) (first (is_sound bound x) _ m)).1
+made_one bound i taken failed ps false p x m = still_none p x.made x.cleaned (live_whole bound x (makes i taken failed ps x (second (is_sound bound x) _ m)).opened.live (first (is_sound bound x) _ m)).1
 
 -- one more app
 started_one : (bound a taken : ℕ) (failed : Option Key) (ps : List Pair) (app : Bool) (p : ℕ) (x : Drafted) → (is_sound bound x && may_start a taken failed ps x) ≡ true → ended_by app p (Some (record x { started = x.started + 1; failed = failed })) ≡ ended_by app p (Some x)
-started_one bound a taken failed ps true p x m = still_none p x.started x.stopped (live_whole bound x (first (is_open x) _ (second (is_sound bound x) _ m)) (first (is_sound bound x) _ m)).0
+started_one bound a taken failed ps true p x m = still_none p x.started x.stopped (live_whole bound x (starts a taken failed ps x (second (is_sound bound x) _ m)).opened.live (first (is_sound bound x) _ m)).0
 started_one bound a taken failed ps false p x m = refl
 
 -- ---- entries that end one more
@@ -87,59 +70,31 @@ past_more p a e m is = grind (arith, nat_tests)
 
 -- an app is stopped
 stopped_one : (a serial : ℕ) (app : Bool) (p : ℕ) (x : Drafted) → may_stop a serial x ≡ true → ended_by app p (Some (record x { stopped = x.stopped + 1 })) ≡ cond (bool_eq app true && (p == a)) 1 0 + ended_by app p (Some x)
-stopped_one a serial true p x m = past_more p a x.stopped x.started (eqb-true (a + 1 + x.stopped) x.started (second (is_over serial x.life) _ m))
+stopped_one a serial true p x m = past_more p a x.stopped x.started (stops a serial x m).next
 stopped_one a serial false p x m = plus_none _ _ refl
 
 -- an instance is cleaned
 cleaned_one : (i : ℕ) (retired : List ℕ) (app : Bool) (p : ℕ) (x : Drafted) → may_clean i retired x ≡ true → ended_by app p (Some (record x { cleaned = x.cleaned + 1 })) ≡ cond (bool_eq app false && (p == i)) 1 0 + ended_by app p (Some x)
 cleaned_one i retired true p x m = plus_none _ _ refl
-cleaned_one i retired false p x m = past_more p i x.cleaned x.made (eqb-true (i + 1 + x.cleaned) x.made (second (all_stopped x) _ (second (is_done retired x.life) _ m)))
-
-module _ (h g : Holder) (may : Drafted → Bool) (f : Drafted → Drafted) (one : (x : Drafted) → may x ≡ true → ended_by h.app h.place (Some (f x)) ≡ cond (bool_eq h.app g.app && (h.place == g.place)) 1 0 + ended_by h.app h.place (Some x)) where
-  -- in the draft that the holder names
-  here : (o : Option Drafted) → holds may o ≡ true → ended_by h.app h.place (option_map f o) ≡ cond (bool_eq h.app g.app && (h.place == g.place)) 1 0 + ended_by h.app h.place o
-  here None m = cc
-  here (Some x) m = one x m
-
-  here_if : (b : Bool) (o : Option Drafted) → b ≡ true → holds may o ≡ true → ended_by h.app h.place (option_map f o) ≡ cond (b && (bool_eq h.app g.app && (h.place == g.place))) 1 0 + ended_by h.app h.place o
-  here_if true o b m = here o m
-  here_if false o b m = cc
-
-  -- so in the state
-  one_more : (xs : List Drafted) → holds may (slice_get xs g.draft) ≡ true → ended_by h.app h.place (slice_get (change_at f g.draft xs) h.draft) ≡ cond (holder_eq h g) 1 0 + ended_by h.app h.place (slice_get xs h.draft)
-  one_more xs m = ⊎_elim
-      (λ q. ap (λ z. ended_by h.app h.place (slice_get (change_at f g.draft xs) z)) q.1 ∙ (ap (ended_by h.app h.place) (get_change_same f xs g.draft)
-      ∙ (here_if (h.draft == g.draft) (slice_get xs g.draft) q.0 m ∙ ap (λ z. cond (holder_eq h g) 1 0 + ended_by h.app h.place (slice_get xs z)) (sym q.1))))
-      (λ q. ap (ended_by h.app h.place) (get_change_other f xs g.draft h.draft q.1) ∙ add_none (h.draft == g.draft) (bool_eq h.app g.app && (h.place == g.place)) (ended_by h.app h.place (slice_get xs h.draft)) q.0) (eqb_tells h.draft g.draft)
+cleaned_one i retired false p x m = past_more p i x.cleaned x.made (cleans i retired x m).next
 
 -- ---- a history
 
 -- what one entry ends
 step : (h : Holder) (s : State) (e : Entry) → are_sound s ≡ true → allowed s e ≡ true → ended_in h (after s e) ≡ ended h (e ∷ []) + ended_in h s
-step h s (Draft d tree plan) all may = plus_none _ _ (drafted h.app h.place tree plan s.drafts h.draft)
-step h s (Made d i taken failed) all may = plus_none _ _ (kept h.app h.place (λ x. is_sound (bound_of s) x && may_make i taken failed s.pairs x) _ (made_one (bound_of s) i taken failed s.pairs h.app h.place) s.drafts d h.draft (sound_at s d (may_make i taken failed s.pairs) all may))
-step h s (Started d a taken failed) all may = plus_none _ _ (kept h.app h.place (λ x. is_sound (bound_of s) x && may_start a taken failed s.pairs x) _ (started_one (bound_of s) a taken failed s.pairs h.app h.place) s.drafts d h.draft (sound_at s d (may_start a taken failed s.pairs) all may))
-step h s (Publish d n from c) all may = plus_none _ _ (kept h.app h.place is_complete _ (λ x m. refl) s.drafts d h.draft (first (holds is_complete (slice_get s.drafts d)) _ (second (not s.halted) _ may)))
-step h s (Abandon d) all may = plus_none _ _ (kept h.app h.place (λ x. is_live x.life) _ (λ x m. refl) s.drafts d h.draft may)
-step h s (Stopped d a) all may = one_more h (app_of d a) (may_stop a s.serial) _ (stopped_one a s.serial h.app h.place) s.drafts may
-step h s (Begin k n) all may = plus_none _ _ refl
-step h s (Finish k) all may = plus_none _ _ refl
-step h s (Retire n) all may = plus_none _ _ refl
-step h s (Cleaned d i) all may = one_more h (instance_of d i) (may_clean i s.retired) _ (cleaned_one i s.retired h.app h.place) s.drafts may
-step h s (Halt n) all may = plus_none _ _ refl
+step h s (Draft d tree plan) all may = plus_none _ _ (pushed (ended_by h.app h.place) (new_draft tree plan) (new_past h.app h.place tree plan) s.drafts h.draft)
+step h s (Made d i taken failed) all may = plus_none _ _ (kept (ended_by h.app h.place) (λ x. is_sound (bound_of s) x && may_make i taken failed s.pairs x) _ (made_one (bound_of s) i taken failed s.pairs h.app h.place) s.drafts d h.draft (sound_at s d (may_make i taken failed s.pairs) all may))
+step h s (Started d a taken failed) all may = plus_none _ _ (kept (ended_by h.app h.place) (λ x. is_sound (bound_of s) x && may_start a taken failed s.pairs x) _ (started_one (bound_of s) a taken failed s.pairs h.app h.place) s.drafts d h.draft (sound_at s d (may_start a taken failed s.pairs) all may))
+step h s (Publish d n from c) all may = plus_none _ _ (kept (ended_by h.app h.place) is_complete _ (λ x m. refl) s.drafts d h.draft (can s (Publish d n from c) may).complete)
+step h s (Abandon d) all may = plus_none _ _ (kept (ended_by h.app h.place) (λ x. is_live x.life) _ (λ x m. refl) s.drafts d h.draft may)
+step h s (Stopped d a) all may = one_more (ended_by h.app h.place) h (app_of d a) (may_stop a s.serial) _ (stopped_one a s.serial h.app h.place) s.drafts may
+step h s (Cleaned d i) all may = one_more (ended_by h.app h.place) h (instance_of d i) (may_clean i s.retired) _ (cleaned_one i s.retired h.app h.place) s.drafts may
+step h s e all may = plus_none _ _ refl
 
 ended-cons : (h : Holder) (e : Entry) (es : List Entry) → ended h (e ∷ es) ≡ ended h (e ∷ []) + ended h es
-ended-cons h (Draft d tree plan) es = plus_none _ _ refl
-ended-cons h (Made d i taken failed) es = plus_none _ _ refl
-ended-cons h (Started d a taken failed) es = plus_none _ _ refl
-ended-cons h (Publish d n from c) es = plus_none _ _ refl
-ended-cons h (Abandon d) es = plus_none _ _ refl
 ended-cons h (Stopped d a) es = counted (holder_eq h (app_of d a)) (ended h es)
-ended-cons h (Begin k n) es = plus_none _ _ refl
-ended-cons h (Finish k) es = plus_none _ _ refl
-ended-cons h (Retire n) es = plus_none _ _ refl
 ended-cons h (Cleaned d i) es = counted (holder_eq h (instance_of d i)) (ended h es)
-ended-cons h (Halt n) es = plus_none _ _ refl
+ended-cons h e es = plus_none _ _ refl
 
 ended_from : (h : Holder) (s : State) (log : List Entry) → are_sound s ≡ true → legal_from s log ≡ true → ended_in h s + ended h log ≡ ended_in h (state_from s log)
 ended_from h s [] all legal = omega arith

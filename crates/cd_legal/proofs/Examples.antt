@@ -14,17 +14,17 @@ use Rattle.cd_legal.specs.declared.state.Drafted.{Drafted}
 use Rattle.cd_legal.specs.declared.state.Life.TheVariants.{Live, Published, Abandoned}
 use Rattle.cd_legal.specs.declared.state.OpenTicket.{OpenTicket}
 use Rattle.cd_legal.specs.Entry.{signed, mine}
-use Rattle.cd_legal.specs.State.{opening_state, holds, holds_if_there, has_number, is_live, is_over, is_done, all_stopped, all_cleaned, of_draft, apps_stopped, has_ticket, is_ticketed, ticket_of, open_by, open_at, new_draft, Conf, conf_of}
+use Rattle.cd_legal.specs.State.{opening_state, holds, holds_if_there, has_number, is_live, may_stop_apps, may_clean_instances, all_stopped, all_cleaned, of_draft, apps_stopped, has_ticket, is_ticketed, ticket_of, open_by, open_at, new_draft, Conf, conf_of}
 use Rattle.cd_legal.specs.Legal.{keys_fit, is_open, may_make, may_start, is_complete, may_stop, may_clean, may_retire, allowed, legal}
-use Rattle.cd_legal.specs.Laws.{core, tickets_allow, tickets_fit}
-use Rattle.cd_legal.specs.Calls.{is_shut}
-use Rattle.cd_legal.specs.Whole.{is_finished, all_retired}
+use Rattle.cd_legal.specs.Laws.{core, core_at, is_core, bare, tickets_allow, tickets_fit}
+use Rattle.cd_legal.specs.Calls.{is_shut, failures}
+use Rattle.cd_legal.specs.Whole.{nothing_left_of, is_closed, is_closed_in, all_apps_stopped, nothing_left, all_retired}
 use Rattle.cd_legal.specs.Placed.{Placed, placed, through}
 use Rattle.cd_legal.specs.Fresh.{is_fresh_at, is_fresh}
 use Rattle.cd_legal.specs.Owing.{Owes, owes_nothing, owes_of}
-use Rattle.cd_legal.specs.Signing.{owes_draft, may_sign, are_signed}
+use Rattle.cd_legal.specs.Signing.{owes_draft, is_live_in, may_sign, are_signed}
 use Rattle.cd_legal.specs.Begins.{begins_at, begins_now}
-use Rattle.cd_legal.specs.Serials.{has_serial, has_serial_in, times}
+use Rattle.cd_legal.specs.Serials.{has_serial, has_serial_in, times, is_halted, publishings}
 use Rattle.cd_legal.specs.Abandoned.{is_entry_of, is_draft, is_abandoned, is_abandoned_in}
 
 abbrev x_key : Key
@@ -59,7 +59,7 @@ of_tickets = (refl, refl, refl, refl, refl, refl)
 lives : (is_live Live ≡ true) × (is_live (Published 1) ≡ false) × (is_live Abandoned ≡ false) × (is_abandoned Abandoned ≡ true) × (is_abandoned Live ≡ false) × (is_abandoned (Published 1) ≡ false)
 lives = (refl, refl, refl, refl, refl, refl)
 
-ends : (is_over 2 (Published 1) ≡ true) × (is_over 2 (Published 2) ≡ false) × (is_over 2 Live ≡ false) × (is_over 0 Abandoned ≡ true) × (is_done (1 ∷ []) (Published 1) ≡ true) × (is_done (1 ∷ []) (Published 2) ≡ false) × (is_done (1 ∷ []) Live ≡ false) × (is_done [] Abandoned ≡ true)
+ends : (may_stop_apps 2 (Published 1) ≡ true) × (may_stop_apps 2 (Published 2) ≡ false) × (may_stop_apps 2 Live ≡ false) × (may_stop_apps 0 Abandoned ≡ true) × (may_clean_instances (1 ∷ []) (Published 1) ≡ true) × (may_clean_instances (1 ∷ []) (Published 2) ≡ false) × (may_clean_instances (1 ∷ []) Live ≡ false) × (may_clean_instances [] Abandoned ≡ true)
 ends = (refl, refl, refl, refl, refl, refl, refl, refl)
 
 serials : (has_serial 1 (Published 1) ≡ true) × (has_serial 2 (Published 1) ≡ false) × (has_serial 0 Live ≡ false) × (has_serial 0 Abandoned ≡ false)
@@ -103,7 +103,7 @@ module _ (t : Tree) (c : Change) where
   cleans : (may_clean 0 (1 ∷ []) (record ran { stopped = 1 }) ≡ true) × (may_clean 0 (1 ∷ []) ran ≡ false) × (may_clean 0 [] (record ran { stopped = 1 }) ≡ false) × (all_cleaned ran ≡ false) × (all_cleaned (record ran { cleaned = 1 }) ≡ true)
   cleans = (refl, refl, refl, refl, refl)
 
-  finishes : (is_finished [] whole ≡ true) × (is_finished (1 ∷ []) ran ≡ false) × (is_finished (1 ∷ []) (record ran { stopped = 1; cleaned = 1 }) ≡ true) × (is_finished [] (record whole { life = Abandoned; stopped = 1 }) ≡ false)
+  finishes : (nothing_left_of [] whole ≡ true) × (nothing_left_of (1 ∷ []) ran ≡ false) × (nothing_left_of (1 ∷ []) (record ran { stopped = 1; cleaned = 1 }) ≡ true) × (nothing_left_of [] (record whole { life = Abandoned; stopped = 1 }) ≡ false)
   finishes = (refl, refl, refl, refl)
 
   retirings : (all_retired 2 (1 ∷ 0 ∷ []) ≡ true) × (all_retired 2 (1 ∷ []) ≡ false) × (all_retired 2 (2 ∷ 0 ∷ []) ≡ false) × (all_retired 0 [] ≡ true)
@@ -140,6 +140,22 @@ module _ (t : Tree) (c : Change) where
 
   allows : (allowed running (Halt 2) ≡ true) × (allowed running (Halt 3) ≡ false) × (allowed halted (Halt 3) ≡ false) × (legal [] ≡ true) × (legal (Halt 1 ∷ []) ≡ true) × (legal (Halt 2 ∷ []) ≡ false) × (legal (Halt 1 ∷ Halt 2 ∷ []) ≡ false)
   allows = (refl, refl, refl, refl, refl, refl, refl)
+
+  closed : (is_closed (1 ∷ []) (record ran { stopped = 1; cleaned = 1 }) ≡ true) × (is_closed (1 ∷ []) (record ran { stopped = 1 }) ≡ false) × (is_closed [] (record ran { stopped = 1; cleaned = 1 }) ≡ false) × (is_closed_in running 0 ≡ false) × (is_closed_in running 1 ≡ false)
+      × (is_closed_in (record stopped { drafts = record ran { stopped = 1; cleaned = 1 } ∷ []; retired = 1 ∷ [] }) 0 ≡ true)
+  closed = (refl, refl, refl, refl, refl, refl)
+
+  left : (all_apps_stopped halted 1 ≡ true) × (all_apps_stopped halted 2 ≡ false) × (nothing_left running ≡ true) × (nothing_left halted ≡ false) × (nothing_left stopped ≡ true) × (nothing_left (record stopped { retired = 1 ∷ [] }) ≡ false)
+  left = (refl, refl, refl, refl, refl, refl)
+
+  live_in : (is_live_in running 0 ≡ false) × (is_live_in (record running { drafts = whole ∷ [] }) 0 ≡ true) × (is_live_in running 1 ≡ false)
+  live_in = (refl, refl, refl)
+
+  halts : (is_halted Conf.Halted ≡ true) × (is_halted Conf.Opening ≡ false) × (is_halted (Conf.Of t) ≡ false) × (publishings (Publish 0 1 0 c ∷ Abandon 1 ∷ Publish 2 2 1 c ∷ []) ≡ 2) × (failures (Made 0 0 0 (Some x_key) ∷ Started 0 0 1 None ∷ Started 0 1 0 (Some y_key) ∷ Made 1 0 1 None ∷ []) ≡ 2)
+  halts = (refl, refl, refl, refl, refl)
+
+  cores : (is_core (Begin 1 0) ≡ false) × (is_core (Finish 1) ≡ false) × (is_core (Retire 0) ≡ true) × (core_at (signed 1 (Begin 1 0) ∷ signed 2 (Halt 1) ∷ []) ≡ signed 2 (Halt 1) ∷ []) × ((bare running).tickets ≡ [])
+  cores = (refl, refl, refl, refl, refl)
 
   -- ---- tickets apart
 

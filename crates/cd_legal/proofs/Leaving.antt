@@ -11,7 +11,7 @@ use Rattle.cd_outside.specs.Keys.{keys_of, pairs_for}
 use Rattle.cd_tree.specs.declared.tree.Tree.{Tree}
 use Rattle.cd_legal.specs.declared.plan.Plan.{Plan}
 use Rattle.cd_legal.specs.declared.entry.Entry.{Entry}
-use Rattle.cd_legal.specs.declared.entry.Entry.TheVariants.{Draft, Made, Started, Publish, Abandon, Stopped, Begin, Finish, Retire, Cleaned, Halt}
+use Rattle.cd_legal.specs.declared.entry.Entry.TheVariants.{Draft, Made, Started, Publish, Abandon, Stopped, Cleaned}
 use Rattle.cd_legal.specs.declared.state.State.{State}
 use Rattle.cd_legal.specs.declared.state.Drafted.{Drafted}
 use Rattle.cd_legal.specs.State.{opening_state, holds_if_there, change_at, conf_of, conf_in, conf_at, Conf, instance_of, app_of, module_keys, app_keys, keys_for, new_draft}
@@ -46,7 +46,7 @@ slice_get-push (y ∷ xs) x zero e = refl
 slice_get-push (y ∷ xs) x (suc j) e = slice_get-push xs x j (low j (length xs) e)
 
 -- and those at all other places
-slice_get-push_other : (xs : List Drafted) (x : Drafted) (j : ℕ) → j ≢ length xs → slice_get (xs ++ x ∷ []) j ≡ slice_get xs j
+pub slice_get-push_other : (xs : List Drafted) (x : Drafted) (j : ℕ) → j ≢ length xs → slice_get (xs ++ x ∷ []) j ≡ slice_get xs j
 slice_get-push_other [] x zero ne = absurd (ne refl)
 slice_get-push_other [] x (suc j) ne = refl
 slice_get-push_other (y ∷ xs) x zero ne = refl
@@ -117,11 +117,8 @@ one d s (Started j a taken failed) es all legal gone is = own s (Started j a tak
 one d s (Publish j n from c) es all legal gone is = absurd (let e : false ≡ true = never_published s j n from c es legal (subst (λ z. is_abandoned_in (state_from (after s (Publish j n from c)) es) z ≡ true) (sym (eqb-true j d is)) gone) in cc)
 one d s (Abandon j) es all legal gone is = own s (Abandon j) d j is (changes j s _ s.pairs (λ x. refl) refl)
 one d s (Stopped j a) es all legal gone is = own s (Stopped j a) d j is (changes j s _ _ (λ x. refl) (others-without_own j (app_of j a) refl s.pairs))
-one d s (Begin k n) es all legal gone is = cc
-one d s (Finish k) es all legal gone is = cc
-one d s (Retire n) es all legal gone is = cc
 one d s (Cleaned j i) es all legal gone is = own s (Cleaned j i) d j is (changes j s _ _ (λ x. refl) (others-without_own j (instance_of j i) refl s.pairs))
-one d s (Halt n) es all legal gone is = cc
+one d s e es all legal gone is = cc
 
 -- ---- where it stands in a history
 

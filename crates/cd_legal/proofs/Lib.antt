@@ -1,6 +1,8 @@
 pub mod Histories
+pub mod Facts
 pub mod Places
 pub mod Apart
+pub mod Cores
 pub mod Counting
 pub mod Logs
 pub mod Owing
@@ -13,12 +15,15 @@ pub mod Parts
 pub mod Filters
 pub mod Replayed
 pub mod Others
+pub mod Effects
 pub mod Lives
 pub mod Serials
 pub mod Leaving
 pub mod Confs
+pub mod Owners
 pub mod Shutting
 pub mod Undone
+pub mod Closed
 pub mod Sound
 pub mod Ending
 pub mod Running

@@ -1,19 +1,21 @@
 -- What was published stays so, and is there.
-use Rattle.std.proofs.Common.{◌≡◌, ◌≤◌, ◌<◌, ℕ, Bool, true, false, not, nat_lt, List, [], ◌∷◌, ◌++◌, length, slice_get, Option, Some, None, refl, sym, subst, ◌∙◌, arith}
+use Rattle.std.proofs.Common.{⊎_elim, ap, ◌≡◌, ◌≤◌, ◌<◌, ℕ, Bool, true, false, nat_lt, List, [], ◌∷◌, ◌++◌, length, slice_get, Option, Some, None, refl, sym, subst, ◌∙◌, arith}
 use Rattle.std.specs.List.{list_all}
 use Rattle.std.proofs.lemmas.Bool.Decides.{nat_tests}
 use Rattle.std.proofs.lemmas.List.Folds.{list_all-append}
 use Rattle.cd_legal.specs.declared.entry.Change.{Change}
 use Rattle.cd_legal.specs.declared.entry.Entry.{Entry}
-use Rattle.cd_legal.specs.declared.entry.Entry.TheVariants.{Draft, Made, Started, Publish, Abandon, Stopped, Begin, Finish, Retire, Cleaned, Halt}
+use Rattle.cd_legal.specs.declared.entry.Entry.TheVariants.{Publish}
 use Rattle.cd_legal.specs.declared.state.State.{State}
 use Rattle.cd_legal.specs.declared.state.Drafted.{Drafted}
 use Rattle.cd_legal.specs.declared.state.Life.{Life}
 use Rattle.cd_legal.specs.declared.state.Life.TheVariants.{Live, Published, Abandoned}
 use Rattle.cd_legal.specs.State.{holds, is_live, change_at}
-use Rattle.cd_legal.specs.Legal.{allowed, after, legal_from, state_from, may_make, may_start, may_stop, may_clean, is_complete}
+use Rattle.cd_legal.specs.Legal.{allowed, after, legal_from, state_from, is_complete}
 use Rattle.cd_legal.specs.Abandoned.{is_abandoned, is_abandoned_in}
-use Rattle.cd_legal.proofs.Histories.{both, first, second}
+use Rattle.cd_legal.proofs.Histories.{both, first, second, along}
+use Rattle.cd_legal.proofs.Facts.{can}
+use Rattle.cd_legal.proofs.Effects.{effect, drafts-stay}
 use Rattle.cd_legal.proofs.Places.{holds_kept, holds_made, holds_push, holds_within, length_change}
 
 abbrev is_published : Life → Bool
@@ -28,34 +30,27 @@ ran x = is_published x.life
 abbrev pub is_published_in : State → ℕ → Bool
 is_published_in s d = holds ran (slice_get s.drafts d)
 
--- none is live and was published
-not_live : (l : Life) → is_live l ≡ true → is_published l ≡ true → is_published Abandoned ≡ true
-not_live Live live is = cc
-not_live (Published n) live is = cc
-not_live Abandoned live is = cc
+-- one that was published is not live
+ran_dead : (l : Life) → is_published l ≡ true → is_live l ≡ false
+ran_dead Live is = cc
+ran_dead (Published n) is = refl
+ran_dead Abandoned is = refl
 
 -- a draft that may be published
 pub complete : (s : State) (d n from : ℕ) (c : Change) → allowed s (Publish d n from c) ≡ true → holds is_complete (slice_get s.drafts d) ≡ true
-complete s d n from c may = first (holds is_complete (slice_get s.drafts d)) _ (second (not s.halted) _ may)
+complete s d n from c may = (can s (Publish d n from c) may).complete
 
 -- one entry leaves it so
 stays : (s : State) (e : Entry) (d : ℕ) → allowed s e ≡ true → is_published_in s d ≡ true → is_published_in (after s e) d ≡ true
-stays s (Draft j tree plan) d may is = holds_push ran _ s.drafts d is
-stays s (Made j i taken failed) d may is = holds_kept ran (may_make i taken failed s.pairs) _ (λ x m t. t) s.drafts j d may is
-stays s (Started j a taken failed) d may is = holds_kept ran (may_start a taken failed s.pairs) _ (λ x m t. t) s.drafts j d may is
-stays s (Publish j n from c) d may is = holds_kept ran is_complete _ (λ x m t. refl) s.drafts j d (complete s j n from c may) is
-stays s (Abandon j) d may is = holds_kept ran (λ x. is_live x.life) _ (λ x m t. not_live x.life m t) s.drafts j d may is
-stays s (Stopped j a) d may is = holds_kept ran (may_stop a s.serial) _ (λ x m t. t) s.drafts j d may is
-stays s (Begin k n) d may is = is
-stays s (Finish k) d may is = is
-stays s (Retire n) d may is = is
-stays s (Cleaned j i) d may is = holds_kept ran (may_clean i s.retired) _ (λ x m t. t) s.drafts j d may is
-stays s (Halt n) d may is = is
+stays s e d may is = ⊎_elim
+    (λ q. ap (λ (xs : List Drafted). holds ran (slice_get xs d)) q ∙ is)
+    (λ q. ⊎_elim
+    (λ r. ap (λ (xs : List Drafted). holds ran (slice_get xs d)) r.drafts ∙ holds_push ran r.draft s.drafts d is)
+    (λ r. ap (λ (xs : List Drafted). holds ran (slice_get xs d)) r.drafts ∙ holds_kept ran r.test r.change (λ x m t. ap is_published (r.life x m (ran_dead x.life t)) ∙ t) s.drafts r.place d r.passes is) q) (effect s e may)
 
 -- so does a history
 stays_from : (s : State) (log : List Entry) (d : ℕ) → legal_from s log ≡ true → is_published_in s d ≡ true → is_published_in (state_from s log) d ≡ true
-stays_from s [] d legal is = is
-stays_from s (e ∷ es) d legal is = stays_from (after s e) es d (second (allowed s e) _ legal) (stays s e d (first (allowed s e) _ legal) is)
+stays_from s log d legal is = along (λ t. is_published_in t d ≡ true) (λ t e may had. stays t e d may had) s log legal is
 
 -- so a draft that is abandoned at the end was not published
 pub never_published : (s : State) (d n from : ℕ) (c : Change) (es : List Entry) → legal_from s (Publish d n from c ∷ es) ≡ true → is_abandoned_in (state_from (after s (Publish d n from c)) es) d ≡ true → false ≡ true
@@ -86,10 +81,6 @@ lower_all : (m n : ℕ) → m ≤ n → (ds : List ℕ) → list_all (λ d. nat_
 lower_all m n up [] all = refl
 lower_all m n up (d ∷ ds) all = both (nat_lt d n) _ (lower d m n up (first (nat_lt d m) _ all)) (lower_all m n up ds (second (nat_lt d m) _ all))
 
-longer : (xs : List Drafted) (x : Drafted) → length xs ≤ length (xs ++ x ∷ [])
-longer [] x = omega arith
-longer (y ∷ xs) x = let rest = longer xs x in omega arith
-
 below : (d n : ℕ) → d < n → nat_lt d n ≡ true
 below d n e = grind (arith, nat_tests)
 
@@ -99,21 +90,11 @@ same_length s f d ds all = subst (λ (n : ℕ). list_all (λ j. nat_lt j n) ds �
 
 -- one entry leaves them so
 pub there : (s : State) (e : Entry) → allowed s e ≡ true → are_there s ≡ true → are_there (after s e) ≡ true
-there s (Draft j tree plan) may all = lower_all _ _ (longer s.drafts _) s.published all
-there s (Made j i taken failed) may all = same_length s _ j s.published all
-there s (Started j a taken failed) may all = same_length s _ j s.published all
 there s (Publish j n from c) may all =
     same_length s _ j (s.published ++ j ∷ []) (list_all-append (λ d. nat_lt d (length s.drafts)) s.published (j ∷ [])
     ∙ both (list_all (λ d. nat_lt d (length s.drafts)) s.published) _ all (both (nat_lt j (length s.drafts)) true (below j (length s.drafts) (holds_within is_complete s.drafts j (complete s j n from c may))) refl))
-there s (Abandon j) may all = same_length s _ j s.published all
-there s (Stopped j a) may all = same_length s _ j s.published all
-there s (Begin k n) may all = all
-there s (Finish k) may all = all
-there s (Retire n) may all = all
-there s (Cleaned j i) may all = same_length s _ j s.published all
-there s (Halt n) may all = all
+there s e may all = lower_all _ _ (drafts-stay s e may) s.published all
 
 -- each serial's draft is there after a legal history
 pub there_from : (s : State) (log : List Entry) → legal_from s log ≡ true → are_there s ≡ true → are_there (state_from s log) ≡ true
-there_from s [] legal all = all
-there_from s (e ∷ es) legal all = there_from (after s e) es (second (allowed s e) _ legal) (there s e (first (allowed s e) _ legal) all)
+there_from s log legal all = along (λ t. are_there t ≡ true) there s log legal all

@@ -8,9 +8,10 @@ use Rattle.cd_legal.specs.declared.state.State.{State}
 use Rattle.cd_legal.specs.Entry.{signed, entries, mine}
 use Rattle.cd_legal.specs.State.{opening_state}
 use Rattle.cd_legal.specs.Legal.{allowed, after, legal, legal_from, state_from, state_of, state_at, IsLegal}
+use Rattle.cd_legal.specs.Calls.{entry_calls, fixture_calls}
 use Rattle.cd_legal.specs.Owing.{owes_of}
 use Rattle.cd_legal.specs.Signing.{may_sign, are_signed_from, are_signed, IsHistory}
-use Rattle.cd_legal.proofs.Histories.{both, first, second, legal_from-snoc, legal_from-front, legal_from-back, state_from-append, entries-snoc}
+use Rattle.cd_legal.proofs.Histories.{both, first, second, legal_from-snoc, legal_from-front, legal_from-back, state_from-append, entries-snoc, calls_from-snoc}
 
 -- ---- prefixes
 
@@ -19,6 +20,19 @@ prefix_more xs ys zs p = (p.0 ++ zs, sym (append_assoc xs p.0 zs) ∙ ap (λ w. 
 
 pub prefix_trans : {A : Type 0} (xs ys zs : List A) → IsPrefix xs ys → IsPrefix ys zs → IsPrefix xs zs
 prefix_trans xs ys zs p q = (p.0 ++ q.0, sym (append_assoc xs p.0 q.0) ∙ (ap (λ w. w ++ q.0) p.1 ∙ q.1))
+
+-- lists that end with an entry are the same in both parts
+pub snoc_same : {A : Type 0} (xs ys : List A) (x y : A) → xs ++ x ∷ [] ≡ ys ++ y ∷ [] → (xs ≡ ys) × (x ≡ y)
+snoc_same [] [] x y is = (refl, cc)
+snoc_same [] (b ∷ []) x y is = absurd (let h : x ∷ [] ≡ b ∷ (y ∷ []) = is in cc)
+snoc_same [] (b ∷ c ∷ bs) x y is = absurd (let h : x ∷ [] ≡ b ∷ (c ∷ (bs ++ y ∷ [])) = is in cc)
+snoc_same (a ∷ []) [] x y is = absurd (let h : a ∷ (x ∷ []) ≡ y ∷ [] = is in cc)
+snoc_same (a ∷ c ∷ cs) [] x y is = absurd (let h : a ∷ (c ∷ (cs ++ x ∷ [])) ≡ y ∷ [] = is in cc)
+snoc_same (a ∷ az) (b ∷ bs) x y is =
+    let rest : az ++ x ∷ [] ≡ bs ++ y ∷ [] = cc in
+    let head : a ≡ b = cc in
+    let same = snoc_same az bs x y rest in
+    (ap (λ (z : List _). a ∷ z) same.0 ∙ ap (λ z. z ∷ bs) head, same.1)
 
 -- ---- their states
 
@@ -33,6 +47,10 @@ state-append xs ys = ap state_of (entries-append xs ys) ∙ state_from-append op
 -- what one entry more leaves
 pub state-snoc : (log : List Signed) (x : Signed) → state_at (log ++ x ∷ []) ≡ after (state_at log) x.entry
 state-snoc log x = state-append log (x ∷ [])
+
+-- what the fixtures are asked for by one entry more
+pub calls-snoc : (log : List Signed) (x : Signed) → fixture_calls (entries (log ++ x ∷ [])) ≡ fixture_calls (entries log) ++ entry_calls (state_at log) x.entry
+calls-snoc log x = ap fixture_calls (entries-snoc log x) ∙ calls_from-snoc opening_state (entries log) x.entry
 
 -- one entry more, which is allowed
 pub legal-snoc : (log : List Signed) (x : Signed) → IsLegal log → allowed (state_at log) x.entry ≡ true → IsLegal (log ++ x ∷ [])

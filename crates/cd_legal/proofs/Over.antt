@@ -12,13 +12,13 @@ use Rattle.cd_legal.specs.declared.state.State.{State}
 use Rattle.cd_legal.specs.declared.state.Drafted.{Drafted}
 use Rattle.cd_legal.specs.declared.state.Life.{Life}
 use Rattle.cd_legal.specs.declared.state.Life.TheVariants.{Live, Published, Abandoned}
-use Rattle.cd_legal.specs.State.{opening_state, holds, has_number, is_live, is_done, all_stopped, all_cleaned}
+use Rattle.cd_legal.specs.State.{opening_state, holds, has_number, is_live, may_clean_instances, all_stopped, all_cleaned}
 use Rattle.cd_legal.specs.Legal.{legal, state_of}
-use Rattle.cd_legal.specs.Whole.{IsWhole, IsOver, is_finished, all_retired}
+use Rattle.cd_legal.specs.Whole.{IsWhole, IsOver, nothing_left_of, all_retired}
 use Rattle.cd_legal.proofs.Histories.{both, first, second}
 use Rattle.cd_legal.proofs.Counting.{made_of, begun_by, begun-state, begun-once}
 use Rattle.cd_legal.proofs.Sound.{is_below, is_sound, is_unended_if_live, bound_of, are_sound, sound_from}
-use Rattle.cd_legal.proofs.Ending.{over_of, past, ended_by, ended-state}
+use Rattle.cd_legal.proofs.Ending.{ended_of, past, ended_by, ended-state}
 use Rattle.cd_legal.proofs.Running.{runs, runs_in, all_run, run_from}
 
 lower : (n m : ℕ) → nat_lt n (suc m) ≡ true → n ≢ m → nat_lt n m ≡ true
@@ -44,18 +44,18 @@ abbrev is_ended : Drafted → Bool
 is_ended x = all_stopped x && all_cleaned x
 
 -- a draft that is not live is done with where all serials are retired: so nothing of it is left
-ends : (serial : ℕ) (retired : List ℕ) → all_retired serial retired ≡ true → (l : Life) (q : Bool) → not (is_live l) ≡ true → is_below serial l ≡ true → (not (is_done retired l) || q) ≡ true → q ≡ true
+ends : (serial : ℕ) (retired : List ℕ) → all_retired serial retired ≡ true → (l : Life) (q : Bool) → not (is_live l) ≡ true → is_below serial l ≡ true → (not (may_clean_instances retired l) || q) ≡ true → q ≡ true
 ends serial retired all Live q gone low e = cc
 ends serial retired all (Published n) q gone low e = finished (has_number n retired) q (retired_below retired n serial all low) e
 ends serial retired all Abandoned q gone low e = e
 
 -- so of each draft
-all_end : (serial : ℕ) (retired : List ℕ) → all_retired serial retired ≡ true → (xs : List Drafted) → list_all (λ x. not (is_live x.life)) xs ≡ true → list_all (is_sound serial) xs ≡ true → list_all (is_finished retired) xs ≡ true → list_all is_ended xs ≡ true
+all_end : (serial : ℕ) (retired : List ℕ) → all_retired serial retired ≡ true → (xs : List Drafted) → list_all (λ x. not (is_live x.life)) xs ≡ true → list_all (is_sound serial) xs ≡ true → list_all (nothing_left_of retired) xs ≡ true → list_all is_ended xs ≡ true
 all_end serial retired all [] gone fine done = refl
 all_end serial retired all (x ∷ xs) gone fine done =
     both (is_ended x) _
-    (ends serial retired all x.life (is_ended x) (first (not (is_live x.life)) _ gone) (second (is_unended_if_live x) _ (first (is_sound serial x) _ fine)) (first (is_finished retired x) _ done))
-    (all_end serial retired all xs (second (not (is_live x.life)) _ gone) (second (is_sound serial x) _ fine) (second (is_finished retired x) _ done))
+    (ends serial retired all x.life (is_ended x) (first (not (is_live x.life)) _ gone) (second (is_unended_if_live x) _ (first (is_sound serial x) _ fine)) (first (nothing_left_of retired x) _ done))
+    (all_end serial retired all xs (second (not (is_live x.life)) _ gone) (second (is_sound serial x) _ fine) (second (nothing_left_of retired x) _ done))
 
 -- behind the halt
 bound : (s : State) → s.halted ≡ true → bound_of s ≡ s.serial
@@ -68,14 +68,14 @@ all_past : (p m e : ℕ) → e ≡ m → past p m e ≡ cond (nat_lt p m) 1 0
 all_past p m e is = grind (arith, nat_tests)
 
 -- of such a draft as many are ended as were made
-ended_equal : (app : Bool) (x : Drafted) → is_ended x ≡ true → over_of app x ≡ made_of app x
+ended_equal : (app : Bool) (x : Drafted) → is_ended x ≡ true → ended_of app x ≡ made_of app x
 ended_equal true x e = eqb-true x.stopped x.started (first (all_stopped x) _ e)
 ended_equal false x e = eqb-true x.cleaned x.made (second (all_stopped x) _ e)
 
 -- what the state has made it has ended
-same_count : (h : Holder) (xs : List Drafted) (j : ℕ) → list_all is_ended xs ≡ true → ended_by h.app h.place (slice_get xs j) ≡ begun_by h (slice_get xs j)
+same_count : (h : Holder) (xs : List Drafted) (j : ℕ) → list_all is_ended xs ≡ true → ended_by h.app h.place (slice_get xs j) ≡ begun_by h.app h.place (slice_get xs j)
 same_count h [] j all = refl
-same_count h (x ∷ xs) zero all = all_past h.place (made_of h.app x) (over_of h.app x) (ended_equal h.app x (first (is_ended x) _ all))
+same_count h (x ∷ xs) zero all = all_past h.place (made_of h.app x) (ended_of h.app x) (ended_equal h.app x (first (is_ended x) _ all))
 same_count h (x ∷ xs) (suc j) all = same_count h xs j (second (is_ended x) _ all)
 
 -- where all are ended, none runs
@@ -85,7 +85,7 @@ none_runs p e m is low = absurd (grind (arith, nat_tests))
 -- so no holder names one that runs
 nobody : (h : Holder) (xs : List Drafted) (j : ℕ) → list_all is_ended xs ≡ true → holds (runs h.app h.place) (slice_get xs j) ≡ true → false ≡ true
 nobody h [] j all is = is
-nobody h (x ∷ xs) zero all is = none_runs h.place (over_of h.app x) (made_of h.app x) (ended_equal h.app x (first (is_ended x) _ all)) is
+nobody h (x ∷ xs) zero all is = none_runs h.place (ended_of h.app x) (made_of h.app x) (ended_equal h.app x (first (is_ended x) _ all)) is
 nobody h (x ∷ xs) (suc j) all is = nobody h xs j (second (is_ended x) _ all) is
 
 -- and there is no pair

@@ -9,10 +9,10 @@ use Rattle.cd_legal.specs.State.{has_ticket, without_ticket, ticket_of}
 use Rattle.cd_legal.specs.Legal.{allowed, after, state_at}
 use Rattle.cd_legal.specs.Owing.{Owes, owes_by, owes_of}
 use Rattle.cd_legal.specs.Signing.{may_sign, IsHistory}
-use Rattle.cd_legal.proofs.Histories.{second}
+use Rattle.cd_legal.proofs.Facts.{can}
 use Rattle.cd_legal.proofs.Logs.{state-snoc, history-along}
 use Rattle.cd_legal.proofs.Owing.{owes-snoc}
-use Rattle.cd_legal.proofs.Callers.{ticket_of-own, ticket_of-other, ticket_of-without, ticket_of-without_other, not_false}
+use Rattle.cd_legal.proofs.Callers.{ticket_of-own, ticket_of-other, ticket_of-without, ticket_of-without_other}
 
 abbrev OwesTickets : List Signed → Type 0
 OwesTickets log = (k : ℕ) → (owes_of k log).ticket ≡ ticket_of k (state_at log).tickets
@@ -37,7 +37,7 @@ either false p o t is had = had
 
 -- one entry
 owed : (k by : ℕ) (e : Entry) (o own : Owes) (s : State) → allowed s e ≡ true → may_sign by own e ≡ true → o.ticket ≡ ticket_of k s.tickets → (cond (by == k) (owes_by o e) o).ticket ≡ ticket_of k (after s e).tickets
-owed k by (Begin caller n) o own s may signs had = begun (by == k) k by caller n o s refl (eqb-true caller by signs) (not_false (has_ticket caller s.tickets) (second (n == s.serial) _ may)) had
+owed k by (Begin caller n) o own s may signs had = begun (by == k) k by caller n o s refl (eqb-true caller by signs) (can s (Begin caller n) may).free had
 owed k by (Finish caller) o own s may signs had = finished (by == k) k by caller o s refl (eqb-true caller by signs) had
 owed k by e o own s may signs had = either (by == k) (owes_by o e) o (ticket_of k s.tickets) had had
 

@@ -2,27 +2,28 @@
 use Rattle.std.proofs.Common.{◌≡◌, ◌≢◌, ℕ, ◌+◌, ◌==◌, Bool, true, false, ◌&&◌, not, cond, nat_lt, List, [], ◌∷◌, ◌++◌, take, slice_get, Option, refl, sym, ap, ◌∙◌, ⊎_elim, arith, eq-eqb}
 use Rattle.std.specs.List.{list_all}
 use Rattle.std.proofs.lemmas.Bool.Decides.{nat_tests, eqb_tells}
-use Rattle.std.proofs.lemmas.Bool.{eqb-true, eqb-false}
+use Rattle.std.proofs.lemmas.Bool.{eqb-false}
 use Rattle.std.proofs.lemmas.List.Folds.{list_all-append}
 use Rattle.cd_outside.specs.declared.key.Key.{Key}
 use Rattle.cd_outside.specs.declared.holder.Holder.{Holder}
 use Rattle.cd_outside.specs.declared.holder.Pair.{Pair}
 use Rattle.cd_outside.specs.Keys.{holder_eq, bool_eq, without_holder, pairs_for}
 use Rattle.cd_legal.specs.declared.entry.Entry.{Entry}
-use Rattle.cd_legal.specs.declared.entry.Entry.TheVariants.{Draft, Made, Started, Publish, Abandon, Stopped, Begin, Finish, Retire, Cleaned, Halt}
+use Rattle.cd_legal.specs.declared.entry.Entry.TheVariants.{Draft, Made, Started, Publish, Abandon, Stopped, Cleaned}
 use Rattle.cd_legal.specs.declared.state.State.{State}
 use Rattle.cd_legal.specs.declared.state.Drafted.{Drafted}
-use Rattle.cd_legal.specs.State.{holds, change_at, is_live, is_over, is_done, all_stopped, instance_of, app_of, module_keys, app_keys, keys_for}
-use Rattle.cd_legal.specs.Legal.{allowed, after, legal_from, state_from, may_make, may_start, may_stop, may_clean, is_complete, is_open}
+use Rattle.cd_legal.specs.State.{holds, change_at, is_live, instance_of, app_of, module_keys, app_keys, keys_for}
+use Rattle.cd_legal.specs.Legal.{allowed, after, legal_from, state_from, may_make, may_start, may_stop, may_clean, is_complete}
 use Rattle.cd_legal.proofs.Histories.{both, first, second}
+use Rattle.cd_legal.proofs.Facts.{makes, starts, stops, cleans, can}
 use Rattle.cd_legal.proofs.Places.{get_change_other, holds_kept, holds_made, holds_push}
 use Rattle.cd_legal.proofs.Counting.{made_of}
 use Rattle.cd_legal.proofs.Sound.{is_sound, bound_of, are_sound, sound, sound_at, live_whole}
-use Rattle.cd_legal.proofs.Ending.{over_of}
+use Rattle.cd_legal.proofs.Ending.{ended_of}
 
 -- the place is made of the draft, and none of the last that are ended
 abbrev pub runs : Bool → ℕ → Drafted → Bool
-runs app p x = nat_lt (p + over_of app x) (made_of app x)
+runs app p x = nat_lt (p + ended_of app x) (made_of app x)
 
 -- so of the draft that the holder names
 abbrev pub runs_in : Holder → List Drafted → Bool
@@ -78,13 +79,13 @@ started_keeps false p failed x is = is
 -- and it runs itself
 made_runs : (bound i taken : ℕ) (failed : Option Key) (ps : List Pair) (x : Drafted) → (is_sound bound x && may_make i taken failed ps x) ≡ true → runs false i (record x { made = x.made + 1; failed = failed }) ≡ true
 made_runs bound i taken failed ps x m =
-    let may = second (is_sound bound x) _ m in
-    last i x.cleaned x.made (eqb-true i x.made (first (i == x.made) _ (second (is_open x) _ may))) (live_whole bound x (first (is_open x) _ may) (first (is_sound bound x) _ m)).1
+    let f = makes i taken failed ps x (second (is_sound bound x) _ m) in
+    last i x.cleaned x.made f.next (live_whole bound x f.opened.live (first (is_sound bound x) _ m)).1
 
 started_runs : (bound a taken : ℕ) (failed : Option Key) (ps : List Pair) (x : Drafted) → (is_sound bound x && may_start a taken failed ps x) ≡ true → runs true a (record x { started = x.started + 1; failed = failed }) ≡ true
 started_runs bound a taken failed ps x m =
-    let may = second (is_sound bound x) _ m in
-    last a x.stopped x.started (eqb-true a x.started (first (a == x.started) _ (second (x.made == _) _ (second (is_open x) _ may)))) (live_whole bound x (first (is_open x) _ may) (first (is_sound bound x) _ m)).0
+    let f = starts a taken failed ps x (second (is_sound bound x) _ m) in
+    last a x.stopped x.started f.next (live_whole bound x f.opened.live (first (is_sound bound x) _ m)).0
 
 -- ---- one more ended
 
@@ -94,13 +95,13 @@ next_down p a e m ne is t = grind (arith, nat_tests)
 
 -- an app is stopped
 stopped_keeps : (a serial : ℕ) (app : Bool) (p : ℕ) (x : Drafted) → (app && (a == p)) ≡ false → may_stop a serial x ≡ true → runs app p x ≡ true → runs app p (record x { stopped = x.stopped + 1 }) ≡ true
-stopped_keeps a serial true p x ne m t = next_down p a x.stopped x.started (eqb-false a p ne) (eqb-true (a + 1 + x.stopped) x.started (second (is_over serial x.life) _ m)) t
+stopped_keeps a serial true p x ne m t = next_down p a x.stopped x.started (eqb-false a p ne) (stops a serial x m).next t
 stopped_keeps a serial false p x ne m t = t
 
 -- an instance is cleaned
 cleaned_keeps : (i : ℕ) (retired : List ℕ) (app : Bool) (p : ℕ) (x : Drafted) → (not app && (i == p)) ≡ false → may_clean i retired x ≡ true → runs app p x ≡ true → runs app p (record x { cleaned = x.cleaned + 1 }) ≡ true
 cleaned_keeps i retired true p x ne m t = t
-cleaned_keeps i retired false p x ne m t = next_down p i x.cleaned x.made (eqb-false i p ne) (eqb-true (i + 1 + x.cleaned) x.made (second (all_stopped x) _ (second (is_done retired x.life) _ m))) t
+cleaned_keeps i retired false p x ne m t = next_down p i x.cleaned x.made (eqb-false i p ne) (cleans i retired x m).next t
 
 not_here : (b c : Bool) → b ≡ true → (b && c) ≡ false → c ≡ false
 not_here true c is e = e
@@ -128,14 +129,11 @@ run s (Made d i taken failed) fine may all =
 run s (Started d a taken failed) fine may all =
     taken_run (app_of d a) _ s.pairs (take taken (keys_for app_keys a (slice_get s.drafts d))) (unchanged s d (may_start a taken failed s.pairs) _ (λ app p x t. started_keeps app p failed x t) may all)
     (holds_made (runs true a) (λ x. is_sound (bound_of s) x && may_start a taken failed s.pairs x) _ (started_runs (bound_of s) a taken failed s.pairs) s.drafts d (sound_at s d (may_start a taken failed s.pairs) fine may))
-run s (Publish d n from c) fine may all = unchanged s d is_complete _ (λ app p x t. t) (first (holds is_complete (slice_get s.drafts d)) _ (second (not s.halted) _ may)) all
+run s (Publish d n from c) fine may all = unchanged s d is_complete _ (λ app p x t. t) (can s (Publish d n from c) may).complete all
 run s (Abandon d) fine may all = unchanged s d (λ x. is_live x.life) _ (λ app p x t. t) may all
 run s (Stopped d a) fine may all = others_run (app_of d a) s.drafts _ (but_one (app_of d a) (may_stop a s.serial) _ (stopped_keeps a s.serial) s.drafts may) s.pairs all
-run s (Begin k n) fine may all = all
-run s (Finish k) fine may all = all
-run s (Retire n) fine may all = all
 run s (Cleaned d i) fine may all = others_run (instance_of d i) s.drafts _ (but_one (instance_of d i) (may_clean i s.retired) _ (cleaned_keeps i s.retired) s.drafts may) s.pairs all
-run s (Halt n) fine may all = all
+run s e fine may all = all
 
 -- of each pair of a legal history
 pub run_from : (s : State) (log : List Entry) → are_sound s ≡ true → legal_from s log ≡ true → all_run s.drafts s.pairs ≡ true → all_run (state_from s log).drafts (state_from s log).pairs ≡ true

@@ -1,5 +1,5 @@
 -- The serials of a legal history: who has them, and that they are retired once.
-use Rattle.std.proofs.Common.{◌≡◌, ◌≤◌, ◌<◌, ◌⊎◌, inl, inr, ℕ, zero, suc, ◌+◌, ◌==◌, Bool, true, false, not, cond, nat_lt, List, [], ◌∷◌, ◌++◌, length, slice_get, Option, Some, None, option_map, refl, sym, ap, subst, ◌∙◌, ⊎_elim, arith, length-append, eq-eqb}
+use Rattle.std.proofs.Common.{◌≡◌, ◌≤◌, ◌<◌, ◌⊎◌, inl, inr, ℕ, zero, suc, ◌+◌, ◌==◌, Bool, true, false, cond, List, [], ◌∷◌, ◌++◌, length, slice_get, Option, Some, None, option_map, refl, sym, ap, subst, ◌∙◌, ⊎_elim, arith, length-append, eq-eqb}
 use Rattle.std.specs.Prelude.{◌||◌}
 use Rattle.std.proofs.lemmas.Bool.{eqb-true}
 use Rattle.std.proofs.lemmas.Bool.Decides.{eqb_tells}
@@ -14,13 +14,14 @@ use Rattle.cd_legal.specs.declared.state.Life.{Life}
 use Rattle.cd_legal.specs.declared.state.Life.TheVariants.{Live, Published, Abandoned}
 use Rattle.cd_legal.specs.Entry.{entries}
 use Rattle.cd_legal.specs.State.{opening_state, holds, has_number, change_at, is_live, draft_of}
-use Rattle.cd_legal.specs.Legal.{allowed, after, legal, legal_from, state_from, state_of, state_at, IsLegal, may_make, may_start, may_stop, may_clean, is_complete, is_open}
-use Rattle.cd_legal.specs.Serials.{has_serial, has_serial_in, times}
+use Rattle.cd_legal.specs.Legal.{allowed, after, legal, legal_from, state_from, state_of, state_at, IsLegal, may_make, may_start, may_stop, may_clean, is_complete}
+use Rattle.cd_legal.specs.Serials.{has_serial, has_serial_in, times, publishings}
 use Rattle.cd_legal.proofs.Histories.{first, second, along}
 use Rattle.cd_legal.proofs.Logs.{state-append, legal-back}
 use Rattle.cd_legal.proofs.Places.{get_change_same, get_change_other, holds_made}
 use Rattle.cd_legal.proofs.Lives.{complete}
-use Rattle.cd_legal.proofs.Fresh.{serial_rises, publishes, halts, retires}
+use Rattle.cd_legal.proofs.Facts.{Publishes, Retires, Halts, completes, can}
+use Rattle.cd_legal.proofs.Fresh.{serial_rises}
 
 -- ---- the serial
 
@@ -28,28 +29,24 @@ use Rattle.cd_legal.proofs.Fresh.{serial_rises, publishes, halts, retires}
 abbrev pub IsCounted : State → Type 0
 IsCounted s = length s.published + cond s.halted 1 0 ≡ s.serial
 
-pub running : (b : Bool) → not b ≡ true → b ≡ false
-running true is = cc
-running false is = refl
-
-none_halted : (b : Bool) → not b ≡ true → cond {A = ℕ} b 1 0 ≡ 0
+none_halted : (b : Bool) → b ≡ false → cond {A = ℕ} b 1 0 ≡ 0
 none_halted true is = cc
 none_halted false is = refl
 
 -- before the halt the serial is the number of published drafts
-pub count_running : (s : State) → not s.halted ≡ true → IsCounted s → length s.published ≡ s.serial
+pub count_running : (s : State) → s.halted ≡ false → IsCounted s → length s.published ≡ s.serial
 count_running s free is = let none = none_halted s.halted free in omega arith
 
 counted : (s : State) (e : Entry) → allowed s e ≡ true → IsCounted s → IsCounted (after s e)
 counted s (Publish d n from c) may is =
-    let facts = publishes s d n from c may in
-    let none = none_halted s.halted (first (not s.halted) _ may) in
+    let f : Publishes s d n from = can s (Publish d n from c) may in
+    let none = none_halted s.halted f.running in
     let more = length-append s.published (d ∷ []) in
-    omega (arith, facts.0, facts.1)
+    omega (arith, f.current, f.next)
 counted s (Halt n) may is =
-    let next = halts s n may in
-    let none = none_halted s.halted (first (not s.halted) _ may) in
-    omega arith
+    let f : Halts s n = can s (Halt n) may in
+    let none = none_halted s.halted f.running in
+    omega (arith, f.next)
 counted s e may is = is
 
 -- the serial of a legal history is the number of its published drafts, and one more once it has halted
@@ -140,16 +137,13 @@ pub record Agree (s : State) : Type 0 where
   pub lives : (n d : ℕ) → draft_of n s.published ≡ Some d → has_serial_in s n d ≡ true
   pub published : (n d : ℕ) → has_serial_in s n d ≡ true → draft_of n s.published ≡ Some d
 
-complete_live : (x : Drafted) → is_complete x ≡ true → is_live x.life ≡ true
-complete_live x m = first (is_live x.life) _ (first (is_open x) _ m)
-
 -- a published draft has its serial, after another Publish too
 module _ (s : State) (j m from : ℕ) (c : Change) (may : allowed s (Publish j m from c) ≡ true) (a : Agree s) where
   next : m ≡ suc (length s.published)
   next =
-      let facts = publishes s j m from c may in
-      let was = count_running s (first (not s.halted) _ may) a.count in
-      omega (arith, facts.0, facts.1)
+      let f : Publishes s j m from = can s (Publish j m from c) may in
+      let was = count_running s f.running a.count in
+      omega (arith, f.current, f.next)
 
   old_kept : (n d : ℕ) → has_serial_in s n d ≡ true → has_serial_in (after s (Publish j m from c)) n d ≡ true
   old_kept n d had = ⊎_elim
@@ -158,7 +152,7 @@ module _ (s : State) (j m from : ℕ) (c : Change) (may : allowed s (Publish j m
     where
       of_live : (n : ℕ) (o : Option Drafted) → holds is_complete o ≡ true → holds (λ x. has_serial n x.life) o ≡ false
       of_live n None m = cc
-      of_live n (Some x) m = live_none x.life n (complete_live x m)
+      of_live n (Some x) m = live_none x.life n (ap is_live (completes x m).opened.live)
 
       live_here : (n : ℕ) → has_serial_in s n j ≡ false
       live_here n = of_live n (slice_get s.drafts j) (complete s j m from c may)
@@ -242,7 +236,7 @@ new_one false z none le = omega arith
 
 once : (s : State) (e : Entry) → allowed s e ≡ true → IsRetiredOnce s → IsRetiredOnce (after s e)
 once s (Retire m) may le = λ n.
-    let free : has_number m s.retired ≡ false = running (has_number m s.retired) (first (not (has_number m s.retired)) _ (second (nat_lt m s.serial) _ may)) in
+    let free = (can s (Retire m) may).unretired in
     subst (λ (z : ℕ). z ≤ 1) (sym (times-push n s.retired m))
     (new_one (n == m) (times n s.retired) (λ is. times-none n s.retired (ap (λ (z : ℕ). has_number z s.retired) (eqb-true n m is) ∙ free)) (le n))
 once s e may le = le
@@ -269,8 +263,19 @@ has-push n (l ∷ ms) m is = ⊎_elim
     or_else false c is = is
 
 below : (s : State) (e : Entry) → allowed s e ≡ true → IsRetiredBelow s → IsRetiredBelow (after s e)
-below s (Retire m) may low = λ n is. ⊎_elim (λ q. low n q) (λ q. let e = retires s m may in omega (arith, q)) (has-push n s.retired m is)
+below s (Retire m) may low = λ n is. ⊎_elim (λ q. low n q) (λ q. let f : Retires s m = can s (Retire m) may in omega (arith, q, f.superseded)) (has-push n s.retired m is)
 below s e may low = λ n is. let up = serial_rises s e may in let had = low n is in omega arith
 
 pub retired-below : (log : List Entry) (n : ℕ) → legal log ≡ true → has_number n (state_of log).retired ≡ true → n < (state_of log).serial
 retired-below log n legal is = along IsRetiredBelow below opening_state log legal (λ m e. absurd (let h : false ≡ true = e in cc)) n is
+
+-- ---- how often the entries publish
+
+publishes_from : (s : State) (log : List Entry) → length (state_from s log).published ≡ length s.published + publishings log
+publishes_from s [] = omega arith
+publishes_from s (Publish d n from c ∷ es) = let rest = publishes_from (after s (Publish d n from c)) es in let more = length-append s.published (d ∷ []) in omega arith
+publishes_from s (e ∷ es) = publishes_from (after s e) es
+
+-- as many drafts are published
+pub publishes-count : (log : List Entry) → length (state_of log).published ≡ publishings log
+publishes-count log = let all = publishes_from opening_state log in omega arith

@@ -1,5 +1,5 @@
 -- The fixtures are shut once.
-use Rattle.std.proofs.Common.{◌≡◌, ℕ, zero, suc, ◌+◌, ◌==◌, Bool, true, false, ◌&&◌, not, cond, List, [], ◌∷◌, ◌++◌, map, slice_get, Option, Some, None, refl, sym, ap, ◌∙◌, arith}
+use Rattle.std.proofs.Common.{◌≡◌, ℕ, zero, suc, ◌+◌, ◌==◌, Bool, true, false, ◌&&◌, cond, List, [], ◌∷◌, ◌++◌, map, slice_get, Option, Some, None, refl, sym, ap, ◌∙◌, arith}
 use Rattle.std.specs.Prelude.{reverse, take}
 use Rattle.std.proofs.lemmas.Bool.{eqb-true}
 use Rattle.cd_outside.specs.declared.key.Key.{Key}
@@ -11,10 +11,11 @@ use Rattle.cd_legal.specs.declared.entry.Entry.TheVariants.{Draft, Made, Started
 use Rattle.cd_legal.specs.declared.state.State.{State}
 use Rattle.cd_legal.specs.declared.state.Drafted.{Drafted}
 use Rattle.cd_legal.specs.State.{opening_state, holds, holds_if_there, change_at, is_live, all_stopped, of_draft, draft_of, new_draft, keys_for, module_keys, app_keys, instance_of, app_of}
-use Rattle.cd_legal.specs.Legal.{allowed, after, legal, legal_from, state_from, state_of, may_make, may_start, may_stop, may_clean, is_open}
-use Rattle.cd_legal.specs.Calls.{failing, key_calls, last_of, is_shut, shutting, entry_calls, calls_from, fixture_calls, shuts}
+use Rattle.cd_legal.specs.Legal.{allowed, after, legal, legal_from, state_from, state_of, may_make, may_start, may_stop, may_clean}
+use Rattle.cd_legal.specs.Calls.{failing, key_calls, last_of, is_shut, shutting, entry_calls, calls_from, fixture_calls, shuts, not_opened, failures}
 use Rattle.cd_legal.specs.Serials.{has_serial, has_serial_in}
 use Rattle.cd_legal.proofs.Histories.{both, first, second}
+use Rattle.cd_legal.proofs.Facts.{starts, can}
 use Rattle.cd_legal.proofs.Serials.{Agree, agree, opening_agrees, live_none}
 
 -- ---- the draft that was published last
@@ -80,7 +81,7 @@ differ x n c live has = not_both (has_serial n x.life) c has (live_none x.life n
 equal : (b c : Bool) → ((z : Bool) → z ≡ true) → b ≡ c
 equal b c all = all b ∙ sym (all c)
 
-before_halt : (b c d : Bool) → not b ≡ true → (b && c) ≡ (b && d)
+before_halt : (b c d : Bool) → b ≡ false → (b && c) ≡ (b && d)
 before_halt true c d free = cc
 before_halt false c d free = refl
 
@@ -89,8 +90,8 @@ pub shut_kept : (s : State) (e : Entry) → allowed s e ≡ true → Agree s →
 shut_kept s (Draft d tree plan) may a is = still s (s.drafts ++ new_draft tree plan ∷ []) (of_last s (s.drafts ++ new_draft tree plan ∷ []) a (λ n j r. pushed (λ x. has_serial n x.life) (new_draft tree plan) s.drafts j r) (last_of s.published) refl)
 shut_kept s (Made d i taken failed) may a is = changed s d (may_make i taken failed s.pairs) _ a may (λ n x m r. refl)
 shut_kept s (Started d i taken failed) may a is =
-    changed s d (may_start i taken failed s.pairs) _ a may (λ n x m r. equal _ _ (λ z. differ x n z (first (is_live x.life) _ (first (is_open x) _ m)) r))
-shut_kept s (Publish d n from c) may a is = before_halt s.halted _ _ (first (not s.halted) _ may)
+    changed s d (may_start i taken failed s.pairs) _ a may (λ n x m r. equal _ _ (λ z. differ x n z (ap is_live (starts i taken failed s.pairs x m).opened.live) r))
+shut_kept s (Publish d n from c) may a is = before_halt s.halted _ _ (can s (Publish d n from c) may).running
 shut_kept s (Abandon d) may a is = changed s d (λ x. is_live x.life) _ a may (λ n x m r. refl)
 shut_kept s (Stopped d i) may a is = cc
 shut_kept s (Cleaned d i) may a is = changed s d (may_clean i s.retired) _ a may (λ n x m r. refl)
@@ -118,14 +119,14 @@ stop_keeps s d a (Some j) m all = go s.drafts d j m all
     go (x ∷ xs) (suc d) zero m all = all
     go (x ∷ xs) (suc d) (suc j) m all = go xs d j m all
 
-halt_again : (b c : Bool) → not b ≡ true → (b && c) ≡ true → false ≡ true
-halt_again true c free is = free
-halt_again false c free is = cc
+halt_again : (b c : Bool) → b ≡ false → (b && c) ≡ true → false ≡ true
+halt_again true c free is = cc
+halt_again false c free is = is
 
 -- what is shut stays so
 shut_stays : (s : State) (e : Entry) → allowed s e ≡ true → Agree s → is_shut s ≡ true → is_shut (after s e) ≡ true
 shut_stays s (Stopped d i) may a shut = both s.halted _ (first s.halted _ shut) (stop_keeps s d i (last_of s.published) may (second s.halted _ shut))
-shut_stays s (Halt n) may a shut = absurd (let e : false ≡ true = halt_again s.halted _ (first (not s.halted) _ may) shut in cc)
+shut_stays s (Halt n) may a shut = absurd (let e : false ≡ true = halt_again s.halted _ (can s (Halt n) may).running shut in cc)
 shut_stays s e may a shut = shut_kept s e may a refl ∙ shut
 
 -- ---- the calls
@@ -186,3 +187,60 @@ shuts_from s (e ∷ es) legal a =
 -- one where the host is halted and the last published apps are stopped, and none before that
 pub shut-once : (log : List Entry) → legal log ≡ true → shuts (fixture_calls log) ≡ cond (is_shut (state_of log)) 1 0
 shut-once log legal = let all = shuts_from opening_state log legal opening_agrees in omega arith
+
+-- ---- failed openings
+
+not_opened-append : (xs ys : List FixtureCall) → not_opened (xs ++ ys) ≡ not_opened xs + not_opened ys
+not_opened-append [] ys = omega arith
+not_opened-append (Opened key ∷ xs) ys = not_opened-append xs ys
+not_opened-append (NotOpened key ∷ xs) ys = let rest = not_opened-append xs ys in omega arith
+not_opened-append (Closed key ∷ xs) ys = not_opened-append xs ys
+not_opened-append (Shut ∷ xs) ys = not_opened-append xs ys
+
+all_opened : (keys : List Key) → not_opened (map (λ k. Opened k) keys) ≡ 0
+all_opened [] = refl
+all_opened (k ∷ ks) = all_opened ks
+
+all_closed : (keys : List Key) → not_opened (map (λ k. Closed k) keys) ≡ 0
+all_closed [] = refl
+all_closed (k ∷ ks) = all_closed ks
+
+only_shut : (b c : Bool) → not_opened (shutting b c) ≡ 0
+only_shut true c = refl
+only_shut false true = refl
+only_shut false false = refl
+
+failed_after : (ks : List Key) (failed : Option Key) → not_opened (map (λ k. Opened k) ks ++ failing failed) ≡ not_opened (failing failed)
+failed_after ks failed = let parts = not_opened-append (map (λ k. Opened k) ks) (failing failed) in let a = all_opened ks in omega arith
+
+-- by one entry
+fails_by : (s : State) (e : Entry) → not_opened (key_calls s e) ≡ failures (e ∷ [])
+fails_by s (Made d i n None) = failed_after (fresh_keys (keys_in s.pairs) (take n (keys_for module_keys i (slice_get s.drafts d)))) None
+fails_by s (Made d i n (Some key)) = failed_after (fresh_keys (keys_in s.pairs) (take n (keys_for module_keys i (slice_get s.drafts d)))) (Some key)
+fails_by s (Started d a n None) = failed_after (fresh_keys (keys_in s.pairs) (take n (keys_for app_keys a (slice_get s.drafts d)))) None
+fails_by s (Started d a n (Some key)) = failed_after (fresh_keys (keys_in s.pairs) (take n (keys_for app_keys a (slice_get s.drafts d)))) (Some key)
+fails_by s (Stopped d a) = all_closed (reverse (fresh_keys (keys_in (without_holder (app_of d a) s.pairs)) (keys_of (app_of d a) s.pairs)))
+fails_by s (Cleaned d i) = all_closed (reverse (fresh_keys (keys_in (without_holder (instance_of d i) s.pairs)) (keys_of (instance_of d i) s.pairs)))
+fails_by s e = refl
+
+failures-cons : (e : Entry) (es : List Entry) → failures (e ∷ es) ≡ failures (e ∷ []) + failures es
+failures-cons (Made d i n None) es = omega arith
+failures-cons (Made d i n (Some key)) es = omega arith
+failures-cons (Started d a n None) es = omega arith
+failures-cons (Started d a n (Some key)) es = omega arith
+failures-cons e es = omega arith
+
+fails_from : (s : State) (log : List Entry) → not_opened (calls_from s log) ≡ failures log
+fails_from s [] = refl
+fails_from s (e ∷ es) =
+    let whole = not_opened-append (entry_calls s e) (calls_from (after s e) es) in
+    let parts = not_opened-append (key_calls s e) (shutting (is_shut s) (is_shut (after s e))) in
+    let here = fails_by s e in
+    let shut = only_shut (is_shut s) (is_shut (after s e)) in
+    let rest = fails_from (after s e) es in
+    let more = failures-cons e es in
+    omega arith
+
+-- an opening fails for each entry with a failed key
+pub failures-count : (log : List Entry) → not_opened (fixture_calls log) ≡ failures log
+failures-count log = fails_from opening_state log

@@ -1,5 +1,4 @@
--- What each state of a legal history has: of a live draft nothing is ended, no draft has a serial that is not there yet, and
--- each pair's holder is begun and not ended.
+-- What each state of a legal history has: of a live draft nothing is ended, and no draft has a serial that is not there yet.
 use Rattle.std.proofs.Common.{◌≡◌, ◌≤◌, ℕ, ◌+◌, ◌==◌, zero, suc, Bool, true, false, ◌&&◌, not, cond, nat_lt, List, [], ◌∷◌, slice_get, refl, ◌∙◌, arith}
 use Rattle.std.specs.Prelude.{◌||◌}
 use Rattle.std.specs.List.{list_all}
@@ -8,14 +7,15 @@ use Rattle.std.proofs.lemmas.Bool.{eqb-true}
 use Rattle.std.proofs.lemmas.List.Folds.{list_all-append}
 use Rattle.cd_legal.specs.declared.entry.Change.{Change}
 use Rattle.cd_legal.specs.declared.entry.Entry.{Entry}
-use Rattle.cd_legal.specs.declared.entry.Entry.TheVariants.{Draft, Made, Started, Publish, Abandon, Stopped, Begin, Finish, Retire, Cleaned, Halt}
+use Rattle.cd_legal.specs.declared.entry.Entry.TheVariants.{Draft, Made, Started, Publish, Abandon, Stopped, Cleaned, Halt}
 use Rattle.cd_legal.specs.declared.state.State.{State}
 use Rattle.cd_legal.specs.declared.state.Drafted.{Drafted}
 use Rattle.cd_legal.specs.declared.state.Life.{Life}
 use Rattle.cd_legal.specs.declared.state.Life.TheVariants.{Live, Published, Abandoned}
-use Rattle.cd_legal.specs.State.{holds, change_at, is_live, is_over, is_done}
-use Rattle.cd_legal.specs.Legal.{allowed, after, legal_from, legal, state_from, may_make, may_start, may_stop, may_clean, is_complete, is_open}
-use Rattle.cd_legal.proofs.Histories.{both, first, second}
+use Rattle.cd_legal.specs.State.{holds, change_at, is_live, may_stop_apps, may_clean_instances}
+use Rattle.cd_legal.specs.Legal.{allowed, after, legal_from, legal, state_from, may_make, may_start, may_stop, may_clean, is_complete}
+use Rattle.cd_legal.proofs.Histories.{both, first, second, along}
+use Rattle.cd_legal.proofs.Facts.{Publishes, Halts, stops, cleans, can}
 
 -- ---- drafts
 
@@ -48,12 +48,12 @@ all_changed test may f keeps (x ∷ xs) zero m all = both (test (f x)) _ (keeps 
 all_changed test may f keeps (x ∷ xs) (suc d) m all = both (test x) _ (first (test x) _ all) (all_changed test may f keeps xs d m (second (test x) _ all))
 
 -- what is over is not live
-over : (n b : ℕ) (l : Life) (r t : Bool) → is_over n l ≡ true → ((not (is_live l) || r) && is_below b l) ≡ true → ((not (is_live l) || t) && is_below b l) ≡ true
+over : (n b : ℕ) (l : Life) (r t : Bool) → may_stop_apps n l ≡ true → ((not (is_live l) || r) && is_below b l) ≡ true → ((not (is_live l) || t) && is_below b l) ≡ true
 over n b Live r t is e = cc
 over n b (Published m) r t is e = e
 over n b Abandoned r t is e = e
 
-done : (ns : List ℕ) (b : ℕ) (l : Life) (r t : Bool) → is_done ns l ≡ true → ((not (is_live l) || r) && is_below b l) ≡ true → ((not (is_live l) || t) && is_below b l) ≡ true
+done : (ns : List ℕ) (b : ℕ) (l : Life) (r t : Bool) → may_clean_instances ns l ≡ true → ((not (is_live l) || r) && is_below b l) ≡ true → ((not (is_live l) || t) && is_below b l) ≡ true
 done ns b Live r t is e = cc
 done ns b (Published m) r t is e = e
 done ns b Abandoned r t is e = e
@@ -77,28 +77,25 @@ more : (b n : ℕ) → n + 1 ≤ b → nat_lt n b ≡ true
 more b n e = grind (arith, nat_tests)
 
 -- before the halt the bound is above the serial
-running : (b : Bool) (n : ℕ) → not b ≡ true → cond b n (n + 1) ≡ n + 1
+running : (b : Bool) (n : ℕ) → b ≡ false → cond b n (n + 1) ≡ n + 1
 running true n e = cc
 running false n e = refl
 
 -- a publishing
 published : (s : State) (d n from : ℕ) (c : Change) → allowed s (Publish d n from c) ≡ true → are_sound s ≡ true → are_sound (after s (Publish d n from c)) ≡ true
 published s d n from c may all =
-    let free = first (not s.halted) _ may in
-    let rest = second (holds is_complete (slice_get s.drafts d)) _ (second (not s.halted) _ may) in
-    let is = eqb-true from s.serial (first (from == s.serial) _ rest) in
-    let next = eqb-true n (from + 1) (second (from == s.serial) _ rest) in
-    let old = running s.halted s.serial free in
-    let new = running s.halted n free in
-    all_changed (is_sound (cond s.halted n (n + 1))) is_complete _ (λ x m t. more (cond s.halted n (n + 1)) n (omega (arith, new))) s.drafts d (first (holds is_complete (slice_get s.drafts d)) _ (second (not s.halted) _ may))
-    (raised_all (bound_of s) (cond s.halted n (n + 1)) s.drafts (omega (arith, old, new, is, next)) all)
+    let f : Publishes s d n from = can s (Publish d n from c) may in
+    let old = running s.halted s.serial f.running in
+    let new = running s.halted n f.running in
+    all_changed (is_sound (cond s.halted n (n + 1))) is_complete _ (λ x m t. more (cond s.halted n (n + 1)) n (omega (arith, new))) s.drafts d f.complete
+    (raised_all (bound_of s) (cond s.halted n (n + 1)) s.drafts (omega (arith, old, new, f.current, f.next)) all)
 
 -- the halt takes the serial that the bound left free
 halted : (s : State) (n : ℕ) → allowed s (Halt n) ≡ true → are_sound s ≡ true → are_sound (after s (Halt n)) ≡ true
 halted s n may all =
-    let old = running s.halted s.serial (first (not s.halted) _ may) in
-    let next = eqb-true n (s.serial + 1) (second (not s.halted) _ may) in
-    raised_all (bound_of s) n s.drafts (omega (arith, old, next)) all
+    let f : Halts s n = can s (Halt n) may in
+    let old = running s.halted s.serial f.running in
+    raised_all (bound_of s) n s.drafts (omega (arith, old, f.next)) all
 
 -- one entry leaves them so
 pub sound : (s : State) (e : Entry) → allowed s e ≡ true → are_sound s ≡ true → are_sound (after s e) ≡ true
@@ -107,17 +104,14 @@ sound s (Made d i taken failed) may all = all_changed (is_sound (bound_of s)) (m
 sound s (Started d a taken failed) may all = all_changed (is_sound (bound_of s)) (may_start a taken failed s.pairs) _ (λ x m t. t) s.drafts d may all
 sound s (Publish d n from c) may all = published s d n from c may all
 sound s (Abandon d) may all = all_changed (is_sound (bound_of s)) (λ x. is_live x.life) _ (λ x m t. refl) s.drafts d may all
-sound s (Stopped d a) may all = all_changed (is_sound (bound_of s)) (may_stop a s.serial) _ (λ x m t. over s.serial (bound_of s) x.life _ _ (first (is_over s.serial x.life) _ m) t) s.drafts d may all
-sound s (Begin k n) may all = all
-sound s (Finish k) may all = all
-sound s (Retire n) may all = all
-sound s (Cleaned d i) may all = all_changed (is_sound (bound_of s)) (may_clean i s.retired) _ (λ x m t. done s.retired (bound_of s) x.life _ _ (first (is_done s.retired x.life) _ m) t) s.drafts d may all
+sound s (Stopped d a) may all = all_changed (is_sound (bound_of s)) (may_stop a s.serial) _ (λ x m t. over s.serial (bound_of s) x.life _ _ (stops a s.serial x m).over t) s.drafts d may all
+sound s (Cleaned d i) may all = all_changed (is_sound (bound_of s)) (may_clean i s.retired) _ (λ x m t. done s.retired (bound_of s) x.life _ _ (cleans i s.retired x m).done t) s.drafts d may all
 sound s (Halt n) may all = halted s n may all
+sound s e may all = all
 
 -- of each draft of a legal history
 pub sound_from : (s : State) (log : List Entry) → legal_from s log ≡ true → are_sound s ≡ true → are_sound (state_from s log) ≡ true
-sound_from s [] legal all = all
-sound_from s (e ∷ es) legal all = sound_from (after s e) es (second (allowed s e) _ legal) (sound s e (first (allowed s e) _ legal) all)
+sound_from s log legal all = along (λ t. are_sound t ≡ true) sound s log legal all
 
 -- ---- at a place
 
@@ -132,11 +126,11 @@ pub sound_at : (s : State) (d : ℕ) (may : Drafted → Bool) → are_sound s �
 sound_at s d may all m = at (is_sound (bound_of s)) s.drafts d may all m
 
 -- by its life
-nothing_ended : (l : Life) (b st cl : ℕ) → is_live l ≡ true → ((not (is_live l) || ((st == 0) && (cl == 0))) && is_below b l) ≡ true → (st ≡ 0) × (cl ≡ 0)
+nothing_ended : (l : Life) (b st cl : ℕ) → l ≡ Live → ((not (is_live l) || ((st == 0) && (cl == 0))) && is_below b l) ≡ true → (st ≡ 0) × (cl ≡ 0)
 nothing_ended Live b st cl live e = let h = first ((st == 0) && (cl == 0)) true e in (eqb-true st 0 (first (st == 0) _ h), eqb-true cl 0 (second (st == 0) _ h))
-nothing_ended (Published n) b st cl live e = absurd (let no_life : false ≡ true = live in cc)
-nothing_ended Abandoned b st cl live e = absurd (let no_life : false ≡ true = live in cc)
+nothing_ended (Published n) b st cl live e = cc
+nothing_ended Abandoned b st cl live e = cc
 
 -- so of a live one nothing is ended
-pub live_whole : (bound : ℕ) (x : Drafted) → is_open x ≡ true → is_sound bound x ≡ true → (x.stopped ≡ 0) × (x.cleaned ≡ 0)
-live_whole bound x open_one e = nothing_ended x.life bound x.stopped x.cleaned (first (is_live x.life) _ open_one) e
+pub live_whole : (bound : ℕ) (x : Drafted) → x.life ≡ Live → is_sound bound x ≡ true → (x.stopped ≡ 0) × (x.cleaned ≡ 0)
+live_whole bound x live e = nothing_ended x.life bound x.stopped x.cleaned live e

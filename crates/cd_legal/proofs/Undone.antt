@@ -9,7 +9,7 @@ use Rattle.cd_outside.specs.Keys.{key_eq, keys_in, pairs_for}
 use Rattle.cd_legal.specs.declared.limits.TheConstants.{MAX_DRAFTS}
 use Rattle.cd_legal.specs.declared.plan.Plan.{Plan}
 use Rattle.cd_legal.specs.declared.entry.Entry.{Entry}
-use Rattle.cd_legal.specs.declared.entry.Entry.TheVariants.{Draft, Made, Started, Publish, Abandon, Stopped, Begin, Finish, Retire, Cleaned, Halt}
+use Rattle.cd_legal.specs.declared.entry.Entry.TheVariants.{Draft, Made, Started, Publish, Abandon, Stopped, Retire, Cleaned}
 use Rattle.cd_legal.specs.declared.state.State.{State}
 use Rattle.cd_legal.specs.declared.state.Drafted.{Drafted}
 use Rattle.cd_legal.specs.State.{opening_state, holds, holds_if_there, has_number, change_at, conf_of, instance_of, app_of, keys_at, module_keys, app_keys, keys_for, new_draft, is_live, of_draft, all_stopped, draft_of, apps_stopped}
@@ -68,11 +68,8 @@ left_out d s (Started j a taken failed) es legal gone is = again d s (Started j 
 left_out d s (Publish j n from c) es legal gone is = absurd (let e : false ≡ true = never_published s j n from c es legal (subst (λ z. is_abandoned_in (state_from (after s (Publish j n from c)) es) z ≡ true) (sym (eqb-true j d (own (j == d) is))) gone) in cc)
 left_out d s (Abandon j) es legal gone is = again d s (Abandon j) j (own (j == d) is) (changed s j _ s.pairs (λ x. refl) refl)
 left_out d s (Stopped j a) es legal gone is = again d s (Stopped j a) j (own (j == d) is) (changed s j _ _ (λ x. refl) (others-without_own j (app_of j a) refl s.pairs))
-left_out d s (Begin k n) es legal gone is = cc
-left_out d s (Finish k) es legal gone is = cc
-left_out d s (Retire n) es legal gone is = cc
 left_out d s (Cleaned j i) es legal gone is = again d s (Cleaned j i) j (own (j == d) is) (changed s j _ _ (λ x. refl) (others-without_own j (instance_of j i) refl s.pairs))
-left_out d s (Halt n) es legal gone is = cc
+left_out d s e es legal gone is = cc
 
 -- ---- an entry that stays: what it leaves
 
@@ -95,11 +92,8 @@ stayed d s (Started j a taken failed) is =
 stayed d s (Publish j n from c) is = with_parts (record s { serial = n; published = s.published ++ j ∷ [] }) _ _ (pairs_of_others d s.pairs) _ (change_apart _ undo s.drafts j d (apart j d is)) refl
 stayed d s (Abandon j) is = with_parts s _ _ (pairs_of_others d s.pairs) _ (change_apart _ undo s.drafts j d (apart j d is)) refl
 stayed d s (Stopped j a) is = with_parts s _ _ _ _ (change_apart _ undo s.drafts j d (apart j d is)) (sym (others-without d (app_of j a) s.pairs))
-stayed d s (Begin k n) is = refl
-stayed d s (Finish k) is = refl
-stayed d s (Retire n) is = refl
 stayed d s (Cleaned j i) is = with_parts s _ _ _ _ (change_apart _ undo s.drafts j d (apart j d is)) (sym (others-without d (instance_of j i) s.pairs))
-stayed d s (Halt n) is = refl
+stayed d s e is = refl
 
 -- ---- an entry that stays: that it is allowed
 
@@ -148,11 +142,9 @@ module _ (d : ℕ) (s : State) where
   still (Publish j n from c) is may = ap (λ (o : Option Drafted). not s.halted && (holds is_complete o && ((from == s.serial) && (n == from + 1)))) (sym (elsewhere j (apart j d is))) ∙ may
   still (Abandon j) is may = ap (holds (λ (x : Drafted). is_live x.life)) (sym (elsewhere j (apart j d is))) ∙ may
   still (Stopped j a) is may = ap (holds (may_stop a s.serial)) (sym (elsewhere j (apart j d is))) ∙ may
-  still (Begin k n) is may = may
-  still (Finish k) is may = may
   still (Retire n) is may = deeper (nat_lt n s.serial) _ _ (deeper (not (has_number n s.retired)) _ _ (shallow (apps_stopped s n) _ _ (all_stop s.drafts d (draft_of n s.published)))) may
   still (Cleaned j i) is may = ap (holds (may_clean i s.retired)) (sym (elsewhere j (apart j d is))) ∙ may
-  still (Halt n) is may = may
+  still e is may = may
 
 -- ---- the whole history
 

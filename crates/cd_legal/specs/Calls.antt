@@ -77,3 +77,18 @@ shuts (Opened key ∷ calls) = shuts calls
 shuts (NotOpened key ∷ calls) = shuts calls
 shuts (Closed key ∷ calls) = shuts calls
 shuts (Shut ∷ calls) = suc (shuts calls)
+
+-- how many openings fail
+abbrev pub not_opened : List FixtureCall → ℕ
+not_opened [] = 0
+not_opened (Opened key ∷ calls) = not_opened calls
+not_opened (NotOpened key ∷ calls) = suc (not_opened calls)
+not_opened (Closed key ∷ calls) = not_opened calls
+not_opened (Shut ∷ calls) = not_opened calls
+
+-- how many entries have a failed key
+abbrev pub failures : List Entry → ℕ
+failures [] = 0
+failures (Made d i taken (Some key) ∷ es) = suc (failures es)
+failures (Started d a taken (Some key) ∷ es) = suc (failures es)
+failures (e ∷ es) = failures es

@@ -1,7 +1,8 @@
 -- Histories with and without tickets.
-use Rattle.std.specs.Prelude.{Bool, true, ◌&&◌, not, List, [], ◌∷◌}
+use Rattle.std.specs.Prelude.{Bool, true, false, ◌&&◌, not, cond, List, [], ◌∷◌}
 use Rattle.cd_legal.specs.declared.entry.Entry.{Entry}
 use Rattle.cd_legal.specs.declared.entry.Entry.TheVariants.{Begin, Finish, Retire}
+use Rattle.cd_legal.specs.declared.entry.Signed.{Signed}
 use Rattle.cd_legal.specs.declared.state.State.{State}
 use Rattle.cd_legal.specs.State.{is_ticketed}
 use Rattle.cd_legal.specs.Legal.{allowed, after}
@@ -14,6 +15,21 @@ core [] = []
 core (Begin k n ∷ es) = core es
 core (Finish k ∷ es) = core es
 core (e ∷ es) = e ∷ core es
+
+-- neither Begin nor Finish
+abbrev pub is_core : Entry → Bool
+is_core (Begin k n) = false
+is_core (Finish k) = false
+is_core e = true
+
+-- a history without Begin and Finish
+abbrev pub core_at : List Signed → List Signed
+core_at [] = []
+core_at (x ∷ xs) = cond (is_core x.entry) (x ∷ core_at xs) (core_at xs)
+
+-- the state without its tickets
+abbrev pub bare : State → State
+bare s = record s { tickets = [] }
 
 -- what an entry asks of the tickets
 abbrev pub tickets_allow : State → Entry → Bool

@@ -1,6 +1,5 @@
 -- The table of entries: which may follow, and what they leave.
-use Rattle.std.specs.Prelude.{ℕ, suc, ◌+◌, ◌==◌, Bool, true, ◌&&◌, not, cond, nat_lt, List, [], ◌∷◌, ◌++◌, length, take, slice_get, Option, Some, None, is_none, IsTrue, IfOk, Result, Ok, Err, ◌≡◌}
-use Rattle.cd_text.specs.declared.memory.NoMemory.{NoMemory}
+use Rattle.std.specs.Prelude.{ℕ, suc, ◌+◌, ◌==◌, Bool, true, ◌&&◌, not, cond, nat_lt, List, [], ◌∷◌, ◌++◌, length, take, slice_get, Option, Some, None, is_none, IsTrue, Result, Ok, Err}
 use Rattle.cd_outside.specs.declared.key.Key.{Key}
 use Rattle.cd_outside.specs.declared.holder.Pair.{Pair}
 use Rattle.cd_legal.specs.declared.limits.TheConstants.{MAX_DRAFTS}
@@ -14,7 +13,7 @@ use Rattle.cd_legal.specs.declared.state.Drafted.{Drafted}
 use Rattle.cd_legal.specs.declared.state.Life.TheVariants.{Published, Abandoned}
 use Rattle.cd_outside.specs.Keys.{key_eq, has_key, keys_in, without_holder, pairs_for}
 use Rattle.cd_legal.specs.Entry.{entries}
-use Rattle.cd_legal.specs.State.{opening_state, holds, has_number, change_at, keys_at, module_keys, app_keys, instance_of, app_of, new_draft, is_live, is_over, is_done, all_stopped, keys_for, apps_stopped, has_ticket, is_ticketed, without_ticket}
+use Rattle.cd_legal.specs.State.{opening_state, holds, has_number, change_at, keys_at, module_keys, app_keys, instance_of, app_of, new_draft, is_live, may_stop_apps, may_clean_instances, all_stopped, keys_for, apps_stopped, has_ticket, is_ticketed, without_ticket}
 
 -- ---- which entries are allowed
 
@@ -45,11 +44,11 @@ is_complete x = is_open x && ((x.made == length x.plan.modules) && (x.started ==
 
 -- app a is the last one that is started and not stopped
 abbrev pub may_stop : ℕ → ℕ → Drafted → Bool
-may_stop a serial x = is_over serial x.life && (a + 1 + x.stopped == x.started)
+may_stop a serial x = may_stop_apps serial x.life && (a + 1 + x.stopped == x.started)
 
 -- all apps are stopped, and instance i is the last one that is made and not cleaned
 abbrev pub may_clean : ℕ → List ℕ → Drafted → Bool
-may_clean i retired x = is_done retired x.life && (all_stopped x && (i + 1 + x.cleaned == x.made))
+may_clean i retired x = may_clean_instances retired x.life && (all_stopped x && (i + 1 + x.cleaned == x.made))
 
 -- superseded, not retired, all apps stopped, and no open ticket
 abbrev pub may_retire : State → ℕ → Bool
@@ -148,7 +147,3 @@ unless (Some place) s = Err (NotAllowed place)
 -- what a replay gives: the state that the entries leave, or the first place that is not allowed
 abbrev pub replayed : List Entry → Result State ReplayFault
 replayed log = unless (refused_at log) (state_of log)
-
--- one step: whether the entry is allowed; where it is, what it leaves, and where it is not, the state as it was
-abbrev pub Steps : State → Entry → Result Bool NoMemory → State → Type 0
-Steps s e result t = IfOk result (λ may. (may ≡ allowed s e) × (IsTrue may → t ≡ after s e) × (IsTrue (not may) → t ≡ s))

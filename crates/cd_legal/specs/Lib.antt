@@ -1,6 +1,7 @@
 pub mod Entry
 pub mod State
 pub mod Legal
+pub mod Steps
 pub mod Laws
 pub mod Calls
 pub mod Whole

@@ -1,5 +1,5 @@
 -- The serials of a history: the drafts that have them, and the configuration that is current.
-use Rattle.std.specs.Prelude.{ℕ, suc, ◌==◌, Bool, false, cond, List, [], ◌∷◌, slice_get}
+use Rattle.std.specs.Prelude.{ℕ, suc, ◌==◌, Bool, true, false, cond, List, [], ◌∷◌, slice_get}
 use Rattle.cd_legal.specs.declared.entry.Entry.{Entry}
 use Rattle.cd_legal.specs.declared.entry.Entry.TheVariants.{Publish, Halt}
 use Rattle.cd_legal.specs.declared.state.State.{State}
@@ -37,3 +37,15 @@ conf_from s conf (e ∷ es) = conf_from (after s e) (conf_by s conf e) es
 -- the configuration of the last Publish, or the halted one; the opening one before there is either
 abbrev pub last_conf : List Entry → Conf
 last_conf log = conf_from opening_state Conf.Opening log
+
+-- halted
+abbrev pub is_halted : Conf → Bool
+is_halted Conf.Opening = false
+is_halted Conf.Halted = true
+is_halted (Conf.Of tree) = false
+
+-- how often the entries publish
+abbrev pub publishings : List Entry → ℕ
+publishings [] = 0
+publishings (Publish d n from change ∷ es) = suc (publishings es)
+publishings (e ∷ es) = publishings es

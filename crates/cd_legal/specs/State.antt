@@ -74,16 +74,16 @@ is_live (Published s) = false
 is_live Abandoned = false
 
 -- its apps may be stopped: it is abandoned, or of a serial below the current one
-abbrev pub is_over : ℕ → Life → Bool
-is_over serial Live = false
-is_over serial (Published s) = nat_lt s serial
-is_over serial Abandoned = true
+abbrev pub may_stop_apps : ℕ → Life → Bool
+may_stop_apps serial Live = false
+may_stop_apps serial (Published s) = nat_lt s serial
+may_stop_apps serial Abandoned = true
 
 -- its instances may be cleaned: it is abandoned, or of a retired serial
-abbrev pub is_done : List ℕ → Life → Bool
-is_done retired Live = false
-is_done retired (Published s) = has_number s retired
-is_done retired Abandoned = true
+abbrev pub may_clean_instances : List ℕ → Life → Bool
+may_clean_instances retired Live = false
+may_clean_instances retired (Published s) = has_number s retired
+may_clean_instances retired Abandoned = true
 
 -- each app that was started is stopped
 abbrev pub all_stopped : Drafted → Bool

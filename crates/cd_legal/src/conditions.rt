@@ -1,5 +1,5 @@
 ghost use Rattle.std.specs.Prelude.{◌≡◌};
-ghost use Rattle.cd_legal.specs.State.{is_over, is_done, all_stopped, has_number};
+ghost use Rattle.cd_legal.specs.State.{may_stop_apps, may_clean_instances, all_stopped, has_number};
 ghost use Rattle.cd_legal.specs.Legal.{is_open, may_make, may_start, is_complete, may_stop, may_clean};
 
 use crate::keys::keys_fit;
@@ -36,7 +36,7 @@ pub(crate) fn may_make(
     }
 }
 
-/// Whether the app is the next one behind all instances, and its keys fit.
+/// Whether the app is the next one, after all instances, and its keys fit.
 pub(crate) fn may_start(
     drafted: &Drafted,
     place: u32,
@@ -80,8 +80,8 @@ pub(crate) fn has_number(number: u32, numbers: &[u32]) -> bool
 }
 
 /// Whether the apps may be stopped.
-fn is_over(serial: u32, life: Life) -> bool
-    ensures { result ≡ is_over serial life }
+fn may_stop_apps(serial: u32, life: Life) -> bool
+    ensures { result ≡ may_stop_apps serial life }
 {
     match life {
         Life::Live => false,
@@ -91,8 +91,8 @@ fn is_over(serial: u32, life: Life) -> bool
 }
 
 /// Whether the instances may be cleaned.
-fn is_done(retired: &[u32], life: Life) -> bool
-    ensures { result ≡ is_done retired.now life }
+fn may_clean_instances(retired: &[u32], life: Life) -> bool
+    ensures { result ≡ may_clean_instances retired.now life }
 {
     match life {
         Life::Live => false,
@@ -105,7 +105,7 @@ fn is_done(retired: &[u32], life: Life) -> bool
 pub(crate) fn may_stop(drafted: &Drafted, place: u32, serial: u32) -> bool
     ensures { result ≡ may_stop place serial drafted.now }
 {
-    is_over(serial, drafted.life)
+    may_stop_apps(serial, drafted.life)
         && drafted.stopped < drafted.started
         && u64::from(place) == drafted.started - drafted.stopped - 1
 }
@@ -121,7 +121,7 @@ pub(crate) fn all_stopped(drafted: &Drafted) -> bool
 pub(crate) fn may_clean(drafted: &Drafted, place: u32, retired: &[u32]) -> bool
     ensures { result ≡ may_clean place retired.now drafted.now }
 {
-    is_done(retired, drafted.life)
+    may_clean_instances(retired, drafted.life)
         && all_stopped(drafted)
         && drafted.cleaned < drafted.made
         && u64::from(place) == drafted.made - drafted.cleaned - 1

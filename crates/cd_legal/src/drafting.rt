@@ -1,7 +1,8 @@
 ghost use Rattle.std.specs.Prelude.{◌≡◌, ◌<◌, ◌+◌, ◌==◌, ◌&&◌, not, length, slice_get, IsTrue};
 ghost use Rattle.cd_legal.specs.State.{holds, is_live};
 ghost use Rattle.cd_legal.specs.declared.entry.Entry.TheVariants.{Draft, Publish, Abandon, Halt};
-ghost use Rattle.cd_legal.specs.Legal.{is_complete, Steps};
+ghost use Rattle.cd_legal.specs.Legal.{is_complete};
+ghost use Rattle.cd_legal.specs.Steps.{Steps};
 
 use crate::conditions::is_complete;
 use crate::drafts::set_life;

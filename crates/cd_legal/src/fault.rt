@@ -1,5 +1,4 @@
 use cd_text::NoMemory;
-use std::alloc::{AllocError, AllocFailed};
 
 /// Why a list of entries gives no state.
 #[derive(Clone, Copy, Debug, PartialEq, Eq)]
@@ -17,28 +16,6 @@ impl From<NoMemory> for ReplayFault {
     ghost from_gives = { λ _ made. made ≡ fault.NoMemory };
 
     fn from(_: NoMemory) -> ReplayFault {
-        ReplayFault::NoMemory
-    }
-}
-
-impl From<AllocError> for ReplayFault {
-    ghost use Rattle.std.specs.Prelude.{◌≡◌};
-    ghost use Rattle.cd_legal.specs.declared.fault.ReplayFault.TheVariants as fault;
-
-    ghost from_gives = { λ _ made. made ≡ fault.NoMemory };
-
-    fn from(_: AllocError) -> ReplayFault {
-        ReplayFault::NoMemory
-    }
-}
-
-impl<T: Drop> From<AllocFailed<T>> for ReplayFault {
-    ghost use Rattle.std.specs.Prelude.{◌≡◌};
-    ghost use Rattle.cd_legal.specs.declared.fault.ReplayFault.TheVariants as fault;
-
-    ghost from_gives = { λ _ made. made ≡ fault.NoMemory };
-
-    fn from(_: AllocFailed<T>) -> ReplayFault {
         ReplayFault::NoMemory
     }
 }

@@ -60,7 +60,7 @@ fn front(keys: &[Key], taken: u32) -> &[Key]
     }
 }
 
-fn is_next(key: &Key, keys: &[Key], taken: u32) -> bool
+fn is_key_at(key: &Key, keys: &[Key], taken: u32) -> bool
     ensures { result ≡ holds (key_eq key.now) (slice_get keys.now taken) }
 {
     match keys.get(taken as usize) {
@@ -81,7 +81,7 @@ pub(crate) fn keys_fit(pairs: &[Pair], keys: &[Key], taken: u32, failed: &Option
 {
     match failed {
         None => taken as usize == keys.len(),
-        Some(key) => is_next(key, keys, taken) && is_free(key, pairs, front(keys, taken)),
+        Some(key) => is_key_at(key, keys, taken) && is_free(key, pairs, front(keys, taken)),
     }
 }
 

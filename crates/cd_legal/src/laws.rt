@@ -1,22 +1,23 @@
 //! What the definitions mean beyond what a call says, each as a call that does nothing.
-ghost use Rattle.std.specs.Prelude.{◌≡◌, ◌≤◌, ◌<◌, ◌&&◌, ◌++◌, ◌∷◌, ◌+◌, [], ℕ, List, Some, is_none, IsTrue, cond, length};
+ghost use Rattle.std.specs.Prelude.{◌≡◌, ◌≤◌, ◌<◌, ◌&&◌, ◌++◌, ◌∷◌, ◌+◌, [], ℕ, List, Some, is_none, IsTrue, false, cond, length};
 ghost use mathlib.Core.List.{IsPrefix};
 ghost use Rattle.cd_outside.specs.declared.holder.Holder.{Holder};
 ghost use Rattle.cd_legal.specs.declared.entry.Entry.{Entry};
 ghost use Rattle.cd_legal.specs.declared.entry.Signed.{Signed};
+ghost use Rattle.cd_legal.specs.declared.state.State.{State};
 ghost use Rattle.cd_legal.specs.Entry.{signed, mine};
 ghost use Rattle.cd_legal.specs.State.{opening_state, has_number, draft_of, conf_of, ticket_of, open_by};
-ghost use Rattle.cd_legal.specs.Legal.{legal, refused_at, state_of, state_at, IsLegal};
+ghost use Rattle.cd_legal.specs.Legal.{allowed, legal, refused_at, state_of, state_at, IsLegal};
 ghost use Rattle.cd_legal.specs.Laws.{core, tickets_fit};
 ghost use Rattle.cd_legal.specs.Abandoned.{is_entry_of, is_abandoned_in, without_draft, Leaves};
-ghost use Rattle.cd_legal.specs.Whole.{begun, IsOver, IsWhole};
+ghost use Rattle.cd_legal.specs.Whole.{begun, is_closed_in, IsOver, IsWhole};
 ghost use Rattle.cd_legal.specs.Placed.{placed};
 ghost use Rattle.cd_legal.specs.Fresh.{Fresh};
 ghost use Rattle.cd_legal.specs.Owing.{owes_of, owes_by, owes_nothing};
-ghost use Rattle.cd_legal.specs.Signing.{IsHistory};
+ghost use Rattle.cd_legal.specs.Signing.{is_live_in, IsHistory};
 ghost use Rattle.cd_legal.specs.Begins.{begins_at, begins_now};
-ghost use Rattle.cd_legal.specs.Serials.{has_serial_in, times, last_conf};
-ghost use Rattle.cd_legal.specs.Calls.{fixture_calls, is_shut, shuts};
+ghost use Rattle.cd_legal.specs.Serials.{has_serial_in, times, last_conf, is_halted, publishings};
+ghost use Rattle.cd_legal.specs.Calls.{fixture_calls, is_shut, shuts, not_opened, failures};
 
 /// A list is legal exactly where it is legal without Begin and Finish, each Begin and Finish is allowed in the state where it
 /// stands, and each Retire finds no open ticket there.
@@ -62,7 +63,7 @@ pub fn what_is_over_is_whole()
     ensures { (log : List Entry) → IsTrue (legal log) → IsOver (state_of log) → IsWhole log }
 {}
 
-/// Each front of a legal list is legal, and each front of a history is a history.
+/// Each prefix of a legal list is legal, and each prefix of a history is a history.
 pub fn prefixes_are_histories()
     ensures legal { (front log : List Signed) → IsPrefix front log → IsLegal log → IsLegal front }
     ensures signed { (front log : List Signed) → IsPrefix front log → IsHistory log → IsHistory front }
@@ -88,16 +89,28 @@ pub fn passes_owe_their_tickets()
     ensures { (log : List Signed) (pass : ℕ) → IsHistory log → (owes_of pass log).ticket ≡ ticket_of pass (state_at log).tickets }
 {}
 
+/// In a history each draft that a pass owes is live and owed by no other pass, and each live draft is owed by one.
+pub fn live_drafts_are_owed()
+    ensures live { (log : List Signed) (pass draft : ℕ) → IsHistory log → (owes_of pass log).draft ≡ Some draft →
+        IsTrue (is_live_in (state_at log) draft) }
+    ensures one { (log : List Signed) (pass other draft : ℕ) → IsHistory log → (owes_of pass log).draft ≡ Some draft →
+        (owes_of other log).draft ≡ Some draft → pass ≡ other }
+    ensures owned { (log : List Signed) (draft : ℕ) → IsHistory log → IsTrue (is_live_in (state_at log) draft) →
+        (pass : ℕ) × ((owes_of pass log).draft ≡ Some draft) }
+{}
+
 /// The requests that a legal list begins under its current serial are as many as are counted entry by entry, where each new
 /// serial begins at 0.
 pub fn begins_are_counted()
     ensures { (log : List Entry) → IsTrue (legal log) → begins_now log ≡ begins_at (state_of log).serial log }
 {}
 
-/// The serial of a legal list is the number of its published drafts, and one more once the host has halted.
+/// The serial of a legal list is the number of its published drafts, and one more once the host has halted; as many drafts
+/// are published as it has entries that publish.
 pub fn publishing_and_halting_make_the_serial()
-    ensures { (log : List Entry) → IsTrue (legal log) →
+    ensures serial { (log : List Entry) → IsTrue (legal log) →
         length (state_of log).published + cond (state_of log).halted 1 0 ≡ (state_of log).serial }
+    ensures published { (log : List Entry) → length (state_of log).published ≡ publishings log }
 {}
 
 /// While a legal history grows, its serial never falls.
@@ -123,7 +136,9 @@ pub fn serials_are_retired_once()
 /// The current configuration of a legal list is that of its last Publish, or the halted one; before either it is the
 /// opening one.
 pub fn the_current_configuration_is_the_last_one()
-    ensures { (log : List Entry) → IsTrue (legal log) → conf_of (state_of log) (state_of log).serial ≡ last_conf log }
+    ensures last { (log : List Entry) → IsTrue (legal log) → conf_of (state_of log) (state_of log).serial ≡ last_conf log }
+    ensures halted { (log : List Entry) → IsTrue (legal log) →
+        is_halted (conf_of (state_of log) (state_of log).serial) ≡ (state_of log).halted }
 {}
 
 /// While a legal history grows, each serial that is there keeps its configuration.
@@ -136,4 +151,15 @@ pub fn configurations_stay()
 /// stopped, and before that not at all.
 pub fn fixtures_are_shut_once()
     ensures { (log : List Entry) → IsTrue (legal log) → shuts (fixture_calls log) ≡ cond (is_shut (state_of log)) 1 0 }
+{}
+
+/// The fixtures of a list are asked for as many openings that fail as it has entries with a failed key.
+pub fn openings_fail_by_failed_keys()
+    ensures { (log : List Entry) → not_opened (fixture_calls log) ≡ failures log }
+{}
+
+/// Of a draft that is done with, and of which all that was made is ended, no entry is allowed.
+pub fn closed_drafts_have_no_further_entries()
+    ensures { (state : State) (draft : ℕ) (entry : Entry) → IsTrue (is_closed_in state draft) → IsTrue (is_entry_of draft entry) →
+        allowed state entry ≡ false }
 {}

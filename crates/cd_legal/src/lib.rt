@@ -36,8 +36,9 @@ pub use entry::{Change, Entry, Signed};
 pub use fault::ReplayFault;
 pub use laws::{
     abandoned_drafts_leave_all_else, abandoned_drafts_leave_no_trace, begins_are_counted,
-    callers_have_one_ticket, configurations_stay, fixtures_are_shut_once, legal_is_fresh,
-    legal_where_nothing_is_refused, nothing_is_made_twice, passes_owe_by_their_own_entries,
+    callers_have_one_ticket, closed_drafts_have_no_further_entries, configurations_stay,
+    fixtures_are_shut_once, legal_is_fresh, legal_where_nothing_is_refused, live_drafts_are_owed,
+    nothing_is_made_twice, openings_fail_by_failed_keys, passes_owe_by_their_own_entries,
     passes_owe_their_tickets, prefixes_are_histories, published_drafts_have_their_serials,
     publishing_and_halting_make_the_serial, serials_are_retired_once,
     the_current_configuration_is_the_last_one, the_serial_never_falls, tickets_stand_apart,

@@ -1,7 +1,8 @@
 ghost use Rattle.std.specs.Prelude.{◌≡◌, slice_get};
 ghost use Rattle.cd_legal.specs.declared.entry.Entry.TheVariants.{Made, Started, Stopped, Cleaned};
 ghost use Rattle.cd_legal.specs.State.{holds, keys_for, module_keys, app_keys};
-ghost use Rattle.cd_legal.specs.Legal.{may_make, may_start, may_stop, may_clean, Steps};
+ghost use Rattle.cd_legal.specs.Legal.{may_make, may_start, may_stop, may_clean};
+ghost use Rattle.cd_legal.specs.Steps.{Steps};
 
 use crate::conditions::{may_clean, may_make, may_start, may_stop};
 use crate::drafts::{add_cleaned, add_made, add_started, add_stopped};

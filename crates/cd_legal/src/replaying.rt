@@ -2,7 +2,8 @@ ghost use Rattle.std.specs.Prelude.{◌≡◌};
 ghost use Rattle.cd_text.specs.Gives.{Gives};
 ghost use Rattle.cd_legal.specs.declared.fault.ReplayFault.TheVariants.{NoMemory as OutOfMemory};
 ghost use Rattle.cd_legal.specs.State.{opening_state};
-ghost use Rattle.cd_legal.specs.Legal.{replayed, Steps};
+ghost use Rattle.cd_legal.specs.Legal.{replayed};
+ghost use Rattle.cd_legal.specs.Steps.{Steps};
 
 use crate::drafting::{abandon, draft, halt, publish};
 use crate::making::{clean, make, start, stop};

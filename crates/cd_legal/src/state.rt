@@ -33,7 +33,7 @@ pub enum Life {
 
 /// A draft, and how far it has come. Apps stop and instances are cleaned last first, so these are counts.
 ///
-/// Counts have 64 bits, as the places of instances and apps have 32 and one more is counted than the last place.
+/// Counts have 64 bits: a place has 32, and the count is one more than the last place.
 #[derive(Drop)]
 pub struct Drafted {
     pub tree: Tree,

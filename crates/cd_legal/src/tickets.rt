@@ -1,7 +1,8 @@
 ghost use Rattle.std.specs.Prelude.{◌≡◌};
 ghost use Rattle.cd_legal.specs.declared.entry.Entry.TheVariants.{Begin, Finish, Retire};
 ghost use Rattle.cd_legal.specs.State.{all_stopped, apps_stopped, has_ticket, is_ticketed, without_ticket, draft_of, of_draft};
-ghost use Rattle.cd_legal.specs.Legal.{may_retire, Steps};
+ghost use Rattle.cd_legal.specs.Legal.{may_retire};
+ghost use Rattle.cd_legal.specs.Steps.{Steps};
 
 use crate::conditions::{all_stopped, has_number};
 use crate::{OpenTicket, State};
