@@ -10,8 +10,8 @@ use Rattle.json.specs.Token.{Token}
 use Rattle.json.specs.Word.{is_space, word, literal, number_before, after_number, ends_word, head}
 use Rattle.serde_json.specs.Data as reading
 use Rattle.serde_json.specs.Read.{read, of_json, number_of, max_depth}
-use Rattle.cd_text.specs.Steps.{◌▷◌}
-use Rattle.cd_tree.specs.Reading.{json_reading, of_reading, some_or, tree_of, unless}
+use Rattle.cd_text.specs.Steps.{◌▷◌, refused_where, some_or}
+use Rattle.cd_tree.specs.Reading.{json_reading, of_reading, tree_of}
 use Rattle.cd_tree.specs.Tree.{text}
 use Rattle.cd_tree.specs.declared.fault.TreeFault.{TreeFault}
 use Rattle.cd_tree.specs.declared.fault.TreeFault.TheVariants.{NotJson, TooDeep, TooLong}
@@ -198,22 +198,22 @@ reading-plain (reading.string s) p = search (rules, the_lemmas)
 reading-plain (reading.array ds) p = cc
 reading-plain (reading.object ms) p = cc
 
-unless-plain : (b : Bool) (fault : TreeFault) (next : Result Tree TreeFault) → nests_if_tree next ≡ false → nests_if_tree (unless b fault ▷ λ _. next) ≡ false
+unless-plain : (b : Bool) (fault : TreeFault) (next : Result Tree TreeFault) → nests_if_tree next ≡ false → nests_if_tree (refused_where b fault ▷ λ _. next) ≡ false
 unless-plain true fault next p = refl
 unless-plain false fault next p = p
 
 -- the last test passes the tree on, or refuses
-passed-plain : (t : Result Tree TreeFault) (test : Tree → Bool) (fault : TreeFault) → nests_if_tree t ≡ false → nests_if_tree (t ▷ λ found. unless (test found) fault ▷ λ _. Ok found) ≡ false
+passed-plain : (t : Result Tree TreeFault) (test : Tree → Bool) (fault : TreeFault) → nests_if_tree t ≡ false → nests_if_tree (t ▷ λ found. refused_where (test found) fault ▷ λ _. Ok found) ≡ false
 passed-plain (Ok found) test fault p = unless-plain (test found) fault (Ok found) p
 passed-plain (Err e) test fault p = refl
 
 read-plain : (found : Option reading.Data) (fault deep long : TreeFault) (too_deep : reading.Data → Bool) (too_long : Tree → Bool) → found_nests found ≡ false
-    → nests_if_tree (some_or fault found ▷ λ value. unless (too_deep value) deep ▷ λ _. of_reading value ▷ λ t. unless (too_long t) long ▷ λ _. Ok t) ≡ false
+    → nests_if_tree (some_or fault found ▷ λ value. refused_where (too_deep value) deep ▷ λ _. of_reading value ▷ λ t. refused_where (too_long t) long ▷ λ _. Ok t) ≡ false
 read-plain None fault deep long too_deep too_long p = refl
 read-plain (Some d) fault deep long too_deep too_long p = unless-plain (too_deep d) deep _ (passed-plain (of_reading d) too_long long (reading-plain d p))
 
 utf8-plain : (b : Bool) (found : Option reading.Data) (fault other deep long : TreeFault) (too_deep : reading.Data → Bool) (too_long : Tree → Bool) → found_nests found ≡ false
-    → nests_if_tree ((unless b other ▷ λ _. some_or fault found) ▷ λ value. unless (too_deep value) deep ▷ λ _. of_reading value ▷ λ t. unless (too_long t) long ▷ λ _. Ok t) ≡ false
+    → nests_if_tree ((refused_where b other ▷ λ _. some_or fault found) ▷ λ value. refused_where (too_deep value) deep ▷ λ _. of_reading value ▷ λ t. refused_where (too_long t) long ▷ λ _. Ok t) ≡ false
 utf8-plain true found fault other deep long too_deep too_long p = refl
 utf8-plain false found fault other deep long too_deep too_long p = read-plain found fault deep long too_deep too_long p
 
@@ -230,7 +230,7 @@ plain_start x xs plain =
     let none = none-of (x == ascii.open_brace) (x == ascii.open_bracket) (is_space x) plain in
     let tokens-are : first_opens (tokens (x ∷ xs)) ≡ false = tokens-plain x xs none.0 none.1 none.2 in
     unless-plain (nat_lt MAX_TEXT_BYTES (length (x ∷ xs))) TooLong
-    (json_reading (x ∷ xs) ▷ λ value. unless (nat_lt MAX_DEPTH (reading.depth value)) TooDeep ▷ λ _. of_reading value ▷ λ t. unless (nat_lt MAX_TEXT_BYTES (length (text t))) TooLong ▷ λ _. Ok t)
+    (json_reading (x ∷ xs) ▷ λ value. refused_where (nat_lt MAX_DEPTH (reading.depth value)) TooDeep ▷ λ _. of_reading value ▷ λ t. refused_where (nat_lt MAX_TEXT_BYTES (length (text t))) TooLong ▷ λ _. Ok t)
     (utf8-plain (not (is_utf8 (x ∷ xs))) (read (x ∷ xs)) NotJson NotJson TooDeep TooLong (λ value. nat_lt MAX_DEPTH (reading.depth value)) (λ t. nat_lt MAX_TEXT_BYTES (length (text t)))
     (document-plain (json.value max_depth (tokens (x ∷ xs))) (value-plain max_depth (tokens (x ∷ xs)) tokens-are)))
 

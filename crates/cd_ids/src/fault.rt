@@ -1,6 +1,6 @@
 use cd_text::{NoMemory, Text};
 use cd_tree::Path;
-use std::alloc::{AllocError, AllocFailed};
+use std::alloc::AllocFailed;
 
 /// Why a tree has no index of its ids.
 #[derive(Debug, Drop)]
@@ -9,6 +9,7 @@ pub enum IdFault {
     Repeated(Text, Path, Path),
     /// An `@id` is neither a text nor a whole number nor null. The path leads to it.
     BadKind(Path),
+    /// Memory ran out.
     NoMemory,
 }
 
@@ -19,17 +20,6 @@ impl From<NoMemory> for IdFault {
     ghost from_gives = { λ _ fault. fault ≡ out_of_memory };
 
     fn from(_: NoMemory) -> IdFault {
-        IdFault::NoMemory
-    }
-}
-
-impl From<AllocError> for IdFault {
-    ghost use Rattle.std.specs.Prelude.{◌≡◌};
-    ghost use Rattle.cd_ids.specs.declared.fault.IdFault.TheVariants.{NoMemory as out_of_memory};
-
-    ghost from_gives = { λ _ fault. fault ≡ out_of_memory };
-
-    fn from(_: AllocError) -> IdFault {
         IdFault::NoMemory
     }
 }

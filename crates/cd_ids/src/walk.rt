@@ -109,13 +109,13 @@ fn note_own(
     ensures { Gives IdFault.NoMemory (result_map_both (λ _. index.new) (λ fault. fault) result)
         (noted index.old (own (map walk_member members.now) at.now)) }
 {
-    match (Fields { members }).get("@id") {
+    match Fields::of_any(members).get("@id") {
         None => Ok(()),
         Some(value) => note_claim(alloc, value, at, index),
     }
 }
 
-/// Notes what the `@id` of an object says, which is not null.
+/// Notes what the `@id` of an object says.
 fn note_claim(alloc: Global, value: &Tree, at: &Path, index: &mut Index) -> Result<(), IdFault>
     ensures { Gives IdFault.NoMemory (result_map_both (λ _. index.new) (λ fault. fault) result)
         (noted index.old (claimed (walk value.now).claim at.now)) }

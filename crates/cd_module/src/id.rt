@@ -6,6 +6,7 @@ ghost use Rattle.cd_module.specs.Ids.{is_label_byte, is_label, id_of, name_in, n
 
 use cd_text::{List, NoMemory, Text, parts_of};
 use std::alloc::Global;
+use thiserror::Error;
 
 /// Names a module: labels joined by dots, as `http.handlers.static_response`.
 #[derive(Debug, Drop)]
@@ -15,11 +16,13 @@ pub struct ModuleId {
 }
 
 /// Why a text names no module.
-#[derive(Clone, Copy, Debug, PartialEq, Eq)]
+#[derive(Clone, Copy, Debug, PartialEq, Eq, Error)]
 pub enum IdFormFault {
     /// It is not made of labels of `a` to `z`, `0` to `9` and `_`, which single dots join.
+    #[error("the text does not have the form of a module id")]
     BadForm,
     /// Memory ran out.
+    #[error("out of memory")]
     NoMemory,
 }
 

@@ -77,7 +77,7 @@ pub fn name_of(alloc: Global, tree: &Tree, at: &Path, member: &str) -> Result<Te
     ensures { Gives LoadFault.NoMemory result (name_there member.now tree.now at.now) }
 {
     match tree {
-        Tree::Object(members) => needed::<Text>(alloc, &Fields { members }, at, member),
+        Tree::Object(members) => needed::<Text>(alloc, &Fields::of_any(members), at, member),
         _ => Err(LoadFault::at(alloc, LoadKind::WrongKind, at)),
     }
 }

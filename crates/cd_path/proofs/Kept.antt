@@ -6,7 +6,7 @@ use Rattle.std.proofs.lemmas.Slice.Eq.{bytes_eq-Decides}
 use Rattle.std.specs.Result.{result_unwrap_or}
 use Rattle.std.specs.Str.{bytes_eq}
 use Rattle.cd_text.specs.Gives.{Gives}
-use Rattle.cd_text.specs.Steps.{◌▷◌}
+use Rattle.cd_text.specs.Steps.{◌▷◌, refused_where}
 use Rattle.cd_tree.specs.Fields.{null_layer}
 use Rattle.cd_tree.specs.Tree.{depth, text}
 use Rattle.cd_tree.specs.declared.limits.TheConstants.{MAX_DEPTH, MAX_TEXT_BYTES}
@@ -20,7 +20,6 @@ use Rattle.cd_path.specs.Editing.{bound, position_edit, key_edit, last_edit, all
 use Rattle.cd_path.specs.Looking.{member_at, child_layer, child, or_null, walk, ellipsis, ends_in_ellipsis}
 use Rattle.cd_path.specs.Members.{with_member}
 use Rattle.cd_path.specs.Position.{position, place}
-use Rattle.cd_path.specs.Refusing.{unless}
 use Rattle.cd_path.specs.declared.fault.EditFault.{EditFault}
 use Rattle.cd_path.specs.declared.fault.EditFault.TheVariants.{NotTraversable, EllipsisVerb, BodyMissing, ResultTooDeep, ResultTooLong, NoMemory}
 use Rattle.cd_path.specs.declared.verb.Verb.{Verb}
@@ -228,7 +227,7 @@ change-keeps verb body (part ∷ next ∷ rest) (other ∷ more) t h =
 
 -- ---- an edit
 
-look_kept : (b : Bool) (parts : List (List ℕ)) (t made : Tree) (found : Option Tree) → Keeps parts t made → (unless b EllipsisVerb ▷ λ _. walk parts (Some t)) ≡ Ok found → (unless b EllipsisVerb ▷ λ _. walk parts (Some made)) ≡ Ok found
+look_kept : (b : Bool) (parts : List (List ℕ)) (t made : Tree) (found : Option Tree) → Keeps parts t made → (refused_where b EllipsisVerb ▷ λ _. walk parts (Some t)) ≡ Ok found → (refused_where b EllipsisVerb ▷ λ _. walk parts (Some made)) ≡ Ok found
 look_kept true parts t made found k h = cc
 look_kept false parts t made found k h = k found h
 

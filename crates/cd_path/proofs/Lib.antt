@@ -6,3 +6,5 @@ pub mod Outcomes
 pub mod Puts
 pub mod SetMembers
 pub mod Steps
+pub mod Deeper
+pub mod Places

@@ -2,9 +2,8 @@
 use Rattle.std.proofs.Common.{◌≡◌, ℕ, ◌<◌, List, nat_lt, Bool, true, false, cond, Option, Some, None, Result, Ok, Err, IfOk, refl, subst}
 use Rattle.std.proofs.lemmas.Bool.{ltb-true}
 use Rattle.cd_text.specs.Gives.{Gives}
-use Rattle.cd_text.specs.Steps.{◌▷◌}
+use Rattle.cd_text.specs.Steps.{◌▷◌, refused_where, some_or}
 use Rattle.cd_path.specs.Position.{position, place}
-use Rattle.cd_path.specs.Refusing.{unless, some_or}
 use Rattle.cd_path.specs.declared.fault.EditFault.{EditFault}
 use Rattle.cd_path.specs.declared.fault.EditFault.TheVariants.{BadIndex, OutOfBounds, NoMemory}
 
@@ -36,7 +35,7 @@ either_ok P true r s p q = p
 either_ok P false r s p q = q
 
 -- a refused test gives no value
-pub unless_ok : {A : Type 0} (P : A → Type 0) (b : Bool) (fault : EditFault) (r : Result A EditFault) → IfOk r P → IfOk (unless b fault ▷ λ _. r) P
+pub unless_ok : {A : Type 0} (P : A → Type 0) (b : Bool) (fault : EditFault) (r : Result A EditFault) → IfOk r P → IfOk (refused_where b fault ▷ λ _. r) P
 unless_ok P true fault r p = tt
 unless_ok P false fault r p = p
 

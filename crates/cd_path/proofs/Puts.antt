@@ -4,7 +4,7 @@ use Rattle.std.specs.Prelude.{IsOk}
 use Rattle.std.proofs.lemmas.Option.{slice_get_within, get_or_from_slice_get}
 use Rattle.std.proofs.lemmas.Slice.Eq.{bytes_eq-Decides}
 use Rattle.std.specs.Str.{bytes_eq}
-use Rattle.cd_text.specs.Steps.{◌▷◌}
+use Rattle.cd_text.specs.Steps.{◌▷◌, refused_where}
 use Rattle.cd_tree.specs.Path.{◌▸◌}
 use Rattle.cd_tree.specs.Tree.{depth, text}
 use Rattle.cd_tree.specs.declared.limits.TheConstants.{MAX_DEPTH, MAX_TEXT_BYTES}
@@ -19,7 +19,6 @@ use Rattle.cd_path.specs.Looking.{member_at, child_layer, child, or_null, walk, 
 use Rattle.cd_path.specs.Members.{with_member}
 use Rattle.cd_path.specs.Position.{position}
 use Rattle.cd_path.specs.Puts.{put, IsNotTooLarge}
-use Rattle.cd_path.specs.Refusing.{unless}
 use Rattle.cd_path.specs.declared.fault.EditFault.{EditFault}
 use Rattle.cd_path.specs.declared.fault.EditFault.TheVariants.{NotTraversable, NotAList, EllipsisVerb, ResultTooDeep, ResultTooLong}
 use Rattle.cd_path.specs.declared.verb.Verb.{Verb}
@@ -30,7 +29,7 @@ use Rattle.cd_path.proofs.Steps.{place_is, element_found, get_set_same}
 
 -- ---- a change at a path that goes on
 
-change_way : (verb : Verb) (body : Tree) (part : List ℕ) (rest : List (List ℕ)) (key : List ℕ) (t : Tree) → change verb body (part ∷ (rest ++ key ∷ [])) t ≡ way_edit verb (change verb body (rest ++ key ∷ [])) part (out-Tree t)
+pub change_way : (verb : Verb) (body : Tree) (part : List ℕ) (rest : List (List ℕ)) (key : List ℕ) (t : Tree) → change verb body (part ∷ (rest ++ key ∷ [])) t ≡ way_edit verb (change verb body (rest ++ key ∷ [])) part (out-Tree t)
 change_way verb body part [] key t = refl
 change_way verb body part (next ∷ rest) key t = refl
 
@@ -91,7 +90,7 @@ record Square (rest : List (List ℕ)) (one two : List ℕ) (a b t : Tree) : Typ
   pub one_then : change Put a (rest ++ one ∷ []) with_two ≡ Ok both
 
 -- a PUT at an absent key of an object
-put_key : (key : List ℕ) (body t : Tree) (ms : List Member) → bytes_eq key ellipsis ≡ false → out-Tree t ≡ Tree-F.Object ms → member_at key ms ≡ None → change Put body (key ∷ []) t ≡ Ok (Object (with_member key (Some body) ms))
+pub put_key : (key : List ℕ) (body t : Tree) (ms : List Member) → bytes_eq key ellipsis ≡ false → out-Tree t ≡ Tree-F.Object ms → member_at key ms ≡ None → change Put body (key ∷ []) t ≡ Ok (Object (with_member key (Some body) ms))
 put_key key body t ms d e m =
     ap (λ b. cond b (ellipsis_edit body (out-Tree t)) (last_edit Put body key (out-Tree t))) d ∙ ap (last_edit Put body key) e
     ∙ ap (λ v. key_edit Put body v ▷ λ value. Ok (Object (with_member key value ms))) m
@@ -220,12 +219,12 @@ get_end : (parts : List (List ℕ)) (key : List ℕ) → slice_get (parts ++ key
 get_end [] key = refl
 get_end (part ∷ parts) key = get_end parts key
 
-last_is : (parts : List (List ℕ)) (key : List ℕ) → ends_in_ellipsis (parts ++ key ∷ []) ≡ bytes_eq key ellipsis
+pub last_is : (parts : List (List ℕ)) (key : List ℕ) → ends_in_ellipsis (parts ++ key ∷ []) ≡ bytes_eq key ellipsis
 last_is parts key =
     let n : length (parts ++ key ∷ []) - 1 ≡ length parts = omega (arith, length-append parts (key ∷ [])) in
     ap (λ k. is_ellipsis (slice_get (parts ++ key ∷ []) k)) n ∙ ap is_ellipsis (get_end parts key)
 
-looked : (b : Bool) (r : Result (Option Tree) EditFault) (found : Option Tree) → (unless b EllipsisVerb ▷ λ _. r) ≡ Ok found → (b ≡ false) × (r ≡ Ok found)
+looked : (b : Bool) (r : Result (Option Tree) EditFault) (found : Option Tree) → (refused_where b EllipsisVerb ▷ λ _. r) ≡ Ok found → (b ≡ false) × (r ≡ Ok found)
 looked true r found h = cc
 looked false r found h = (refl, h)
 
@@ -235,9 +234,9 @@ absent t path key h = looked (ends_in_ellipsis (path.parts ++ key ∷ [])) (walk
 
 put_is : (t body made : Tree) (path : Path) (key : List ℕ) → ends_in_ellipsis (path.parts ++ key ∷ []) ≡ false → change Put body (path.parts ++ key ∷ []) t ≡ Ok made → put (path ▸ key) body t ≡ within_limits made
 put_is t body made path key e h =
-    ap (λ b. unless (b && not (is_post Put)) EllipsisVerb ▷ λ _. change Put body (path.parts ++ key ∷ []) t ▷ λ m. within_limits m) e ∙ ap (λ r. r ▷ λ m. within_limits m) h
+    ap (λ b. refused_where (b && not (is_post Put)) EllipsisVerb ▷ λ _. change Put body (path.parts ++ key ∷ []) t ▷ λ m. within_limits m) e ∙ ap (λ r. r ▷ λ m. within_limits m) h
 
-fits : (a b : Bool) (made : Tree) → IsNotTooLarge (unless a ResultTooDeep ▷ λ _. unless b ResultTooLong ▷ λ _. Ok made) → (unless a ResultTooDeep ▷ λ _. unless b ResultTooLong ▷ λ _. Ok made) ≡ Ok made
+fits : (a b : Bool) (made : Tree) → IsNotTooLarge (refused_where a ResultTooDeep ▷ λ _. refused_where b ResultTooLong ▷ λ _. Ok made) → (refused_where a ResultTooDeep ▷ λ _. refused_where b ResultTooLong ▷ λ _. Ok made) ≡ Ok made
 fits true b made h = absurd (h.0 refl)
 fits false true made h = absurd (h.1 refl)
 fits false false made h = refl

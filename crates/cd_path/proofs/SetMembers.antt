@@ -221,3 +221,9 @@ member_at-with_member-same k v ms =
     member_at-append k (filter (is_before k) ms) _
     ∙ ap₂ found_or (member_at-filter-none k (is_before k) ms (λ m h. unlike (key_of m) k Less (less _ h) refl))
     (ap₂ (λ b w. cond b (Some w) (member_at k (filter (is_after k) ms))) (ap (λ w. bytes_eq w k) (keyed k v) ∙ itself k) (valued k v))
+
+-- the key has nothing where it is taken away
+pub member_at-with_member-none : (k : List ℕ) (ms : List Member) → member_at k (with_member k None ms) ≡ None
+member_at-with_member-none k ms =
+    member_at-append k (filter (is_before k) ms) _
+    ∙ ap₂ found_or (member_at-filter-none k (is_before k) ms (λ m h. unlike (key_of m) k Less (less _ h) refl)) (member_at-filter-none k (is_after k) ms (λ m h. unlike (key_of m) k Greater (greater _ h) refl))

@@ -1,16 +1,15 @@
 -- One part of a path, in a list and in an object.
-use Rattle.std.proofs.Common.{◌≡◌, ◌≢◌, ℕ, zero, suc, ◌<◌, nat_lt, List, [], ◌∷◌, ◌++◌, length, get_or, take, set, slice_get, Option, Some, Ok, Err, cond, refl, sym, ap, ◌∙◌, arith}
+use Rattle.std.proofs.Common.{◌≡◌, ◌≢◌, ℕ, zero, suc, ◌<◌, ◌-◌, nat_lt, List, [], ◌∷◌, ◌++◌, length, get_or, take, set, slice_get, Option, Some, Ok, Err, cond, refl, sym, ap, ◌∙◌, arith}
 use Rattle.std.proofs.lemmas.Bool.{lt-ltb}
 use Rattle.std.proofs.lemmas.Option.{slice_get-get_or, slice_get_within}
-use Rattle.cd_text.specs.Steps.{◌▷◌}
+use Rattle.cd_text.specs.Steps.{◌▷◌, some_or}
 use Rattle.cd_tree.specs.declared.tree.Member.{Member}
 use Rattle.cd_tree.specs.declared.tree.Tree.{Tree, Null, Items, Object}
 use Rattle.cd_tree.specs.declared.tree.Tree.TheOpen.{Tree-F}
 use Rattle.cd_tree.specs.declared.tree.Tree.TheVariants.{outs-Items, outs-Object}
 use Rattle.cd_tree.proofs.Outcomes.{chained}
-use Rattle.cd_path.specs.Looking.{member_at, child_layer, child, walk}
+use Rattle.cd_path.specs.Looking.{member_at, child_layer, child, walk, is_ellipsis, ends_in_ellipsis}
 use Rattle.cd_path.specs.Position.{position, place}
-use Rattle.cd_path.specs.Refusing.{some_or}
 use Rattle.cd_path.specs.declared.fault.EditFault.TheVariants.{BadIndex, OutOfBounds}
 use Rattle.cd_path.proofs.Outcomes.{place_tells, from_ok}
 
@@ -46,6 +45,15 @@ child-Items part items = ap (child_layer part) (outs-Items items)
 
 pub child-Object : (part : List ℕ) (members : List Member) → child part (Object members) ≡ Ok (member_at part members)
 child-Object part members = ap (child_layer part) (outs-Object members)
+
+-- ---- the last part
+
+-- the last of the parts is the last of those after the first
+pub last_of_rest : (part next : List ℕ) (rest : List (List ℕ)) → ends_in_ellipsis (part ∷ next ∷ rest) ≡ ends_in_ellipsis (next ∷ rest)
+last_of_rest part next rest =
+    let one : suc (suc (length rest)) - 1 ≡ suc (length rest) = omega arith in
+    let other : suc (length rest) - 1 ≡ length rest = omega arith in
+    ap (λ n. is_ellipsis (slice_get (part ∷ next ∷ rest) n)) one ∙ ap (λ n. is_ellipsis (slice_get (next ∷ rest) n)) (sym other)
 
 -- ---- walks
 

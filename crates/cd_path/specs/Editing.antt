@@ -1,7 +1,7 @@
 -- The tree that an edit makes.
 use Rattle.std.specs.Prelude.{ℕ, suc, ◌&&◌, not, nat_lt, Bool, true, false, if◌then◌else◌, List, [], ◌∷◌, ◌++◌, length, slice_index_or, slice_set, insert, remove, Option, Some, None, is_none, unwrap_or, option_and_then, Result, Ok, Err}
 use Rattle.std.specs.Str.{bytes_eq}
-use Rattle.cd_text.specs.Steps.{◌▷◌}
+use Rattle.cd_text.specs.Steps.{◌▷◌, refused_where}
 use Rattle.cd_tree.specs.Fields.{unless_null}
 use Rattle.cd_tree.specs.Tree.{depth, text}
 use Rattle.cd_tree.specs.declared.limits.TheConstants.{MAX_DEPTH, MAX_TEXT_BYTES}
@@ -12,7 +12,6 @@ use Rattle.cd_tree.specs.declared.tree.Tree.TheOpen.{Tree-F}
 use Rattle.cd_path.specs.Looking.{member_at, or_null, ellipsis, ends_in_ellipsis}
 use Rattle.cd_path.specs.Members.{with_member}
 use Rattle.cd_path.specs.Position.{place}
-use Rattle.cd_path.specs.Refusing.{unless}
 use Rattle.cd_path.specs.declared.fault.EditFault.{EditFault}
 use Rattle.cd_path.specs.declared.fault.EditFault.TheVariants.{NoSuchKey, KeyExists, NotTraversable, NotAList, BodyNotList, PositionPost, BodyMissing, EllipsisVerb, ResultTooDeep, ResultTooLong}
 use Rattle.cd_path.specs.declared.verb.Verb.{Verb}
@@ -100,14 +99,14 @@ is_delete _ = false
 -- the tree, if it is neither too deep nor too long
 abbrev pub within_limits : Tree → Result Tree EditFault
 within_limits made =
-    unless (nat_lt MAX_DEPTH (depth made)) ResultTooDeep ▷ λ _.
-    unless (nat_lt MAX_TEXT_BYTES (length (text made))) ResultTooLong ▷ λ _.
+    refused_where (nat_lt MAX_DEPTH (depth made)) ResultTooDeep ▷ λ _.
+    refused_where (nat_lt MAX_TEXT_BYTES (length (text made))) ResultTooLong ▷ λ _.
     Ok made
 
 -- the tree that the edit makes, or the first refusal
 abbrev pub edit : Tree → Verb → Path → Option Tree → Result Tree EditFault
 edit t verb path body =
-    unless (ends_in_ellipsis path.parts && not (is_post verb)) EllipsisVerb ▷ λ _.
-    unless (is_none body && not (is_delete verb)) BodyMissing ▷ λ _.
+    refused_where (ends_in_ellipsis path.parts && not (is_post verb)) EllipsisVerb ▷ λ _.
+    refused_where (is_none body && not (is_delete verb)) BodyMissing ▷ λ _.
     change verb (or_null body) path.parts t ▷ λ made.
     within_limits made

@@ -4,4 +4,4 @@ pub mod Looking
 pub mod Members
 pub mod Position
 pub mod Puts
-pub mod Refusing
+pub mod TooDeep

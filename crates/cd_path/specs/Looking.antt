@@ -1,13 +1,12 @@
 -- What stands in a tree at a path.
 use Rattle.std.specs.Prelude.{ℕ, ◌-◌, Bool, false, if◌then◌else◌, List, [], ◌∷◌, length, slice_get, codes, Option, Some, None, unwrap_or, Result, Ok, Err}
 use Rattle.std.specs.Str.{bytes_eq}
-use Rattle.cd_text.specs.Steps.{◌▷◌}
+use Rattle.cd_text.specs.Steps.{◌▷◌, refused_where}
 use Rattle.cd_tree.specs.declared.path.Path.{Path}
 use Rattle.cd_tree.specs.declared.tree.Member.{Member, out-Member}
 use Rattle.cd_tree.specs.declared.tree.Tree.{Tree, Null, out-Tree}
 use Rattle.cd_tree.specs.declared.tree.Tree.TheOpen.{Tree-F}
 use Rattle.cd_path.specs.Position.{place}
-use Rattle.cd_path.specs.Refusing.{unless}
 use Rattle.cd_path.specs.declared.fault.EditFault.{EditFault}
 use Rattle.cd_path.specs.declared.fault.EditFault.TheVariants.{NotTraversable, EllipsisVerb}
 
@@ -53,4 +52,4 @@ ends_in_ellipsis parts = is_ellipsis (slice_get parts (length parts - 1))
 
 -- the value at the path, or none for an absent key of an object
 abbrev pub look : Tree → Path → Result (Option Tree) EditFault
-look t path = unless (ends_in_ellipsis path.parts) EllipsisVerb ▷ λ _. walk path.parts (Some t)
+look t path = refused_where (ends_in_ellipsis path.parts) EllipsisVerb ▷ λ _. walk path.parts (Some t)

@@ -2,8 +2,7 @@
 use Rattle.std.specs.Prelude.{ℕ, ◌+◌, ◌-◌, ◌*◌, ◌&&◌, ◌||◌, ◌==◌, not, nat_lt, Bool, false, if◌then◌else◌, List, [], ◌∷◌, length, Option, Some, None, Result, Ok, Err, fold}
 use Rattle.std.specs.Char.{is_ascii_digit}
 use Rattle.std.specs.List.{list_all}
-use Rattle.cd_text.specs.Steps.{◌▷◌}
-use Rattle.cd_path.specs.Refusing.{some_or}
+use Rattle.cd_text.specs.Steps.{◌▷◌, some_or}
 use Rattle.cd_path.specs.declared.fault.EditFault.{EditFault}
 use Rattle.cd_path.specs.declared.fault.EditFault.TheVariants.{BadIndex, OutOfBounds}
 

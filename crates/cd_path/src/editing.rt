@@ -1,6 +1,7 @@
 ghost use Rattle.std.specs.Prelude.{◌≡◌, [], length, IsTrue, IfOk};
 ghost use Rattle.std.specs.Option.{option_copied, ForSome};
 ghost use Rattle.cd_text.specs.Gives.{Gives};
+ghost use Rattle.cd_text.specs.Steps.{◌▷◌};
 ghost use Rattle.cd_tree.specs.Tree.{IsSound, is_ordered};
 ghost use Rattle.cd_tree.specs.declared.tree.Tree.{Null, Object};
 ghost use Rattle.cd_path.specs.Apart.{LeavesOthers};
@@ -12,6 +13,7 @@ use crate::last_part::{edit_last, edit_root, post_all};
 use crate::looking::{has_last_ellipsis, member_of};
 use crate::members::set_member;
 use crate::position::place_of;
+use crate::too_deep::puts_too_deep;
 use crate::verb::Verb;
 use cd_text::{List, Text};
 use cd_tree::{MAX_DEPTH, MAX_TEXT_BYTES, Path, Tree, copy, nesting, print_ordered};
@@ -61,11 +63,31 @@ fn edit_soundly(
     if has_last_ellipsis(parts) && verb != Verb::Post {
         return Err(EditFault::EllipsisVerb);
     }
-    let made = match body {
-        Some(body) => change_ordered(alloc, verb, body, parts, tree)?,
-        None if verb == Verb::Delete => change_ordered(alloc, verb, &Tree::Null, parts, tree)?,
-        None => return Err(EditFault::BodyMissing),
-    };
+    match body {
+        Some(body) => change_within(alloc, verb, body, parts, tree),
+        None if verb == Verb::Delete => change_within(alloc, verb, &Tree::Null, parts, tree),
+        None => Err(EditFault::BodyMissing),
+    }
+}
+
+/// The tree with the edit at the parts made, unless it is too deep or too long.
+fn change_within(
+    alloc: Global,
+    verb: Verb,
+    body: &Tree,
+    parts: &[Text],
+    tree: &Tree,
+) -> Result<Tree, EditFault>
+    requires tree_ordered { IsTrue (is_ordered tree.now) }
+    requires body_ordered { IsTrue (is_ordered body.now) }
+    ensures exact { Gives EditFault.NoMemory result
+        (change_of verb body.now parts.now tree.now ▷ within_limits) }
+    ensures sound { IfOk result IsSound }
+{
+    if verb == Verb::Put && puts_too_deep(alloc, tree, parts) {
+        return Err(EditFault::ResultTooDeep);
+    }
+    let made = change_ordered(alloc, verb, body, parts, tree)?;
     limited(alloc, made)
 }
 

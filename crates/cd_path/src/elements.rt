@@ -5,7 +5,7 @@ use cd_tree::{Tree, copy};
 use std::alloc::Global;
 
 /// Copies of the elements, with another one before that at `at`, or at the end.
-pub fn with_inserted(
+pub(crate) fn with_inserted(
     alloc: Global,
     items: &List<Tree>,
     at: usize,
@@ -23,7 +23,7 @@ pub fn with_inserted(
 }
 
 /// Copies of the elements, with another one in the place of that at `at`.
-pub fn with_replaced(
+pub(crate) fn with_replaced(
     alloc: Global,
     items: &List<Tree>,
     at: usize,
@@ -41,7 +41,11 @@ pub fn with_replaced(
 }
 
 /// Copies of the elements but that at `at`.
-pub fn with_removed(alloc: Global, items: &List<Tree>, at: usize) -> Result<List<Tree>, NoMemory>
+pub(crate) fn with_removed(
+    alloc: Global,
+    items: &List<Tree>,
+    at: usize,
+) -> Result<List<Tree>, NoMemory>
     requires { at < length items.now }
     ensures { IfOk result (λ made. made ≡ remove items.now at) }
 {
@@ -53,7 +57,11 @@ pub fn with_removed(alloc: Global, items: &List<Tree>, at: usize) -> Result<List
 }
 
 /// Copies of the elements, and then of others.
-pub fn joined(alloc: Global, items: &List<Tree>, more: &List<Tree>) -> Result<List<Tree>, NoMemory>
+pub(crate) fn joined(
+    alloc: Global,
+    items: &List<Tree>,
+    more: &List<Tree>,
+) -> Result<List<Tree>, NoMemory>
     ensures { IfOk result (λ made. made ≡ items.now ++ more.now) }
 {
     let mut made = List::new(alloc);
@@ -63,7 +71,11 @@ pub fn joined(alloc: Global, items: &List<Tree>, more: &List<Tree>) -> Result<Li
 }
 
 /// Copies of the elements, and then another one.
-pub fn with_appended(alloc: Global, items: &List<Tree>, new: Tree) -> Result<List<Tree>, NoMemory>
+pub(crate) fn with_appended(
+    alloc: Global,
+    items: &List<Tree>,
+    new: Tree,
+) -> Result<List<Tree>, NoMemory>
     ensures { IfOk result (λ made. made ≡ items.now ++ new ∷ []) }
 {
     let mut made = List::new(alloc);

@@ -15,7 +15,7 @@ use cd_tree::{Tree, copy};
 use std::alloc::Global;
 
 /// The tree that a last part names something in, edited there.
-pub fn edit_last(
+pub(crate) fn edit_last(
     alloc: Global,
     verb: Verb,
     body: &Tree,
@@ -39,7 +39,12 @@ pub fn edit_last(
 }
 
 /// The tree at the empty path, edited as a key is: null counts as absent, and a removal leaves null.
-pub fn edit_root(alloc: Global, verb: Verb, body: &Tree, tree: &Tree) -> Result<Tree, EditFault>
+pub(crate) fn edit_root(
+    alloc: Global,
+    verb: Verb,
+    body: &Tree,
+    tree: &Tree,
+) -> Result<Tree, EditFault>
     ensures { Gives EditFault.NoMemory result (root_edit verb body.now tree.now) }
 {
     let old = match tree {
@@ -52,8 +57,8 @@ pub fn edit_root(alloc: Global, verb: Verb, body: &Tree, tree: &Tree) -> Result<
     }
 }
 
-/// A list with the elements of the body behind its own.
-pub fn post_all(alloc: Global, body: &Tree, tree: &Tree) -> Result<Tree, EditFault>
+/// A list with the elements of the body after its own.
+pub(crate) fn post_all(alloc: Global, body: &Tree, tree: &Tree) -> Result<Tree, EditFault>
     ensures { Gives EditFault.NoMemory result (ellipsis_edit body.now (out-Tree tree.now)) }
 {
     let Tree::Items(items) = tree else {

@@ -20,10 +20,14 @@ mod laws;
 mod looking;
 mod members;
 mod position;
+mod too_deep;
 mod verb;
 
 pub use editing::edit;
 pub use fault::EditFault;
-pub use laws::{absent_keys_take_puts, puts_commute};
+pub use laws::{
+    absent_keys_take_puts, bodies_are_found, deleted_keys_are_absent, posts_append_or_set,
+    puts_commute,
+};
 pub use looking::look;
 pub use verb::Verb;

@@ -41,7 +41,7 @@ fn find<'a>(tree: &'a Tree, path: &Path) -> Result<Option<&'a Tree>, EditFault>
 }
 
 /// Whether the last part is `...`.
-pub fn has_last_ellipsis(parts: &[Text]) -> bool
+pub(crate) fn has_last_ellipsis(parts: &[Text]) -> bool
     ensures { result ≡ ends_in_ellipsis parts.now }
 {
     match parts.last() {
@@ -65,7 +65,7 @@ fn child_of<'a>(tree: &'a Tree, part: &Text) -> Result<Option<&'a Tree>, EditFau
 }
 
 /// The value of a key, or `None` where it is absent.
-pub fn member_of<'a>(members: &'a List<Member>, key: &Text) -> Option<&'a Tree>
+pub(crate) fn member_of<'a>(members: &'a List<Member>, key: &Text) -> Option<&'a Tree>
     ensures { option_copied result ≡ member_at key.now members.now }
 {
     for member in members.as_slice() {

@@ -7,7 +7,7 @@ use std::alloc::Global;
 use std::cmp::Ordering;
 
 /// Copies of the members, with this value at the key, or none there.
-pub fn set_member(
+pub(crate) fn set_member(
     alloc: Global,
     members: &List<Member>,
     key: &Text,

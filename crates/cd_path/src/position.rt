@@ -6,7 +6,7 @@ ghost use Rattle.cd_path.specs.Position.{position, place, digits_value, begins_w
 use crate::fault::EditFault;
 
 /// The position that a part names, if it is below this bound.
-pub fn place_of(bound: usize, part: &str) -> Result<usize, EditFault>
+pub(crate) fn place_of(bound: usize, part: &str) -> Result<usize, EditFault>
     ensures exact { result ≡ place bound part.now }
     ensures within { IfOk result (λ at. at < bound) }
 {

@@ -229,7 +229,8 @@ pub fn number_of(tree: &Tree) -> Result<u16, RowFault> {
     }
 }
 
-/// The path of a member: a text whose parts slashes join, or a list of the parts. The empty text is the empty path.
+/// The path of a member: a text whose parts slashes join, or a list of the parts. The empty text is the empty path. In a list
+/// an object with `repeat` and `times` stands for so many equal parts.
 pub fn path_at(alloc: Global, row: &Tree, name: &str) -> Result<Path, RowFault> {
     match find(row, name) {
         Some(Tree::Text(text)) => Ok(cut_path(alloc, text.as_str())?),
@@ -251,9 +252,24 @@ fn cut_path(alloc: Global, text: &str) -> Result<Path, NoMemory> {
 fn path_of(alloc: Global, trees: &[Tree]) -> Result<Path, RowFault> {
     let mut parts = List::new(alloc);
     for tree in trees {
-        parts.push(part_of(alloc, tree)?)?;
+        match tree {
+            Tree::Object(_) => put_equal_parts(alloc, &mut parts, tree)?,
+            _ => parts.push(part_of(alloc, tree)?)?,
+        }
     }
     Ok(Path { parts })
+}
+
+fn put_equal_parts(alloc: Global, parts: &mut List<Text>, tree: &Tree) -> Result<(), RowFault> {
+    only(alloc, tree, "repeat times")?;
+    let Some(Tree::Num(times)) = find(tree, "times") else {
+        return Err(RowFault::Malformed("a part without times"));
+    };
+    let part = text_of(tree, "repeat")?;
+    for _ in 0..times.size {
+        parts.push(Text::from_str(alloc, part)?)?;
+    }
+    Ok(())
 }
 
 fn part_of(alloc: Global, tree: &Tree) -> Result<Text, RowFault> {

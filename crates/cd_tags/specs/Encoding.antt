@@ -21,6 +21,10 @@ encoded part = flat_map encoded_byte part
 abbrev pub encoded_parts : List (List ℕ) → List ℕ
 encoded_parts parts = join_with_byte 47 (map encoded parts)
 
--- a tag with these digits: `"/config/`, the path, a space, the digits, `"`
+-- the form of a tag: `"/config/`, the written path, a space, the digits, `"`
+abbrev pub framed : List ℕ → List ℕ → List ℕ
+framed path hex = codes "\"/config/" ++ (path ++ 32 ∷ (hex ++ 34 ∷ []))
+
+-- the tag of a path with these digits
 unfoldable pub tag_text : Path → List ℕ → List ℕ
-tag_text path hex = codes "\"/config/" ++ (encoded_parts path.parts ++ 32 ∷ (hex ++ 34 ∷ []))
+tag_text path hex = framed (encoded_parts path.parts) hex

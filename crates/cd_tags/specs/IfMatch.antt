@@ -1,45 +1,26 @@
 -- The form of an If-Match value, and the tag that it gives.
-use Rattle.std.specs.Prelude.{ℕ, ◌+◌, ◌-◌, ◌==◌, ◌&&◌, ◌||◌, Bool, nat_le, nat_lt, nat_eq, if◌then◌else◌, List, [], ◌∷◌, length, slice_index, codes, Result, Ok, Err}
+use Rattle.std.specs.Prelude.{◌≡◌, ℕ, ◌-◌, ◌==◌, ◌&&◌, ◌||◌, Bool, nat_le, nat_lt, if◌then◌else◌, List, [], ◌∷◌, length, Result, Ok, Err, IsTrue}
 use Rattle.std.specs.Char.{is_ascii_hexdigit}
-use Rattle.std.specs.List.{list_all, slice_range, slice_split, starts_with}
+use Rattle.std.specs.List.{list_all, slice_split}
 use Rattle.std.specs.Str.{is_utf8}
 use Rattle.percent_encoding.specs.Percent.{percent_decode}
 use Rattle.cd_text.specs.Steps.{◌▷◌}
-use Rattle.cd_tags.specs.Encoding.{is_unreserved}
+use Rattle.cd_tags.specs.Encoding.{is_unreserved, framed}
 use Rattle.cd_tags.specs.declared.fault.IfMatchFault.{IfMatchFault}
 use Rattle.cd_tags.specs.declared.fault.IfMatchFault.TheVariants.{Malformed}
 use Rattle.cd_tags.specs.declared.if_match.Tag.{Tag}
-use Rattle.cd_tags.specs.declared.limits.TheConstants.{OPENING_BYTES, CLOSING_BYTES}
+use Rattle.cd_tags.specs.declared.limits.TheConstants.{HEX_DIGITS}
 
--- ---- the fixed bytes
-
--- what stands before the path
-abbrev pub opening : List ℕ
-opening = codes "\"/config/"
+-- ---- the form
 
 -- `0` to `9`, `a` to `f`
 abbrev pub is_lower_hex : ℕ → Bool
 is_lower_hex b = (nat_le 48 b && nat_le b 57) || (nat_le 97 b && nat_le b 102)
 
--- the path: what stands between the opening and the closing
-abbrev pub path_in : List ℕ → List ℕ
-path_in value = slice_range value OPENING_BYTES (length value - CLOSING_BYTES)
-
--- the closing: what stands behind the path
-abbrev pub closing_in : List ℕ → List ℕ
-closing_in value = slice_range value (length value - CLOSING_BYTES) (length value)
-
--- the digits in a closing: all but its first and its last byte
-abbrev pub hex_in : List ℕ → List ℕ
-hex_in closing = slice_range closing 1 (CLOSING_BYTES - 1)
-
--- a space, digits, and `"`
-abbrev pub is_closing : List ℕ → Bool
-is_closing closing = slice_index closing 0 == 32 && (slice_index closing (CLOSING_BYTES - 1) == 34 && list_all is_lower_hex (hex_in closing))
-
--- long enough for both, with the opening in front and a closing at the end
-abbrev pub is_framed : List ℕ → Bool
-is_framed value = nat_le (OPENING_BYTES + CLOSING_BYTES) (length value) && (starts_with nat_eq value opening && is_closing (closing_in value))
+-- lower-case hexadecimal digits, as many as a digest has
+pub record IsDigest (hex : List ℕ) : Type 0 where
+  pub digits : IsTrue (list_all is_lower_hex hex)
+  pub count : length hex ≡ HEX_DIGITS
 
 -- ---- the path
 
@@ -71,9 +52,9 @@ parts_of_path path = if list_all is_path_byte path then split_path path else Err
 
 -- ---- the tag
 
-abbrev pub framed_tag : List ℕ → Result Tag IfMatchFault
-framed_tag value = parts_of_path (path_in value) ▷ λ parts. Ok (record { path = record { parts = parts }; hex = hex_in (closing_in value) })
-
--- the tag of an If-Match value, which is Malformed where it hasn't the form
-abbrev pub tag_in : List ℕ → Result Tag IfMatchFault
-tag_in value = if is_framed value then framed_tag value else Err Malformed
+-- the value has the form with the digits of the tag and a path that is split and decoded to that of the tag
+pub record IsTagOf (value : List ℕ) (tag : Tag) : Type 0 where
+  pub path : List ℕ
+  pub form : value ≡ framed path tag.hex
+  pub digest : IsDigest tag.hex
+  pub parts : parts_of_path path ≡ Ok tag.path.parts

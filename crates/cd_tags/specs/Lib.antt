@@ -1,3 +1,5 @@
 pub mod Encoding
+pub mod Framed
 pub mod IfMatch
+pub mod Parts
 pub mod Tags

@@ -1,6 +1,7 @@
 use cd_path::EditFault;
 use cd_text::NoMemory;
-use std::alloc::{AllocError, AllocFailed};
+use std::alloc::AllocError;
+use thiserror::Error;
 
 /// Why there is no tag.
 #[derive(Clone, Copy, Debug, PartialEq, Eq)]
@@ -11,10 +12,12 @@ pub enum TagFault {
 }
 
 /// Why a value of If-Match gives no tag.
-#[derive(Clone, Copy, Debug, PartialEq, Eq)]
+#[derive(Clone, Copy, Debug, PartialEq, Eq, Error)]
 pub enum IfMatchFault {
     /// It does not have the form of a tag.
+    #[error("If-Match does not have the form of a tag")]
     Malformed,
+    #[error("out of memory")]
     NoMemory,
 }
 
@@ -25,28 +28,6 @@ impl From<NoMemory> for TagFault {
     ghost from_gives = { λ _ fault. fault ≡ out_of_memory };
 
     fn from(_: NoMemory) -> TagFault {
-        TagFault::NoMemory
-    }
-}
-
-impl From<AllocError> for TagFault {
-    ghost use Rattle.std.specs.Prelude.{◌≡◌};
-    ghost use Rattle.cd_tags.specs.declared.fault.TagFault.TheVariants.{NoMemory as out_of_memory};
-
-    ghost from_gives = { λ _ fault. fault ≡ out_of_memory };
-
-    fn from(_: AllocError) -> TagFault {
-        TagFault::NoMemory
-    }
-}
-
-impl<T: Drop> From<AllocFailed<T>> for TagFault {
-    ghost use Rattle.std.specs.Prelude.{◌≡◌};
-    ghost use Rattle.cd_tags.specs.declared.fault.TagFault.TheVariants.{NoMemory as out_of_memory};
-
-    ghost from_gives = { λ _ fault. fault ≡ out_of_memory };
-
-    fn from(_: AllocFailed<T>) -> TagFault {
         TagFault::NoMemory
     }
 }
@@ -69,17 +50,6 @@ impl From<AllocError> for IfMatchFault {
     ghost from_gives = { λ _ fault. fault ≡ out_of_memory };
 
     fn from(_: AllocError) -> IfMatchFault {
-        IfMatchFault::NoMemory
-    }
-}
-
-impl<T: Drop> From<AllocFailed<T>> for IfMatchFault {
-    ghost use Rattle.std.specs.Prelude.{◌≡◌};
-    ghost use Rattle.cd_tags.specs.declared.fault.IfMatchFault.TheVariants.{NoMemory as out_of_memory};
-
-    ghost from_gives = { λ _ fault. fault ≡ out_of_memory };
-
-    fn from(_: AllocFailed<T>) -> IfMatchFault {
         IfMatchFault::NoMemory
     }
 }

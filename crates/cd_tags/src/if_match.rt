@@ -1,8 +1,11 @@
-ghost use Rattle.std.specs.Prelude.{◌≡◌, ◌==◌, length, IfOk, IsTrue};
+ghost use Rattle.std.specs.Prelude.{◌≡◌, ◌==◌, length, Err, IfOk, IsTrue};
 ghost use Rattle.std.specs.List.{list_all, slice_split};
 ghost use Rattle.cd_text.specs.Gives.{Gives};
-ghost use Rattle.cd_tags.specs.IfMatch.{tag_in, is_framed, is_closing, is_lower_hex, is_path_byte, whole_escapes, decoded, all_decoded, parts_of_path};
+ghost use Rattle.cd_tags.specs.IfMatch.{IsTagOf, is_lower_hex, is_path_byte, whole_escapes, decoded, all_decoded, parts_of_path};
 ghost use Rattle.cd_tags.specs.Encoding.{is_unreserved};
+ghost use Rattle.cd_tags.specs.Framed.{tag_in, is_framed, is_closing};
+ghost use Rattle.cd_tags.specs.declared.fault.IfMatchFault.TheVariants.{Malformed};
+ghost use Rattle.cd_tags.specs.declared.if_match.Tag.{Tag};
 
 use crate::fault::IfMatchFault;
 use crate::limits::{CLOSING_BYTES, OPENING_BYTES};
@@ -27,6 +30,14 @@ pub struct Tag {
 /// letters, digits, `-._~`, `/` and whole escapes `%XX`, or a part that decodes to no UTF-8. The path is split at each `/`
 /// before it is decoded, and where nothing stands there it is the empty one.
 pub fn read_if_match(alloc: Global, value: &[u8]) -> Result<Tag, IfMatchFault>
+    ensures tag { IfOk result (IsTagOf value.now) }
+    ensures malformed { result ≡ Err Malformed → (tag : Tag) → IsTagOf value.now tag → ⊥ }
+{
+    read_tag(alloc, value)
+}
+
+/// The same by the places in the value.
+fn read_tag(alloc: Global, value: &[u8]) -> Result<Tag, IfMatchFault>
     ensures { Gives IfMatchFault.NoMemory result (tag_in value.now) }
 {
     if !is_framed(value) {

@@ -4,7 +4,8 @@ use Rattle.std.specs.List.{list_all}
 use Rattle.std.proofs.lemmas.Bool.{and_parts, leb-true, le-leb}
 use Rattle.json.specs.Token.{Token, key, begin_array, end_array, begin_object, end_object, null}
 use Rattle.json.specs.Print.{print, print_from, ends}
-use Rattle.cd_tree.specs.Tree.{largest, depth, member_depth, joined, tokens, member_tokens, text, is_ordered, ordered_member, keys_rise, IsSound}
+use Rattle.cd_text.specs.Steps.{joined}
+use Rattle.cd_tree.specs.Tree.{largest, depth, member_depth, tokens, member_tokens, text, is_ordered, ordered_member, keys_rise, IsSound}
 use Rattle.cd_tree.specs.declared.limits.TheConstants.{MAX_DEPTH, MAX_TEXT_BYTES}
 use Rattle.cd_tree.specs.declared.tree.Member.{Member, out-Member}
 use Rattle.cd_tree.specs.declared.tree.Tree.{Tree, Null, Items, Object}

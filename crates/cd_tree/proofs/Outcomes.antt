@@ -8,9 +8,9 @@ use Rattle.serde_json.specs.Data as json
 use Rattle.json.specs.Json as raw
 use Rattle.json.specs.Lex.{tokens}
 use Rattle.serde_json.specs.Read.{read, max_depth, of_json as of_json_value}
-use Rattle.cd_text.specs.Steps.{◌▷◌}
+use Rattle.cd_text.specs.Steps.{◌▷◌, refused_where, some_or}
 use Rattle.cd_tree.specs.Tree.{text}
-use Rattle.cd_tree.specs.Reading.{of_reading, unless, some_or, json_reading, tree_of}
+use Rattle.cd_tree.specs.Reading.{of_reading, json_reading, tree_of}
 use Rattle.cd_tree.specs.declared.fault.TreeFault.{TreeFault}
 use Rattle.cd_tree.specs.declared.fault.TreeFault.TheVariants.{NotJson, TooDeep, TooLong}
 use Rattle.cd_tree.specs.declared.limits.TheConstants.{MAX_DEPTH, MAX_TEXT_BYTES}
@@ -22,7 +22,7 @@ chained (Ok a) f b e = (a, refl, e)
 chained (Err fault) f b e = absurd (let no : ⊥ = cc in no)
 
 -- where a test did not stop, it does not hold
-pub passed : {B : Type 0} (holds : Bool) (fault : TreeFault) (r : Result B TreeFault) (b : B) → (unless holds fault ▷ λ _. r) ≡ Ok b → (holds ≡ false) × (r ≡ Ok b)
+pub passed : {B : Type 0} (holds : Bool) (fault : TreeFault) (r : Result B TreeFault) (b : B) → (refused_where holds fault ▷ λ _. r) ≡ Ok b → (holds ≡ false) × (r ≡ Ok b)
 passed true fault r b e = absurd (let no : ⊥ = cc in no)
 passed false fault r b e = (refl, e)
 
@@ -30,15 +30,15 @@ passed false fault r b e = (refl, e)
 
 -- UTF-8 with a reading
 pub reads : (b : List ℕ) (d : json.Data) → IsUtf8 b → read b ≡ Some d → json_reading b ≡ Ok d
-reads b d utf8 is = ap (λ t. unless (not t) NotJson ▷ λ _. some_or NotJson (read b)) (is_utf8-from_IsUtf8 b utf8) ∙ ap (some_or NotJson) is
+reads b d utf8 is = ap (λ t. refused_where (not t) NotJson ▷ λ _. some_or NotJson (read b)) (is_utf8-from_IsUtf8 b utf8) ∙ ap (some_or NotJson) is
 
 -- one value is all of the text
 pub read_whole : (b : List ℕ) (j : raw.Json) (d : json.Data) → raw.value max_depth (tokens b) ≡ Some (j, []) → of_json_value j ≡ Some d → read b ≡ Some d
 read_whole b j d one is = ap (λ found. option_and_then of_json_value (option_and_then (λ p. raw.if_last p.0 p.1) found)) one ∙ is
 
 none : (b : List ℕ) (t : Bool) → is_utf8 b ≡ t → (IsUtf8 b → read b ≡ None) → json_reading b ≡ Err NotJson
-none b true is h = ap (λ u. unless (not u) NotJson ▷ λ _. some_or NotJson (read b)) is ∙ ap (some_or NotJson) (h (IsUtf8-from_is_utf8 b is))
-none b false is h = ap (λ u. unless (not u) NotJson ▷ λ _. some_or NotJson (read b)) is
+none b true is h = ap (λ u. refused_where (not u) NotJson ▷ λ _. some_or NotJson (read b)) is ∙ ap (some_or NotJson) (h (IsUtf8-from_is_utf8 b is))
+none b false is h = ap (λ u. refused_where (not u) NotJson ▷ λ _. some_or NotJson (read b)) is
 
 -- no UTF-8, or no reading
 pub reads_not : (b : List ℕ) → (IsUtf8 b → read b ≡ None) → json_reading b ≡ Err NotJson
@@ -48,21 +48,21 @@ reads_not b h = none b (is_utf8 b) refl h
 
 -- the tree, unless its text is too long
 abbrev pub if_short : Tree → Result Tree TreeFault
-if_short t = unless (nat_lt MAX_TEXT_BYTES (length (text t))) TooLong ▷ λ _. Ok t
+if_short t = refused_where (nat_lt MAX_TEXT_BYTES (length (text t))) TooLong ▷ λ _. Ok t
 
 -- what follows the reading
 abbrev pub of_json : json.Data → Result Tree TreeFault
-of_json d = unless (nat_lt MAX_DEPTH (json.depth d)) TooDeep ▷ λ _. of_reading d ▷ if_short
+of_json d = refused_where (nat_lt MAX_DEPTH (json.depth d)) TooDeep ▷ λ _. of_reading d ▷ if_short
 
 -- the first test stops
 pub too_long : (b : List ℕ) → MAX_TEXT_BYTES < length b → tree_of b ≡ Err TooLong
 unfolding tree_of
-too_long b long = ap (λ t. unless t TooLong ▷ λ _. json_reading b ▷ of_json) (lt-ltb MAX_TEXT_BYTES (length b) long)
+too_long b long = ap (λ t. refused_where t TooLong ▷ λ _. json_reading b ▷ of_json) (lt-ltb MAX_TEXT_BYTES (length b) long)
 
 -- the first test doesn't
 pub within : (b : List ℕ) → length b ≤ MAX_TEXT_BYTES → tree_of b ≡ (json_reading b ▷ of_json)
 unfolding tree_of
-within b short = ap (λ t. unless t TooLong ▷ λ _. json_reading b ▷ of_json) (le-ltb MAX_TEXT_BYTES (length b) short)
+within b short = ap (λ t. refused_where t TooLong ▷ λ _. json_reading b ▷ of_json) (le-ltb MAX_TEXT_BYTES (length b) short)
 
 -- no reading
 pub unread : (b : List ℕ) (fault : TreeFault) → length b ≤ MAX_TEXT_BYTES → json_reading b ≡ Err fault → tree_of b ≡ Err fault
@@ -70,11 +70,11 @@ unread b fault short is = within b short ∙ ap (λ r. r ▷ of_json) is
 
 -- a reading that nests too deep
 pub too_deep : (b : List ℕ) (d : json.Data) → length b ≤ MAX_TEXT_BYTES → json_reading b ≡ Ok d → MAX_DEPTH < json.depth d → tree_of b ≡ Err TooDeep
-too_deep b d short is deep = within b short ∙ ap (λ r. r ▷ of_json) is ∙ ap (λ t. unless t TooDeep ▷ λ _. of_reading d ▷ if_short) (lt-ltb MAX_DEPTH (json.depth d) deep)
+too_deep b d short is deep = within b short ∙ ap (λ r. r ▷ of_json) is ∙ ap (λ t. refused_where t TooDeep ▷ λ _. of_reading d ▷ if_short) (lt-ltb MAX_DEPTH (json.depth d) deep)
 
 -- one that doesn't
 pub shallow : (b : List ℕ) (d : json.Data) → length b ≤ MAX_TEXT_BYTES → json_reading b ≡ Ok d → json.depth d ≤ MAX_DEPTH → tree_of b ≡ (of_reading d ▷ if_short)
-shallow b d short is deep = within b short ∙ ap (λ r. r ▷ of_json) is ∙ ap (λ t. unless t TooDeep ▷ λ _. of_reading d ▷ if_short) (le-ltb MAX_DEPTH (json.depth d) deep)
+shallow b d short is deep = within b short ∙ ap (λ r. r ▷ of_json) is ∙ ap (λ t. refused_where t TooDeep ▷ λ _. of_reading d ▷ if_short) (le-ltb MAX_DEPTH (json.depth d) deep)
 
 -- a reading with no tree
 pub no_tree : (b : List ℕ) (d : json.Data) (fault : TreeFault) → length b ≤ MAX_TEXT_BYTES → json_reading b ≡ Ok d → json.depth d ≤ MAX_DEPTH → of_reading d ≡ Err fault → tree_of b ≡ Err fault
@@ -82,11 +82,11 @@ no_tree b d fault short is deep e = shallow b d short is deep ∙ ap (λ r. r �
 
 -- a tree whose text is too long
 pub long_text : (b : List ℕ) (d : json.Data) (t : Tree) → length b ≤ MAX_TEXT_BYTES → json_reading b ≡ Ok d → json.depth d ≤ MAX_DEPTH → of_reading d ≡ Ok t → MAX_TEXT_BYTES < length (text t) → tree_of b ≡ Err TooLong
-long_text b d t short is deep tree long = shallow b d short is deep ∙ ap (λ r. r ▷ if_short) tree ∙ ap (λ h. unless h TooLong ▷ λ _. Ok t) (lt-ltb MAX_TEXT_BYTES (length (text t)) long)
+long_text b d t short is deep tree long = shallow b d short is deep ∙ ap (λ r. r ▷ if_short) tree ∙ ap (λ h. refused_where h TooLong ▷ λ _. Ok t) (lt-ltb MAX_TEXT_BYTES (length (text t)) long)
 
 -- a tree
 pub is_tree : (b : List ℕ) (d : json.Data) (t : Tree) → length b ≤ MAX_TEXT_BYTES → json_reading b ≡ Ok d → json.depth d ≤ MAX_DEPTH → of_reading d ≡ Ok t → length (text t) ≤ MAX_TEXT_BYTES → tree_of b ≡ Ok t
-is_tree b d t short is deep tree fits = shallow b d short is deep ∙ ap (λ r. r ▷ if_short) tree ∙ ap (λ h. unless h TooLong ▷ λ _. Ok t) (le-ltb MAX_TEXT_BYTES (length (text t)) fits)
+is_tree b d t short is deep tree fits = shallow b d short is deep ∙ ap (λ r. r ▷ if_short) tree ∙ ap (λ h. refused_where h TooLong ▷ λ _. Ok t) (le-ltb MAX_TEXT_BYTES (length (text t)) fits)
 
 -- a test that can't hold
 pub not_above : (m n : ℕ) → (m < n → IsTrue false) → n ≤ m

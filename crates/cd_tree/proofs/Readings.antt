@@ -7,8 +7,8 @@ use Rattle.json.specs.Tree.{json_tokens, items_tokens, members_tokens}
 use Rattle.serde_json.specs.Data as json
 use Rattle.serde_json.specs.Written.{outline, items_outline, members_outline, has_float, items_have_float, members_have_float, compact_text}
 use Rattle.serde_json.proofs.Texts.{print-outline}
-use Rattle.cd_text.specs.Steps.{◌▷◌}
-use Rattle.cd_tree.specs.Tree.{depth, member_depth, largest, joined, tokens, member_tokens, text}
+use Rattle.cd_text.specs.Steps.{◌▷◌, joined}
+use Rattle.cd_tree.specs.Tree.{depth, member_depth, largest, tokens, member_tokens, text}
 use Rattle.cd_tree.specs.Reading.{num_of, of_number, of_reading, of_items, of_members}
 use Rattle.cd_tree.specs.declared.tree.Member.{Member, roll-Member}
 use Rattle.cd_tree.specs.declared.tree.Tree as tree

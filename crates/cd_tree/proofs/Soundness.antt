@@ -4,9 +4,9 @@ use Rattle.std.proofs.lemmas.Bool.{ltb-false}
 use Rattle.std.specs.Str.{is_utf8}
 use Rattle.serde_json.specs.Data as json
 use Rattle.serde_json.specs.Read.{read}
-use Rattle.cd_text.specs.Steps.{◌▷◌}
+use Rattle.cd_text.specs.Steps.{◌▷◌, some_or}
 use Rattle.cd_tree.specs.Tree.{text, IsSound}
-use Rattle.cd_tree.specs.Reading.{of_reading, some_or, json_reading, tree_of}
+use Rattle.cd_tree.specs.Reading.{of_reading, json_reading, tree_of}
 use Rattle.cd_tree.specs.declared.fault.TreeFault.TheVariants.{NotJson, TooDeep, TooLong}
 use Rattle.cd_tree.specs.declared.limits.TheConstants.{MAX_DEPTH, MAX_TEXT_BYTES}
 use Rattle.cd_tree.specs.declared.tree.Tree.{Tree}

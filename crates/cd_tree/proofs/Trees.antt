@@ -2,7 +2,7 @@
 use Rattle.std.proofs.Common.{◌≡◌, ℕ, suc, ◌+◌, ◌<◌, List, [], ◌∷◌, Bool, true, ◌++◌, ◌&&◌, length, map, get_or, drop, sym, ap, ◌∙◌, rules}
 use Rattle.std.proofs.lemmas.List.{drop_more}
 use Rattle.json.specs.Token.{null, boolean, number, string, key, begin_array, end_array, begin_object, end_object}
-use Rattle.cd_tree.specs.Tree.{largest, depth, member_depth, joined, tokens, member_tokens, is_ordered, ordered_member, are_ordered, keys_rise, is_number, number_text}
+use Rattle.cd_tree.specs.Tree.{largest, depth, member_depth, tokens, member_tokens, is_ordered, ordered_member, are_ordered, keys_rise, is_number, number_text}
 use Rattle.std.specs.List.{list_all}
 use Rattle.cd_tree.specs.declared.tree.Member.{Member, out-Member, roll-Member}
 use Rattle.cd_tree.specs.declared.tree.Num.{Num}
@@ -11,6 +11,7 @@ use Rattle.cd_tree.specs.declared.tree.Tree.{Tree, Null, Items, Object, out-Tree
 use Rattle.cd_tree.specs.declared.tree.Tree.TheOpen.{Tree-F}
 use Rattle.cd_tree.specs.declared.tree.Tree.TheVariants.{rolls-Items, rolls-Object}
 use Rattle.std.proofs.lemmas.List.Folds.{list_all-map}
+use Rattle.cd_text.specs.Steps.{joined}
 
 -- ---- the depth of each kind
 

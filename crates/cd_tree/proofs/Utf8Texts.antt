@@ -9,7 +9,8 @@ use Rattle.std.proofs.lemmas.Str.{IsUtf8-append, IsUtf8-from_ascii, IsUtf8-from_
 use Rattle.json.specs.Print.{print_from, token_text, ends}
 use Rattle.json.specs.Token.{Token, begin_object, end_object, begin_array, end_array, key, string, number, boolean, null, bad}
 use Rattle.json.proofs.Printed.Utf8.{IsUtf8-are_ascii, IsUtf8-quoted, IsUtf8-key, IsUtf8-boolean, IsUtf8-separator}
-use Rattle.cd_tree.specs.Tree.{joined, tokens, member_tokens, number_text}
+use Rattle.cd_text.specs.Steps.{joined}
+use Rattle.cd_tree.specs.Tree.{tokens, member_tokens, number_text}
 use Rattle.cd_tree.specs.Utf8.{is_text, are_text}
 use Rattle.cd_tree.specs.declared.tree.Member.{Member}
 use Rattle.cd_tree.specs.declared.tree.Num.{Num}

@@ -1,9 +1,9 @@
 -- Which tree a text is, or why it is none.
-use Rattle.std.specs.Prelude.{ℕ, suc, ℤ, pos, negsuc, List, [], ◌∷◌, length, Bool, true, false, not, nat_lt, Option, Some, None, Result, Ok, Err, ⊤}
+use Rattle.std.specs.Prelude.{ℕ, suc, ℤ, pos, negsuc, List, [], ◌∷◌, length, true, false, not, nat_lt, Result, Ok, Err}
 use Rattle.std.specs.Str.{is_utf8}
 use Rattle.serde_json.specs.Data as json
 use Rattle.serde_json.specs.Read.{read}
-use Rattle.cd_text.specs.Steps.{◌▷◌}
+use Rattle.cd_text.specs.Steps.{◌▷◌, refused_where, some_or}
 use Rattle.cd_tree.specs.Tree.{text}
 use Rattle.cd_tree.specs.declared.fault.TreeFault.{TreeFault}
 use Rattle.cd_tree.specs.declared.fault.TreeFault.TheVariants.{NotJson, FractionOrRange, TooDeep, TooLong}
@@ -46,26 +46,16 @@ abbrev mutual
 
 -- ---- a text as a tree
 
--- the fault, where the test holds
-abbrev pub unless : Bool → TreeFault → Result ⊤ TreeFault
-unless true fault = Err fault
-unless false fault = Ok tt
-
--- the fault, where there is nothing
-abbrev pub some_or : {A : Type 0} → TreeFault → Option A → Result A TreeFault
-some_or fault None = Err fault
-some_or fault (Some value) = Ok value
-
 -- JSON is UTF-8, and its grammar gives it one reading, where the last member of a name counts
 abbrev pub json_reading : List ℕ → Result json.Data TreeFault
-json_reading bytes = unless (not (is_utf8 bytes)) NotJson ▷ λ _. some_or NotJson (read bytes)
+json_reading bytes = refused_where (not (is_utf8 bytes)) NotJson ▷ λ _. some_or NotJson (read bytes)
 
 -- the tree of a text, or the first fault that holds
 unfoldable pub tree_of : List ℕ → Result Tree TreeFault
 tree_of bytes =
-    unless (nat_lt MAX_TEXT_BYTES (length bytes)) TooLong ▷ λ _.
+    refused_where (nat_lt MAX_TEXT_BYTES (length bytes)) TooLong ▷ λ _.
     json_reading bytes ▷ λ reading.
-    unless (nat_lt MAX_DEPTH (json.depth reading)) TooDeep ▷ λ _.
+    refused_where (nat_lt MAX_DEPTH (json.depth reading)) TooDeep ▷ λ _.
     of_reading reading ▷ λ t.
-    unless (nat_lt MAX_TEXT_BYTES (length (text t))) TooLong ▷ λ _.
+    refused_where (nat_lt MAX_TEXT_BYTES (length (text t))) TooLong ▷ λ _.
     Ok t

@@ -6,6 +6,7 @@ use Rattle.std.specs.List.{list_all}
 use Rattle.json.specs.Print.{print}
 use Rattle.json.specs.Token as token
 use Rattle.json.specs.Token.{Token}
+use Rattle.cd_text.specs.Steps.{joined}
 use Rattle.cd_tree.specs.declared.limits.TheConstants.{MAX_DEPTH, MAX_TEXT_BYTES}
 use Rattle.cd_tree.specs.declared.tree.Num.{Num}
 use Rattle.cd_tree.specs.declared.tree.Member.{Member, out-Member}
@@ -37,11 +38,6 @@ abbrev pub member_depth : Member → ℕ
 member_depth member = depth (out-Member member).value
 
 -- ---- text
-
--- lists, one after another
-abbrev pub joined : {A : Type 0} → List (List A) → List A
-joined [] = []
-joined (xs ∷ rest) = xs ++ joined rest
 
 -- a sign where the number is below zero, and the size in decimal
 abbrev pub number_text : Num → List ℕ

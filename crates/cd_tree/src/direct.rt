@@ -32,6 +32,7 @@ pub(crate) fn read_directly(alloc: Global, bytes: &[u8]) -> Option<Tree>
         return None;
     }
     let tree = tree_directly(alloc, &value, MAX_DEPTH)?;
+    // As in `read`: the definition tests the compact text too.
     if print_ordered(alloc, &tree).ok()?.len() > MAX_TEXT_BYTES {
         return None;
     }

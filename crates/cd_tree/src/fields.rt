@@ -19,11 +19,17 @@ use std::alloc::Global;
 /// A value that is lent from a sound object is sound.
 #[derive(Clone, Copy, Drop)]
 pub struct Fields<'a> {
-    /// All of them, in their order.
-    pub members: &'a List<Member>,
+    members: &'a List<Member>,
 }
 
 impl<'a> Fields<'a> {
+    /// The members of an object that may have any names.
+    pub fn of_any(members: &'a List<Member>) -> Fields<'a>
+        ensures { result.members.now ≡ members.now }
+    {
+        Fields { members }
+    }
+
     /// Reads an object whose members have only these names, which single spaces join, or `@id`.
     ///
     /// It answers WrongKind where the value is no object, and UnknownMember for the first other member.

@@ -34,7 +34,7 @@ pub use copies::copy;
 pub use equality::equal;
 pub use fault::{FieldFault, TreeFault};
 pub use fields::Fields;
-pub use limits::{MAX_DEPTH, MAX_TEXT_BYTES};
+pub use limits::{MAX_DEPTH, MAX_TEXT_BYTES, limits_in_numbers};
 pub use measure::nesting;
 pub use path::Path;
 pub use printing::{print, print_ordered};

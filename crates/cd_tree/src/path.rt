@@ -1,7 +1,7 @@
 ghost use Rattle.std.specs.Prelude.{◌≡◌, ◌∷◌, ◌++◌, [], IfOk, OnOk, decimal, string_bytes, if◌then◌else◌};
 ghost use Rattle.cd_tree.specs.Path.{◌▸◌, written};
 
-use cd_text::{List, NoMemory, Text};
+use cd_text::{List, NoMemory, Text, decimal as decimal_text};
 use std::alloc::Global;
 
 /// The way to a value in a tree: names of members, and places in lists in decimal.
@@ -44,7 +44,7 @@ impl Path {
     pub fn element(&self, alloc: Global, place: usize) -> Result<Path, NoMemory>
         ensures { IfOk result (λ path. path ≡ self.now ▸ decimal place) }
     {
-        let name = format!(in alloc; "{place}")?;
+        let name = decimal_text(alloc, place as u64)?;
         self.member(alloc, name.as_str())
     }
 
@@ -61,7 +61,7 @@ impl Path {
     }
 }
 
-/// Adds a part, behind a slash unless it is the first.
+/// Adds a part, after a slash unless it is the first.
 fn add_part(text: &mut String, is_first: bool, part: &str) -> Result<(), NoMemory>
     ensures { OnOk result (string_bytes text.new
         ≡ string_bytes text.old ++ (if is_first then part.now else 47 ∷ part.now)) }

@@ -2,7 +2,8 @@ ghost use Rattle.std.specs.Prelude.{◌≡◌, ◌∷◌, ◌++◌, [], map, IsT
 ghost use Rattle.json.specs.Lex.{tokens as lex_tokens};
 ghost use Rattle.std.specs.List.{list_all};
 ghost use Rattle.json.specs.Token.{number as number_token};
-ghost use Rattle.cd_tree.specs.Tree.{IsSound, is_ordered, is_number, ordered_member, are_ordered, text, tokens, joined, member_tokens, number_text};
+ghost use Rattle.cd_text.specs.Steps.{joined};
+ghost use Rattle.cd_tree.specs.Tree.{IsSound, is_ordered, is_number, ordered_member, are_ordered, text, tokens, member_tokens, number_text};
 ghost use Rattle.cd_tree.specs.Reading.{tree_of};
 
 use crate::tree::{Member, Num, Tree};

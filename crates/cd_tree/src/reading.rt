@@ -31,6 +31,7 @@ pub fn read(alloc: Global, bytes: &[u8]) -> Result<Tree, TreeFault>
     if is_deeper(&value, MAX_DEPTH) {
         return Err(TreeFault::TooDeep);
     }
+    // The definition tests the compact text too, though with its escapes it is never longer than what was read.
     let length = value.to_vec(alloc)?.as_slice().len();
     let tree = tree_from(alloc, value)?;
     if is_too_long(length) {

@@ -1,7 +1,8 @@
 ghost use Rattle.std.specs.Prelude.{◌≡◌, ◌<◌, ◌^◌, Ok, map, IsTrue};
 ghost use Rattle.std.specs.Str.{is_utf8};
+ghost use Rattle.cd_text.specs.Steps.{joined};
 ghost use Rattle.cd_tree.specs.Reading.{tree_of};
-ghost use Rattle.cd_tree.specs.Tree.{IsSound, text, tokens, joined, member_tokens, number_text};
+ghost use Rattle.cd_tree.specs.Tree.{IsSound, text, tokens, member_tokens, number_text};
 ghost use Rattle.cd_tree.specs.Utf8.{are_text};
 
 use crate::tree::{Member, Num, Tree};

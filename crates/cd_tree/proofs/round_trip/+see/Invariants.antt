@@ -1,5 +1,6 @@
 use Rattle.std.proofs.Common.{◌≡◌, map, drop}
-use Rattle.cd_tree.specs.Tree.{tokens, joined, member_tokens}
+use Rattle.cd_text.specs.Steps.{joined}
+use Rattle.cd_tree.specs.Tree.{tokens, member_tokens}
 use Rattle.cd_tree.specs.Utf8.{are_text}
 use Rattle.cd_tree.proofs.round_trip.+see.Given as goal
 
