@@ -2,8 +2,9 @@
 use Rattle.std.proofs.Common.{◌≡◌, ℕ, zero, suc, ◌+◌, ◌<◌, ◌≤◌, ◌==◌, Bool, true, false, cond, List, [], ◌∷◌, ◌++◌, refl, sym, ap, ◌∙◌, arith, length, Some, eq-eqb}
 use Rattle.std.specs.List.{remove, slice_index_or}
 use Rattle.std.specs.Option.{IsSome}
-use Rattle.cd_pool.specs.Pairs.{Leased, pair_at, without}
-use Rattle.cd_pool.specs.Rooms.{uses, times}
+use Rattle.cd_pool.specs.declared.lease.Leased.{Leased}
+use Rattle.cd_pool.specs.Pairs.{pair_at, without}
+use Rattle.cd_pool.specs.Numbers.{uses, times}
 use Rattle.cd_pool.proofs.Numbers.{uses-without}
 use Rattle.cd_cases.specs.Leases.{AreLeases}
 

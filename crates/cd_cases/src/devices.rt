@@ -16,8 +16,9 @@
 //!     to :80, took GET, ended, put ok, logged stderr served; last ended; accept faults 0; faults 0
 ghost use Rattle.std.specs.Prelude.{◌≡◌, true, false, is_some};
 
-use crate::keys::{address_in, address_word, key_in, put_key};
+use crate::keys::{address_in, key_in, put_key};
 use crate::words::{found, number_in, put, put_answer, steps_of, text_in, words_of};
+use cd_addr::write;
 use cd_outside::{
     Accepted, Call, Connection, FixtureCall, Fixtures, Given, Key, Lane, Logged, MemoryFixtures,
     MemoryLane, MemorySink, MemorySource, Opened, Past, Sink, Source, Taken,
@@ -232,7 +233,7 @@ fn accept(alloc: Global, lane: &mut MemoryLane, out: &mut Octets) -> Result<(), 
 {
     match lane.accept() {
         Accepted::Connection(address) => {
-            let word = address_word(alloc, &address)?;
+            let word = write(alloc, &address)?;
             put_answer(out, word.as_str().as_bytes())
         }
         Accepted::Ended => put_answer(out, b"ended"),
@@ -323,7 +324,7 @@ fn put_connection(
     out: &mut Octets,
     connection: &Connection,
 ) -> Result<(), NoMemory> {
-    let to = address_word(alloc, &connection.address)?;
+    let to = write(alloc, &connection.address)?;
     put(out, "; to ")?;
     put(out, to.as_str())?;
     put_bytes(out, b"took ", connection.taken.as_slice())?;

@@ -1,5 +1,6 @@
 //! Keys and addresses as words: `:80`, `localhost:2019` and `stdio:0` are addresses, any other word names a log writer.
 use crate::words::put;
+use cd_addr::write;
 use cd_outside::{Address, Key};
 use cd_rows::RowFault;
 use cd_text::{List, NoMemory, Octets, Text, number_of, parts_of};
@@ -52,16 +53,9 @@ pub fn keys_in(alloc: Global, words: &[&str]) -> Result<List<Key>, RowFault> {
 /// The word of a key.
 pub fn key_word(alloc: Global, key: &Key) -> Result<Text, NoMemory> {
     match key {
-        Key::Listen(address) => address_word(alloc, address),
+        Key::Listen(address) => write(alloc, address),
         Key::Writer(name) => name.copy(alloc),
     }
-}
-
-/// The word of an address.
-pub fn address_word(alloc: Global, address: &Address) -> Result<Text, NoMemory> {
-    let (host, port) = (address.host.as_str(), address.port);
-    let word = format!(in alloc; "{host}:{port}")?;
-    Ok(Text::from_string(word))
 }
 
 /// Adds a key's word at the end.

@@ -3,6 +3,7 @@
 //! There is a function for every few kinds, since each condition is known in all that come after it.
 ghost use Rattle.cd_tree.specs.Tree.{IsSound};
 
+use crate::addresses::{address_outcome, addresses_outcome};
 use crate::devices::{fixtures_outcome, lane_outcome, sink_outcome, source_outcome};
 use crate::edits::{edit_outcome, look_outcome};
 use crate::histories::history_outcome;
@@ -91,6 +92,16 @@ fn of_texts(alloc: Global, row: &Tree) -> Result<Outcome, RowFault> {
         parts_outcome(alloc, row)
     } else if has(row, "rising") {
         rising_outcome(alloc, row)
+    } else {
+        of_addresses(alloc, row)
+    }
+}
+
+fn of_addresses(alloc: Global, row: &Tree) -> Result<Outcome, RowFault> {
+    if has(row, "addresses") {
+        addresses_outcome(alloc, row)
+    } else if has(row, "address") {
+        address_outcome(alloc, row)
     } else {
         of_histories(alloc, row)
     }

@@ -14,7 +14,7 @@ use crate::words::{found, put_answer, small_in, steps_of, text_in, words_of};
 use cd_outside::{Holder, Key};
 use cd_pool::{Gave, Lease, Pool, Took};
 use cd_rows::{Outcome, RowFault, bytes_at, only};
-use cd_text::{List, NoMemory, Octets, Text, place};
+use cd_text::{List, NoMemory, Octets, Text};
 use cd_tree::Tree;
 use std::alloc::Global;
 
@@ -117,7 +117,7 @@ fn take(pool: &mut Pool, leases: &mut Vec<Lease>, key: Key) -> Took
         place: 0,
     };
     let (lease, took) = pool.take(key, holder);
-    place(leases, lease);
+    leases.push_reserved(lease);
     took
 }
 

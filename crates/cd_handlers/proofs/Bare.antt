@@ -1,5 +1,5 @@
 -- Ids make no difference to handlers.
-use Rattle.std.proofs.Common.{◌≡◌, ℕ, List, refl, ap, ◌∙◌, Bool, true, false, Result}
+use Rattle.std.proofs.Common.{◌≡◌, ℕ, List, refl, ap, ◌∙◌, Bool, true, false, Option, Some, None, Result}
 use Rattle.std.specs.Prelude.{codes, if◌then◌else◌}
 use Rattle.std.specs.Str.{bytes_eq}
 use Rattle.http_header.specs.Token.{lowercase}
@@ -21,7 +21,10 @@ use Rattle.cd_handlers.specs.StaticResponse.{static_response}
 use Rattle.cd_handlers.specs.Headers.{request_changes, response_changes, headers}
 use Rattle.cd_handlers.specs.Vars.{text_layer, setting_text, setting, vars}
 use Rattle.cd_handlers.specs.Error.{static_error}
-use Rattle.cd_handlers.specs.Handlers.{handler_named, handler}
+use Rattle.cd_handlers.specs.Handlers.{handler_of, known_handler, handler}
+use Rattle.cd_handlers.specs.Names.{kind_named}
+use Rattle.cd_handlers.specs.declared.kind.HandlerKind.{HandlerKind}
+use Rattle.cd_handlers.specs.declared.kind.HandlerKind.TheVariants as kind
 
 -- ---- values
 
@@ -168,19 +171,20 @@ static_error-bare = record {
       ▷-same _ _ _ _ (optional-bare status status-bare (codes "status_code") refl ms at) (λ status. refl)));
 }
 
-handler_named-bare : (name : List ℕ) → SeesNoIds (handler_named name)
-unfolding handler_named
-handler_named-bare name = record {
-  same = λ t at.
-      either (bytes_eq name (codes "static_response")) _ _ _ _ (▷-same _ _ _ _ (static_response-bare.same t at) (λ s. refl))
-      (either (bytes_eq name (codes "headers")) _ _ _ _ (▷-same _ _ _ _ (headers-bare.same t at) (λ s. refl))
-      (either (bytes_eq name (codes "rewrite")) _ _ _ _ (▷-same _ _ _ _ (rewrite-bare.same t at) (λ s. refl))
-      (either (bytes_eq name (codes "vars")) _ _ _ _ (▷-same _ _ _ _ (vars-bare.same t at) (λ s. refl))
-      (either (bytes_eq name (codes "error")) _ _ _ _ (▷-same _ _ _ _ (static_error-bare.same t at) (λ s. refl)) refl))));
-}
+handler_of-bare : (which : HandlerKind) → SeesNoIds (handler_of which)
+unfolding handler_of
+handler_of-bare kind.StaticResponse = record { same = λ t at. ▷-same _ _ _ _ (static_response-bare.same t at) (λ s. refl) }
+handler_of-bare kind.Headers = record { same = λ t at. ▷-same _ _ _ _ (headers-bare.same t at) (λ s. refl) }
+handler_of-bare kind.Rewrite = record { same = λ t at. ▷-same _ _ _ _ (rewrite-bare.same t at) (λ s. refl) }
+handler_of-bare kind.Vars = record { same = λ t at. ▷-same _ _ _ _ (vars-bare.same t at) (λ s. refl) }
+handler_of-bare kind.Error = record { same = λ t at. ▷-same _ _ _ _ (static_error-bare.same t at) (λ s. refl) }
+
+known_handler-bare : (name : List ℕ) (found : Option HandlerKind) → SeesNoIds (known_handler name found)
+known_handler-bare name None = record { same = λ t at. refl }
+known_handler-bare name (Some which) = record { same = λ t at. (handler_of-bare which).same t at }
 
 pub handler-bare : SeesNoIds handler
 unfolding handler
 handler-bare = record {
-  same = λ t at. ▷-same _ _ _ _ ((name_of-bare (codes "handler") refl).same t at) (λ name. (handler_named-bare name).same t at);
+  same = λ t at. ▷-same _ _ _ _ ((name_of-bare (codes "handler") refl).same t at) (λ name. (known_handler-bare name (kind_named name)).same t at);
 }

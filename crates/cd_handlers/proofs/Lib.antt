@@ -2,3 +2,4 @@ pub mod FieldLemmas
 pub mod Bare
 pub mod PlainStart
 pub mod Tokens
+pub mod Naming

@@ -9,5 +9,6 @@ pub mod Headers
 pub mod Rewrite
 pub mod Vars
 pub mod Error
+pub mod Names
 pub mod Handlers
 pub mod Effect

@@ -1,8 +1,10 @@
 ghost use Rattle.cd_text.specs.Gives.{Gives};
-ghost use Rattle.cd_handlers.specs.Handlers.{handler, handler_named};
+ghost use Rattle.cd_handlers.specs.Handlers.{handler, handler_of, known_handler};
+ghost use Rattle.cd_handlers.specs.Names.{kind_named};
 
 use crate::error::StaticError;
 use crate::headers::Headers;
+use crate::kind::HandlerKind;
 use crate::rewrite::Rewrite;
 use crate::static_response::StaticResponse;
 use crate::vars::Vars;
@@ -22,32 +24,41 @@ pub enum Handler {
     Error(StaticError),
 }
 
-#[tactic(auto, unfolding(crate::specs::Handlers::handler_named))]
-fn read_named(alloc: Global, name: &Text, tree: &Tree, at: &Path) -> Result<Handler, LoadFault>
-    ensures { Gives LoadFault.NoMemory result (handler_named name.now tree.now at.now) }
+// A handler that is known by its name.
+#[tactic(auto, unfolding(crate::specs::Handlers::handler_of))]
+fn read_kind(alloc: Global, kind: HandlerKind, tree: &Tree, at: &Path) -> Result<Handler, LoadFault>
+    ensures { Gives LoadFault.NoMemory result (handler_of kind tree.now at.now) }
 {
-    match name.as_str() {
-        "static_response" => {
+    match kind {
+        HandlerKind::StaticResponse => {
             let settings = StaticResponse::read(alloc, tree, at)?;
             Ok(Handler::StaticResponse(settings))
         }
-        "headers" => {
+        HandlerKind::Headers => {
             let settings = Headers::read(alloc, tree, at)?;
             Ok(Handler::Headers(settings))
         }
-        "rewrite" => {
+        HandlerKind::Rewrite => {
             let settings = Rewrite::read(alloc, tree, at)?;
             Ok(Handler::Rewrite(settings))
         }
-        "vars" => {
+        HandlerKind::Vars => {
             let settings = Vars::read(alloc, tree, at)?;
             Ok(Handler::Vars(settings))
         }
-        "error" => {
+        HandlerKind::Error => {
             let settings = StaticError::read(alloc, tree, at)?;
             Ok(Handler::Error(settings))
         }
-        other => Err(LoadFault::unknown_module(alloc, "http.handlers.", other, at)),
+    }
+}
+
+fn read_named(alloc: Global, name: &Text, tree: &Tree, at: &Path) -> Result<Handler, LoadFault>
+    ensures { Gives LoadFault.NoMemory result (known_handler name.now (kind_named name.now) tree.now at.now) }
+{
+    match HandlerKind::named(name.as_str()) {
+        Some(kind) => read_kind(alloc, kind, tree, at),
+        None => Err(LoadFault::unknown_module(alloc, "http.handlers.", name.as_str(), at)),
     }
 }
 

@@ -1,8 +1,8 @@
 //! The handlers of routes that have no routes inside: their settings, and what they do with a request.
 //!
-//! `Handler` reads one handler out of a tree (specs/Handlers.antt). `effect` is what it does by itself: the request goes on
-//! in a scene that it may have changed, or is answered, or fails (specs/Effect.antt). Each handler has a file of its own with
-//! its settings, their reader and its meaning, and a file of definitions under the same name.
+//! `Handler` reads one handler out of a tree, by one table of names (specs/Handlers.antt, specs/Names.antt). `effect` is what it
+//! does by itself: the request goes on in a scene that it may have changed, or is answered, or fails (specs/Effect.antt). Each
+//! handler has a file of its own with its settings, their reader and its meaning, and a file of definitions under the same name.
 //!
 //! A handler whose texts can't be filled fails with 500 and an empty message, in the scene that it found, where its texts are
 //! filled too. `vars` alone sets one variable after another: each text sees those before, and they stay where it fails.
@@ -24,6 +24,7 @@ mod fields;
 mod filling;
 mod handler;
 mod headers;
+mod kind;
 mod laws;
 mod outcome;
 mod rewrite;
@@ -40,7 +41,8 @@ pub use field_values::{FieldList, FieldValues};
 pub use fields::FilledField;
 pub use handler::Handler;
 pub use headers::{Headers, ResponseChanges};
-pub use laws::handlers_see_no_ids;
+pub use kind::HandlerKind;
+pub use laws::{handlers_have_their_names, handlers_see_no_ids};
 pub use outcome::Effect;
 pub use rewrite::{MethodText, Rewrite, Substring};
 pub use static_response::StaticResponse;

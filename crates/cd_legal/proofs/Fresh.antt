@@ -8,7 +8,7 @@ use Rattle.cd_legal.specs.declared.entry.Signed.{Signed}
 use Rattle.cd_legal.specs.declared.state.State.{State}
 use Rattle.cd_legal.specs.Entry.{entries}
 use Rattle.cd_legal.specs.State.{opening_state, holds}
-use Rattle.cd_legal.specs.Legal.{allowed, after, legal_from, state_of, legal, is_complete, IsLegal}
+use Rattle.cd_legal.specs.Legal.{allowed, after, legal_from, state_of, state_at, legal, is_complete, IsLegal}
 use Rattle.cd_legal.specs.Placed.{Placed, placed_from, placed}
 use Rattle.cd_legal.specs.Fresh.{named, is_fresh_at, is_fresh_from, Fresh}
 use Rattle.cd_legal.proofs.Histories.{both, first, second, entries-snoc, state_from-snoc}
@@ -20,18 +20,18 @@ le : (a b : ℕ) → a ≤ b → nat_le a b ≡ true
 le a b e = grind (arith, nat_tests)
 
 -- an allowed publishing raises the serial by one
-publishes : (s : State) (d n from : ℕ) (c : _) → allowed s (Publish d n from c) ≡ true → (from ≡ s.serial) × (n ≡ from + 1)
+pub publishes : (s : State) (d n from : ℕ) (c : _) → allowed s (Publish d n from c) ≡ true → (from ≡ s.serial) × (n ≡ from + 1)
 publishes s d n from c may =
     let rest = second (holds is_complete (slice_get s.drafts d)) _ (second (not s.halted) _ may) in
     (eqb-true from s.serial (first (from == s.serial) _ rest), eqb-true n (from + 1) (second (from == s.serial) _ rest))
 
-halts : (s : State) (n : ℕ) → allowed s (Halt n) ≡ true → n ≡ s.serial + 1
+pub halts : (s : State) (n : ℕ) → allowed s (Halt n) ≡ true → n ≡ s.serial + 1
 halts s n may = eqb-true n (s.serial + 1) (second (not s.halted) _ may)
 
-begins : (s : State) (k n : ℕ) → allowed s (Begin k n) ≡ true → n ≡ s.serial
+pub begins : (s : State) (k n : ℕ) → allowed s (Begin k n) ≡ true → n ≡ s.serial
 begins s k n may = eqb-true n s.serial (first (n == s.serial) _ may)
 
-retires : (s : State) (n : ℕ) → allowed s (Retire n) ≡ true → n + 1 ≤ s.serial
+pub retires : (s : State) (n : ℕ) → allowed s (Retire n) ≡ true → n + 1 ≤ s.serial
 retires s n may = lt n s.serial (first (nat_lt n s.serial) _ may)
 
 -- the serial never falls
@@ -87,19 +87,19 @@ pick : (b : Bool) (least : ℕ) (p : Placed) (own : List Placed) → is_fresh_fr
 pick true least p own with_it without_it = with_it
 pick false least p own with_it without_it = without_it
 
-state_snoc : (before : List Signed) (x : Signed) → state_of (entries (before ++ x ∷ [])) ≡ after (state_of (entries before)) x.entry
+state_snoc : (before : List Signed) (x : Signed) → state_at (before ++ x ∷ []) ≡ after (state_at before) x.entry
 state_snoc before x = ap state_of (entries-snoc before x) ∙ state_from-snoc opening_state (entries before) x.entry
 
-fresh_from : (k least : ℕ) (before log : List Signed) → legal_from (state_of (entries before)) (entries log) ≡ true → least ≤ (state_of (entries before)).serial → is_fresh_from least (placed_from k before log) ≡ true
+fresh_from : (k least : ℕ) (before log : List Signed) → legal_from (state_at before) (entries log) ≡ true → least ≤ (state_at before).serial → is_fresh_from least (placed_from k before log) ≡ true
 fresh_from k least before [] legal low = refl
 fresh_from k least before (x ∷ xs) legal low =
-    let s : State = state_of (entries before) in
+    let s : State = state_at before in
     let next : List Signed = before ++ x ∷ [] in
     let is = state_snoc before x in
     let may : allowed s x.entry ≡ true = first (allowed s x.entry) _ legal in
-    let rest : legal_from (state_of (entries next)) (entries xs) ≡ true = subst (λ (z : State). legal_from z (entries xs) ≡ true) (sym is) (second (allowed s x.entry) _ legal) in
-    let up : s.serial ≤ (state_of (entries next)).serial = omega (arith, serial_rises s x.entry may, ap (λ (z : State). z.serial) is) in
-    let named_up : named x.entry ≤ (state_of (entries next)).serial = omega (arith, names s x.entry may, ap (λ (z : State). z.serial) is) in
+    let rest : legal_from (state_at next) (entries xs) ≡ true = subst (λ (z : State). legal_from z (entries xs) ≡ true) (sym is) (second (allowed s x.entry) _ legal) in
+    let up : s.serial ≤ (state_at next).serial = omega (arith, serial_rises s x.entry may, ap (λ (z : State). z.serial) is) in
+    let named_up : named x.entry ≤ (state_at next).serial = omega (arith, names s x.entry may, ap (λ (z : State). z.serial) is) in
     let p : Placed = record { before = before; entry = x.entry } in
     pick (x.by == k) least p (placed_from k next xs)
     (both (is_fresh_at least s.serial x.entry) _ (here least s x.entry may low) (fresh_from k (max least (named x.entry)) next xs rest (omega arith)))

@@ -1,4 +1,4 @@
--- A history with one entry more.
+-- Histories: one entry more, their fronts and backs, and what each of their states has.
 use Rattle.std.proofs.Common.{◌≡◌, Bool, true, false, ◌&&◌, List, [], ◌∷◌, ◌++◌, refl, sym, ap, ◌∙◌, append_assoc}
 use Rattle.std.proofs.lemmas.List.{append-nil}
 use Rattle.cd_legal.specs.declared.entry.Entry.{Entry}
@@ -31,6 +31,26 @@ state_from-snoc s (x ∷ xs) e = state_from-snoc (after s x) xs e
 pub calls_from-snoc : (s : State) (log : List Entry) (e : Entry) → calls_from s (log ++ e ∷ []) ≡ calls_from s log ++ entry_calls (state_from s log) e
 calls_from-snoc s [] e = append-nil (entry_calls s e)
 calls_from-snoc s (x ∷ xs) e = ap (λ z. entry_calls s x ++ z) (calls_from-snoc (after s x) xs e) ∙ sym (append_assoc (entry_calls s x) (calls_from (after s x) xs) (entry_calls (state_from (after s x) xs) e))
+
+-- the front of a legal history is legal
+pub legal_from-front : (s : State) (xs ys : List Entry) → legal_from s (xs ++ ys) ≡ true → legal_from s xs ≡ true
+legal_from-front s [] ys legal = refl
+legal_from-front s (x ∷ xs) ys legal = both (allowed s x) _ (first (allowed s x) _ legal) (legal_from-front (after s x) xs ys (second (allowed s x) _ legal))
+
+-- and its back is legal in the state that the front leaves
+pub legal_from-back : (s : State) (xs ys : List Entry) → legal_from s (xs ++ ys) ≡ true → legal_from (state_from s xs) ys ≡ true
+legal_from-back s [] ys legal = legal
+legal_from-back s (x ∷ xs) ys legal = legal_from-back (after s x) xs ys (second (allowed s x) _ legal)
+
+-- a history leaves what its back leaves of the state after its front
+pub state_from-append : (s : State) (xs ys : List Entry) → state_from s (xs ++ ys) ≡ state_from (state_from s xs) ys
+state_from-append s [] ys = refl
+state_from-append s (x ∷ xs) ys = state_from-append (after s x) xs ys
+
+-- what the first state has, and each allowed entry keeps, each state of a legal history has
+pub along : (P : State → Type 0) → ((s : State) (e : Entry) → allowed s e ≡ true → P s → P (after s e)) → (s : State) (log : List Entry) → legal_from s log ≡ true → P s → P (state_from s log)
+along P keeps s [] legal p = p
+along P keeps s (e ∷ es) legal p = along P keeps (after s e) es (second (allowed s e) _ legal) (keeps s e (first (allowed s e) _ legal) p)
 
 pub entries-snoc : (log : List Signed) (x : Signed) → entries (log ++ x ∷ []) ≡ entries log ++ x.entry ∷ []
 entries-snoc [] x = refl

@@ -35,7 +35,7 @@ not_live (Published n) live is = cc
 not_live Abandoned live is = cc
 
 -- a draft that may be published
-complete : (s : State) (d n from : ℕ) (c : Change) → allowed s (Publish d n from c) ≡ true → holds is_complete (slice_get s.drafts d) ≡ true
+pub complete : (s : State) (d n from : ℕ) (c : Change) → allowed s (Publish d n from c) ≡ true → holds is_complete (slice_get s.drafts d) ≡ true
 complete s d n from c may = first (holds is_complete (slice_get s.drafts d)) _ (second (not s.halted) _ may)
 
 -- one entry leaves it so
@@ -98,7 +98,7 @@ same_length : (s : State) (f : Drafted → Drafted) (d : ℕ) (ds : List ℕ) �
 same_length s f d ds all = subst (λ (n : ℕ). list_all (λ j. nat_lt j n) ds ≡ true) (sym (length_change f s.drafts d)) all
 
 -- one entry leaves them so
-there : (s : State) (e : Entry) → allowed s e ≡ true → are_there s ≡ true → are_there (after s e) ≡ true
+pub there : (s : State) (e : Entry) → allowed s e ≡ true → are_there s ≡ true → are_there (after s e) ≡ true
 there s (Draft j tree plan) may all = lower_all _ _ (longer s.drafts _) s.published all
 there s (Made j i taken failed) may all = same_length s _ j s.published all
 there s (Started j a taken failed) may all = same_length s _ j s.published all

@@ -11,14 +11,13 @@ use Rattle.cd_legal.specs.declared.entry.Change.{Change}
 use Rattle.cd_legal.specs.declared.entry.Change.TheVariants as change
 use Rattle.cd_legal.specs.declared.entry.Entry.{Entry}
 use Rattle.cd_legal.specs.declared.entry.Entry.TheVariants.{Draft, Made, Started, Publish, Abandon, Stopped, Begin, Finish, Retire, Cleaned, Halt}
-use Rattle.cd_legal.specs.declared.entry.Signed.{Signed}
-use Rattle.cd_legal.specs.Entry.{signed}
 use Rattle.cd_legal.specs.State.{opening_state, Conf, conf_of, instance_of}
 use Rattle.cd_legal.specs.Legal.{legal, state_of, replayed}
-use Rattle.cd_legal.specs.Calls.{count, fixture_calls}
+use Rattle.cd_legal.specs.Calls.{count, fixture_calls, shuts}
 use Rattle.cd_legal.specs.Whole.{ended, IsWhole, IsOver}
 use Rattle.cd_legal.specs.Abandoned.{is_abandoned_in, without_draft, pairs_of_others, Leaves}
-use Rattle.cd_legal.specs.Owing.{owes_of}
+use Rattle.cd_legal.specs.Serials.{last_conf}
+use Rattle.cd_legal.specs.Runs.{all_made, all_started, opened, Failure, opened_until, undone_after, stopped_of, cleaned_of, ended_all, block_of}
 use Rattle.cd_legal.proofs.Leaving.{leaving}
 use Rattle.cd_legal.proofs.Undone.{no_trace}
 use Rattle.cd_legal.proofs.Over.{over-whole}
@@ -140,7 +139,7 @@ module _ (t : Tree) where
   run_calls = refl
 
   run_over : IsOver (state_of whole_run)
-  run_over = record { halted = refl; drafts = refl; tickets = refl; retired = refl; finished = refl }
+  run_over = record { halted = refl; drafts = refl; retired = refl; finished = refl }
 
   run_whole : IsWhole whole_run
   run_whole = over-whole whole_run refl run_over
@@ -152,21 +151,64 @@ module _ (t : Tree) where
   not_before : IsWhole (take 12 whole_run) → ⊥
   not_before whole = let e : ◌≡◌ {A = ℕ} 0 1 = whole.ended (instance_of 0 0) in omega (arith, e)
 
-  -- a pass publishes under its ticket, and owes the retiring of both serials that no request is left under
-  abbrev first_pass : List Signed
-  first_pass = signed 0 (Begin 0 0) ∷ signed 0 (Draft 0 t (modules_plan [])) ∷ signed 0 (Publish 0 1 0 change.First) ∷ []
+  -- it is what opens the draft, and what ends its serial after the halt
+  whole_entries : whole_run ≡ Draft 0 t plan ∷ Made 0 0 0 None ∷ Made 0 1 0 None ∷ all_started 0 plan ++ Publish 0 1 0 change.First
+      ∷ block_of (state_of (take 6 whole_run)) 0 ++ Halt 2 ∷ stopped_of (state_of (take 8 whole_run)) 1 ++ block_of (state_of (take 10 whole_run)) 1
+  whole_entries = refl
 
-  owes_ticket : owes_of 0 first_pass ≡ record { ticket = Some 0; draft = None; duties = [] }
-  owes_ticket = refl
+  whole_opens : all_made 0 plan ≡ Made 0 0 0 None ∷ Made 0 1 0 None ∷ []
+  whole_opens = refl
 
-  owes_duty : owes_of 0 (first_pass ++ signed 0 (Finish 0) ∷ []) ≡ record { ticket = None; draft = None; duties = 0 ∷ [] }
-  owes_duty = refl
+  whole_ends : stopped_of (state_of (take 6 whole_run)) 1 ++ cleaned_of (state_of (take 6 whole_run)) 1 ≡ ended_all 0 2 2
+  whole_ends = refl
 
-  owes_both : owes_of 0 (first_pass ++ signed 0 (Finish 0) ∷ signed 0 (Halt 2) ∷ []) ≡ record { ticket = None; draft = None; duties = 0 ∷ 1 ∷ [] }
-  owes_both = refl
+  last_of_run : last_conf (take 7 whole_run) ≡ Conf.Of t
+  last_of_run = refl
 
-  owes_no_more : owes_of 0 (first_pass ++ signed 0 (Finish 0) ∷ signed 0 (Retire 0) ∷ []) ≡ record { ticket = None; draft = None; duties = [] }
-  owes_no_more = refl
+  last_of_halt : last_conf whole_run ≡ Conf.Halted
+  last_of_halt = refl
+
+  last_of_none : last_conf (take 5 whole_run) ≡ Conf.Opening
+  last_of_none = refl
+
+  -- the host halts before anything is published
+  halted_first : fixture_calls (Halt 1 ∷ []) ≡ Shut ∷ []
+  halted_first = refl
+
+-- a module and an app, with a key each
+abbrev pair_plan : Plan
+pair_plan = record { modules = (modules_plan ((x_key ∷ []) ∷ [])).modules; apps = record { name = codes "a"; keys = y_key ∷ [] } ∷ [] }
+
+module _ (t u : Tree) (c : Change) where
+  -- the app's key can't be opened, and the host halts
+  abbrev start_fails : List Entry
+  start_fails = Draft 0 t pair_plan ∷ opened_until 0 pair_plan (Failure.InApp 0 0) y_key ++ Abandon 0 ∷ undone_after 0 pair_plan (Failure.InApp 0 0) ++ Halt 1 ∷ []
+
+  start_entries : start_fails ≡ Draft 0 t pair_plan ∷ Made 0 0 1 None ∷ Started 0 0 0 (Some y_key) ∷ Abandon 0 ∷ Stopped 0 0 ∷ Cleaned 0 0 ∷ Halt 1 ∷ []
+  start_entries = refl
+
+  start_legal : legal start_fails ≡ true
+  start_legal = refl
+
+  start_calls : fixture_calls start_fails ≡ Opened x_key ∷ NotOpened y_key ∷ Closed x_key ∷ Shut ∷ []
+  start_calls = refl
+
+  -- a module's key can't be opened
+  make_fails : opened_until 0 pair_plan (Failure.InModule 0 0) x_key ++ undone_after 0 pair_plan (Failure.InModule 0 0) ≡ Made 0 0 0 (Some x_key) ∷ Cleaned 0 0 ∷ []
+  make_fails = refl
+
+  -- one configuration replaces another, and the apps of both are stopped after the halt: the last ones shut
+  abbrev two_serials : List Entry
+  two_serials = Draft 0 t pair_plan ∷ opened 0 pair_plan ++ Publish 0 1 0 change.First ∷ Draft 1 u pair_plan ∷ opened 1 pair_plan ++ Publish 1 2 1 c ∷ Halt 3 ∷ Stopped 0 0 ∷ Stopped 1 0 ∷ []
+
+  two_legal : legal two_serials ≡ true
+  two_legal = refl
+
+  two_calls : fixture_calls two_serials ≡ Opened x_key ∷ Opened y_key ∷ Closed y_key ∷ Shut ∷ []
+  two_calls = refl
+
+  two_shuts : shuts (fixture_calls two_serials) ≡ 1
+  two_shuts = refl
 
 -- ---- a load that fails while a request runs
 
@@ -195,10 +237,10 @@ module _ (t u : Tree) where
   taken_apart = refl
 
   made_leaves : Leaves 1 (state_of (take 8 load_fails)) (state_of (take 9 load_fails))
-  made_leaves = leaving load_fails refl 1 (take 8 load_fails) (Made 1 0 1 (Some y_key)) (Abandon 1 ∷ Cleaned 1 0 ∷ Finish 1 ∷ []) refl refl refl
+  made_leaves = leaving 1 (take 8 load_fails) (Made 1 0 1 (Some y_key)) (Abandon 1 ∷ Cleaned 1 0 ∷ Finish 1 ∷ []) refl refl refl
 
   cleaned_leaves : Leaves 1 (state_of (take 10 load_fails)) (state_of (take 11 load_fails))
-  cleaned_leaves = leaving load_fails refl 1 (take 10 load_fails) (Cleaned 1 0) (Finish 1 ∷ []) refl refl refl
+  cleaned_leaves = leaving 1 (take 10 load_fails) (Cleaned 1 0) (Finish 1 ∷ []) refl refl refl
 
   -- without it, but for the entry that makes its draft
   without_it : without_draft 1 load_fails ≡ published ++ Draft 1 u (modules_plan ((http_key ∷ y_key ∷ []) ∷ [])) ∷ Finish 1 ∷ []

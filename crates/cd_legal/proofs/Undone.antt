@@ -179,7 +179,7 @@ comes d s (e ∷ es) legal gone = step d s e es (not (is_entry_of d e) || is_dra
 -- each serial has the same configuration
 same_confs : (d : ℕ) (s : State) (n : ℕ) → conf_of s n ≡ conf_of (undone d s) n
 same_confs d s zero = refl
-same_confs d s (suc n) = sym (conf_at-change undo (λ x. refl) s.drafts d (slice_get s.published n))
+same_confs d s (suc n) = sym (conf_at-change undo (λ x. refl) (s.halted && (suc n == s.serial)) s.drafts d (slice_get s.published n))
 
 -- such a state differs in nothing else
 nothing_else : (d : ℕ) (s : State) → Leaves d (undone d s) s

@@ -1,5 +1,5 @@
 -- The pairs of a key, and the fixtures' calls of a history.
-use Rattle.std.specs.Prelude.{ℕ, Bool, ◌&&◌, not, cond, List, [], ◌∷◌, ◌++◌, take, slice_get, reverse, map, Option, Some, None}
+use Rattle.std.specs.Prelude.{ℕ, suc, Bool, ◌&&◌, not, cond, List, [], ◌∷◌, ◌++◌, take, slice_get, reverse, map, Option, Some, None}
 use Rattle.cd_outside.specs.declared.key.Key.{Key}
 use Rattle.cd_outside.specs.declared.holder.Holder.{Holder}
 use Rattle.cd_outside.specs.declared.holder.Pair.{Pair}
@@ -69,3 +69,11 @@ calls_from s (e ∷ es) = entry_calls s e ++ calls_from (after s e) es
 -- the calls of a history
 abbrev pub fixture_calls : List Entry → List FixtureCall
 fixture_calls log = calls_from opening_state log
+
+-- how often the fixtures are shut
+abbrev pub shuts : List FixtureCall → ℕ
+shuts [] = 0
+shuts (Opened key ∷ calls) = shuts calls
+shuts (NotOpened key ∷ calls) = shuts calls
+shuts (Closed key ∷ calls) = shuts calls
+shuts (Shut ∷ calls) = suc (shuts calls)

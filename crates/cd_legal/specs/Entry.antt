@@ -1,15 +1,7 @@
 -- Histories: their entries, and whose they are.
-use Rattle.std.specs.Prelude.{ℕ, ◌==◌, Bool, true, cond, List, [], ◌∷◌}
-use Rattle.std.specs.List.{list_all}
+use Rattle.std.specs.Prelude.{ℕ, ◌==◌, cond, List, [], ◌∷◌}
 use Rattle.cd_legal.specs.declared.entry.Entry.{Entry}
-use Rattle.cd_legal.specs.declared.entry.Entry.TheVariants.{Begin, Finish}
 use Rattle.cd_legal.specs.declared.entry.Signed.{Signed}
-
--- the entry names no other pass
-abbrev pub is_of : ℕ → Entry → Bool
-is_of k (Begin caller serial) = caller == k
-is_of k (Finish caller) = caller == k
-is_of k entry = true
 
 -- the entry, signed with the number of the pass whose call made it
 abbrev pub signed : ℕ → Entry → Signed
@@ -24,11 +16,3 @@ entries (x ∷ xs) = x.entry ∷ entries xs
 abbrev pub mine : ℕ → List Signed → List Signed
 mine k [] = []
 mine k (x ∷ xs) = cond (x.by == k) (x ∷ mine k xs) (mine k xs)
-
--- a Begin or a Finish is signed by the pass that it names
-abbrev pub is_own : Signed → Bool
-is_own x = is_of x.by x.entry
-
--- so of each entry of a history
-abbrev pub are_own : List Signed → Bool
-are_own log = list_all is_own log

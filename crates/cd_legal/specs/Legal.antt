@@ -115,13 +115,17 @@ abbrev pub state_from : State → List Entry → State
 state_from s [] = s
 state_from s (e ∷ es) = state_from (after s e) es
 
--- the same from the opening state
+-- each entry is allowed, from the opening state on
 abbrev pub legal : List Entry → Bool
 legal log = legal_from opening_state log
 
--- the same from the opening state
+-- what the entries leave of the opening state
 abbrev pub state_of : List Entry → State
 state_of log = state_from opening_state log
+
+-- what a history leaves, whoever has signed its entries
+abbrev pub state_at : List Signed → State
+state_at log = state_of (entries log)
 
 -- a history whose entries are legal
 abbrev pub IsLegal : List Signed → Type 0
@@ -145,6 +149,6 @@ unless (Some place) s = Err (NotAllowed place)
 abbrev pub replayed : List Entry → Result State ReplayFault
 replayed log = unless (refused_at log) (state_of log)
 
--- one step: whether the entry is allowed, and where it is, what it leaves
+-- one step: whether the entry is allowed; where it is, what it leaves, and where it is not, the state as it was
 abbrev pub Steps : State → Entry → Result Bool NoMemory → State → Type 0
-Steps s e result t = IfOk result (λ may. (may ≡ allowed s e) × (IsTrue may → t ≡ after s e))
+Steps s e result t = IfOk result (λ may. (may ≡ allowed s e) × (IsTrue may → t ≡ after s e) × (IsTrue (not may) → t ≡ s))

@@ -7,4 +7,8 @@ pub mod Whole
 pub mod Placed
 pub mod Fresh
 pub mod Owing
+pub mod Signing
+pub mod Begins
+pub mod Serials
+pub mod Runs
 pub mod Abandoned

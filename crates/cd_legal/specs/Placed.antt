@@ -1,10 +1,10 @@
 -- The entries of one pass, each with the history that stood before it. All that is said of a pass is said of these.
-use Rattle.std.specs.Prelude.{◌≡◌, ℕ, ◌==◌, cond, List, [], ◌∷◌, ◌++◌, map}
+use Rattle.std.specs.Prelude.{ℕ, ◌==◌, cond, List, [], ◌∷◌, ◌++◌, map}
 use Rattle.cd_legal.specs.declared.entry.Entry.{Entry}
 use Rattle.cd_legal.specs.declared.entry.Signed.{Signed}
 use Rattle.cd_legal.specs.declared.state.State.{State}
-use Rattle.cd_legal.specs.Entry.{signed, entries}
-use Rattle.cd_legal.specs.Legal.{state_of}
+use Rattle.cd_legal.specs.Entry.{signed}
+use Rattle.cd_legal.specs.Legal.{state_at}
 
 -- an entry, and the history before it
 pub record Placed : Type 0 where
@@ -27,7 +27,7 @@ placed k history = placed_from k [] history
 abbrev pub placed_entries : List Placed → List Entry
 placed_entries own = map (λ p. p.entry) own
 
--- the history through the last of these entries of the pass; none for none
+-- the history up to and with the last of these entries of the pass; empty where there is none of them
 abbrev pub through : ℕ → List Placed → List Signed
 through k [] = []
 through k (p ∷ []) = p.before ++ signed k p.entry ∷ []
@@ -35,8 +35,4 @@ through k (p ∷ q ∷ own) = through k (q ∷ own)
 
 -- the state that an entry meets
 abbrev pub met : Placed → State
-met p = state_of (entries p.before)
-
--- one history begins another
-abbrev pub Begins : List Signed → List Signed → Type 0
-Begins front whole = (more : List Signed) × (whole ≡ front ++ more)
+met p = state_at p.before

@@ -1,5 +1,5 @@
 -- What a history leaves: the parts of a state, what is asked of them, and how one of them changes.
-use Rattle.std.specs.Prelude.{ℕ, zero, suc, ◌==◌, Bool, true, false, ◌||◌, cond, nat_lt, List, [], ◌∷◌, slice_get, Option, Some, None, map}
+use Rattle.std.specs.Prelude.{ℕ, zero, suc, ◌==◌, Bool, true, false, ◌&&◌, ◌||◌, cond, nat_lt, List, [], ◌∷◌, slice_get, Option, Some, None, map}
 use Rattle.cd_outside.specs.declared.key.Key.{Key}
 use Rattle.cd_outside.specs.declared.holder.Holder.{Holder}
 use Rattle.cd_tree.specs.declared.tree.Tree.{Tree}
@@ -120,20 +120,21 @@ pub data Conf : Type 0 where
   Halted : Conf
   Of : Tree → Conf
 
--- the tree of a draft; where there is none the host has halted
+-- the tree of a draft, nothing where there is no draft
 abbrev pub conf_in : Option Drafted → Conf
-conf_in None = Conf.Halted
+conf_in None = Conf.Opening
 conf_in (Some x) = Conf.Of x.tree
 
--- the same of a draft by its number
-abbrev pub conf_at : List Drafted → Option ℕ → Conf
-conf_at drafts None = Conf.Halted
-conf_at drafts (Some d) = conf_in (slice_get drafts d)
+-- the tree of a draft by its number; where none is named nothing any more if this is the serial of the halt, and else nothing yet
+abbrev pub conf_at : Bool → List Drafted → Option ℕ → Conf
+conf_at halt drafts None = cond halt Conf.Halted Conf.Opening
+conf_at halt drafts (Some d) = conf_in (slice_get drafts d)
 
--- the configuration with the serial: the one that no draft was published with, but for the opening one, is that of the halt
+-- the configuration with the serial: the tree that was published with it, the halted one for the serial of the halt, and the
+-- opening one for serial 0 and for those that are not there yet
 abbrev pub conf_of : State → ℕ → Conf
 conf_of s zero = Conf.Opening
-conf_of s (suc n) = conf_at s.drafts (slice_get s.published n)
+conf_of s (suc n) = conf_at (s.halted && (suc n == s.serial)) s.drafts (slice_get s.published n)
 
 -- ---- tickets
 
@@ -151,3 +152,18 @@ is_ticketed serial (t ∷ ts) = (t.serial == serial) || is_ticketed serial ts
 abbrev pub without_ticket : ℕ → List OpenTicket → List OpenTicket
 without_ticket caller [] = []
 without_ticket caller (t ∷ ts) = cond (t.caller == caller) (without_ticket caller ts) (t ∷ without_ticket caller ts)
+
+-- the serial of the caller's open ticket
+abbrev pub ticket_of : ℕ → List OpenTicket → Option ℕ
+ticket_of caller [] = None
+ticket_of caller (t ∷ ts) = cond (t.caller == caller) (Some t.serial) (ticket_of caller ts)
+
+-- how many tickets the caller has
+abbrev pub open_by : ℕ → List OpenTicket → ℕ
+open_by caller [] = 0
+open_by caller (t ∷ ts) = cond (t.caller == caller) (suc (open_by caller ts)) (open_by caller ts)
+
+-- how many tickets are open at the serial
+abbrev pub open_at : ℕ → List OpenTicket → ℕ
+open_at serial [] = 0
+open_at serial (t ∷ ts) = cond (t.serial == serial) (suc (open_at serial ts)) (open_at serial ts)

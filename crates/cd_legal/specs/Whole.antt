@@ -40,10 +40,9 @@ abbrev pub all_retired : ℕ → List ℕ → Bool
 all_retired zero retired = true
 all_retired (suc n) retired = has_number n retired && all_retired n retired
 
--- halted, no live draft, no open ticket, each superseded serial retired, nothing to be stopped or cleaned
+-- halted, no live draft, each superseded serial retired, nothing to be stopped or cleaned
 pub record IsOver (s : State) : Type 0 where
   pub halted : s.halted ≡ true
   pub drafts : list_all (λ x. not (is_live x.life)) s.drafts ≡ true
-  pub tickets : s.tickets ≡ []
   pub retired : all_retired s.serial s.retired ≡ true
   pub finished : list_all (is_finished s.retired) s.drafts ≡ true

@@ -4,9 +4,14 @@
 //! that says which entry may follow in a `State`, and which state it leaves; a list of entries is legal where each is allowed
 //! in the state that those before it leave. All conditions compute, so that a written list is proved legal by computing it.
 //!
-//! `replay` gives the state that a list leaves exactly where it is legal, and else the first place that is not allowed. The
-//! laws of `laws` say of every legal list what the layers above need. What fixtures are asked for, which entries are those of a
-//! draft, when all is ended, what a pass has seen and what it owes are definitions over lists, in specs/.
+//! `replay` (replaying.rt) gives the state that a list leaves exactly where it is legal, and else the first place that is not
+//! allowed. Its steps stand in drafting.rt, making.rt and tickets.rt, by kinds of entries, and what they ask in conditions.rt.
+//!
+//! A history is a legal list whose entries are signed by the passes that may sign them (`IsHistory` of specs/Signing.antt).
+//! `state_at` is what it leaves, and `IsPrefix` says that one begins another. The laws (laws.rt) say of every legal list what the
+//! layers above need: what a pass owes (Owing), what it has seen (Placed, Fresh), how many requests began (Begins), which
+//! configuration has which serial (Serials), what fixtures are asked for (Calls), which entries follow one another (Runs), what a
+//! draft that was given up leaves (Abandoned), and when all is ended (Whole).
 //!
 //! Nothing of modules is known here: the entry of a draft carries its plan. That the plan is that of its tree, and that a
 //! published tree is the one that its request asks for, is left to the layers above, and so is making the entries happen.
@@ -30,11 +35,17 @@ mod tickets;
 pub use entry::{Change, Entry, Signed};
 pub use fault::ReplayFault;
 pub use laws::{
-    abandoned_drafts_leave_all_else, abandoned_drafts_leave_no_trace, legal_is_fresh,
-    legal_where_nothing_is_refused, nothing_is_made_twice, tickets_stand_apart,
+    abandoned_drafts_leave_all_else, abandoned_drafts_leave_no_trace, begins_are_counted,
+    callers_have_one_ticket, configurations_stay, fixtures_are_shut_once, legal_is_fresh,
+    legal_where_nothing_is_refused, nothing_is_made_twice, passes_owe_by_their_own_entries,
+    passes_owe_their_tickets, prefixes_are_histories, published_drafts_have_their_serials,
+    publishing_and_halting_make_the_serial, serials_are_retired_once,
+    the_current_configuration_is_the_last_one, the_serial_never_falls, tickets_stand_apart,
     what_is_over_is_whole,
 };
-pub use limits::{LAST_SERIAL, MAX_BEGINS, MAX_DRAFTS, MAX_PASSES, MAX_SEATS, MAX_UNRETIRED};
+pub use limits::{
+    LAST_SERIAL, MAX_BEGINS, MAX_DRAFTS, MAX_PASSES, MAX_SEATS, MAX_UNRETIRED, limits_are_these,
+};
 pub use plan::{Plan, PlanApp, PlanModule};
 pub use replaying::replay;
 pub use stands::Stands;

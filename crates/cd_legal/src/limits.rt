@@ -1,10 +1,13 @@
+ghost use Rattle.std.specs.Prelude.{◌≡◌, ◌^◌, ◌-◌};
+ghost use Rattle.cd_legal.specs.declared.limits.TheConstants.{MAX_DRAFTS, MAX_UNRETIRED, LAST_SERIAL, MAX_BEGINS, MAX_SEATS, MAX_PASSES};
+
 /// How many drafts a history may have.
 pub const MAX_DRAFTS: u64 = 18_446_744_073_709_551_615;
 
 /// How many configurations may stand unretired at a time, the one that is to be published among them.
 pub const MAX_UNRETIRED: u32 = 256;
 
-/// The largest serial that is published, 2^24 - 2, so that a halt behind it still fits 24 bits.
+/// The largest serial that is published, 2^24 - 2, so that the serial of a halt after it still fits 24 bits.
 pub const LAST_SERIAL: u32 = 16_777_214;
 
 /// How many requests may begin under one serial, 2^39, before further ones are refused.
@@ -15,3 +18,13 @@ pub const MAX_SEATS: u32 = 64;
 
 /// How many passes may ever be made of one history.
 pub const MAX_PASSES: u32 = 65_536;
+
+/// The numbers of the limits.
+pub fn limits_are_these()
+    ensures drafts { MAX_DRAFTS ≡ 2 ^ 64 - 1 }
+    ensures unretired { MAX_UNRETIRED ≡ 256 }
+    ensures serials { LAST_SERIAL ≡ 2 ^ 24 - 2 }
+    ensures begins { MAX_BEGINS ≡ 2 ^ 39 }
+    ensures seats { MAX_SEATS ≡ 64 }
+    ensures passes { MAX_PASSES ≡ 65536 }
+{}

@@ -6,7 +6,7 @@ use Rattle.cd_tree.specs.Fields.{is_null}
 use Rattle.cd_fill.specs.declared.scene.Scene.{Scene}
 use Rattle.cd_fill.specs.Values.{header_values}
 use Rattle.cd_module.specs.Patterns.{pattern, fits}
-use Rattle.cd_module.specs.Settings.{Reader, list_of}
+use Rattle.cd_module.specs.Settings.{Reader, list_of, object_with_nulls}
 use Rattle.cd_module.specs.declared.pattern.Pattern.{Pattern}
 use Rattle.cd_match.specs.declared.header.FieldTest.{FieldTest}
 use Rattle.cd_match.specs.declared.header.HeaderMatcher.{HeaderMatcher}
@@ -16,6 +16,10 @@ unfoldable pub field_test : List ℕ → Reader FieldTest
 field_test name t at =
     if is_null t then Ok (record { name = name; patterns = None })
     else (list_of pattern t at ▷ λ patterns. Ok (record { name = name; patterns = Some patterns }))
+
+-- the settings: an object by name, where null has a meaning
+unfoldable pub header_matcher : Reader HeaderMatcher
+header_matcher t at = object_with_nulls field_test t at ▷ λ tests. Ok (record { tests = tests })
 
 -- some value fits some pattern, where case counts
 abbrev pub some_fits : List Pattern → List (List ℕ) → Bool

@@ -1,5 +1,5 @@
 -- Whether a route's matchers hold (Caddy, JSON Config Structure, http.matchers).
-use Rattle.std.specs.Prelude.{Bool, true, not, List, [], ◌∷◌}
+use Rattle.std.specs.Prelude.{Bool, true, List, [], ◌∷◌}
 use Rattle.std.specs.List.{list_all, list_any}
 use Rattle.cd_fill.specs.declared.scene.Scene.{Scene}
 use Rattle.cd_match.specs.Host.{host_holds}
@@ -8,24 +8,25 @@ use Rattle.cd_match.specs.Method.{method_holds}
 use Rattle.cd_match.specs.Header.{header_holds}
 use Rattle.cd_match.specs.Query.{query_holds}
 use Rattle.cd_match.specs.Vars.{vars_hold}
+use Rattle.cd_match.specs.Not.{none_holds}
 use Rattle.cd_match.specs.declared.matcher.Matcher.{Matcher, fold-Matcher}
 use Rattle.cd_match.specs.declared.matcher.Matcher.TheOpen.{Matcher-F}
 use Rattle.cd_match.specs.declared.matcher.MatcherSet.{MatcherSet, out-MatcherSet}
 use Rattle.cd_match.specs.declared.sets.Sets.{Sets}
 
--- one matcher, with what holds of each set inside in its place: `not` holds where none of its sets does
-abbrev pub matches : Scene → Matcher-F Bool Bool → Bool
+-- one matcher, with what holds of the sets of a `not` in its place
+abbrev pub matches : Scene → Matcher-F Bool Bool Bool → Bool
 matches x (Matcher-F.Host matcher) = host_holds matcher x
 matches x (Matcher-F.Path matcher) = path_holds matcher x
 matches x (Matcher-F.Method matcher) = method_holds matcher x
 matches x (Matcher-F.Header matcher) = header_holds matcher x
 matches x (Matcher-F.Query matcher) = query_holds matcher x
 matches x (Matcher-F.Vars matcher) = vars_hold matcher x
-matches x (Matcher-F.Not sets) = not (list_any (λ holds. holds) sets)
+matches x (Matcher-F.Not holds) = holds
 
 -- a matcher holds
 unfoldable pub matcher_holds : Scene → Matcher → Bool
-matcher_holds x = fold-Matcher Bool Bool (matches x) (λ set. list_all (λ holds. holds) set.matchers)
+matcher_holds x = fold-Matcher Bool Bool Bool (matches x) (λ set. list_all (λ holds. holds) set.matchers) (λ none. none_holds none.sets)
 
 -- a set holds where all its matchers hold
 abbrev pub set_holds : Scene → MatcherSet → Bool

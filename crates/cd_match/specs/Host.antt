@@ -1,11 +1,17 @@
 -- The matcher `host`: the host that is asked for (Caddy, JSON Config Structure, http.matchers.host).
-use Rattle.std.specs.Prelude.{ℕ, ◌==◌, ◌||◌, Bool, List, codes}
+use Rattle.std.specs.Prelude.{ℕ, ◌==◌, ◌||◌, Bool, List, codes, Ok}
 use Rattle.std.specs.Cmp.Lexicographic.{pointwise}
 use Rattle.std.specs.List.{slice_split, list_any}
 use Rattle.std.specs.Str.{bytes_eq, str_eq_ignore_ascii_case}
+use Rattle.cd_text.specs.Steps.{◌▷◌}
 use Rattle.cd_fill.specs.declared.scene.Scene.{Scene}
 use Rattle.cd_fill.specs.Values.{bare_host}
+use Rattle.cd_module.specs.Settings.{Reader, text, list_of}
 use Rattle.cd_match.specs.declared.host.HostMatcher.{HostMatcher}
+
+-- the settings: a list of texts
+unfoldable pub host_matcher : Reader HostMatcher
+host_matcher t at = list_of text t at ▷ λ patterns. Ok (record { patterns = patterns })
 
 -- `.`
 abbrev pub is_dot : ℕ → Bool

@@ -5,5 +5,7 @@ pub mod Method
 pub mod Header
 pub mod Query
 pub mod Vars
+pub mod Not
+pub mod Names
 pub mod Holds
 pub mod Matchers

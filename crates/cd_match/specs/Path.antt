@@ -5,7 +5,7 @@ use Rattle.cd_text.specs.Steps.{◌▷◌}
 use Rattle.cd_fill.specs.declared.scene.Scene.{Scene}
 use Rattle.cd_module.specs.Faults.{refused}
 use Rattle.cd_module.specs.Patterns.{pattern, literal, fits_in_any_case}
-use Rattle.cd_module.specs.Settings.{Reader}
+use Rattle.cd_module.specs.Settings.{Reader, list_of}
 use Rattle.cd_module.specs.declared.fault.LoadKind.TheVariants.{BadValue}
 use Rattle.cd_match.specs.declared.path.PathPattern.{PathPattern}
 use Rattle.cd_match.specs.declared.path.PathMatcher.{PathMatcher}
@@ -19,6 +19,10 @@ unfoldable pub path_pattern : Reader PathPattern
 path_pattern t at =
     pattern t at ▷ λ written.
     if list_any is_star (literal written) then Err (refused BadValue at) else Ok (record { pattern = written })
+
+-- the settings: a list of patterns
+unfoldable pub path_matcher : Reader PathMatcher
+path_matcher t at = list_of path_pattern t at ▷ λ patterns. Ok (record { patterns = patterns })
 
 -- the path fits one of the patterns, in any case
 abbrev pub path_holds : PathMatcher → Scene → Bool

@@ -6,13 +6,17 @@ use Rattle.form_urlencoded.specs.Form.{raw_pairs}
 use Rattle.cd_text.specs.Steps.{◌▷◌}
 use Rattle.cd_fill.specs.declared.scene.Scene.{Scene}
 use Rattle.cd_fill.specs.Values.{query_values}
-use Rattle.cd_module.specs.Settings.{Reader, text, list_of}
+use Rattle.cd_module.specs.Settings.{Reader, text, list_of, object_of}
 use Rattle.cd_match.specs.declared.query.KeyTest.{KeyTest}
 use Rattle.cd_match.specs.declared.query.QueryMatcher.{QueryMatcher}
 
 -- a member of `query`: a list of texts
 unfoldable pub key_test : List ℕ → Reader KeyTest
 key_test key t at = list_of text t at ▷ λ values. Ok (record { key = key; values = values })
+
+-- the settings: an object by name
+unfoldable pub query_matcher : Reader QueryMatcher
+query_matcher t at = object_of key_test t at ▷ λ tests. Ok (record { tests = tests })
 
 -- a value that is listed, and any value where `*` is
 abbrev pub is_wanted : List (List ℕ) → List ℕ → Bool

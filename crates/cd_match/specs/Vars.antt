@@ -7,13 +7,17 @@ use Rattle.cd_fill.specs.declared.scene.Scene.{Scene}
 use Rattle.cd_fill.specs.declared.fault.FillFault.{FillFault}
 use Rattle.cd_fill.specs.Filling.{fill}
 use Rattle.cd_fill.specs.Values.{begins, value_of_variable}
-use Rattle.cd_module.specs.Settings.{Reader, text, list_of}
+use Rattle.cd_module.specs.Settings.{Reader, text, list_of, object_of}
 use Rattle.cd_match.specs.declared.vars.VariableTest.{VariableTest}
 use Rattle.cd_match.specs.declared.vars.VarsMatcher.{VarsMatcher}
 
 -- a member of `vars`: a list of texts
 unfoldable pub variable_test : List ℕ → Reader VariableTest
 variable_test key t at = list_of text t at ▷ λ values. Ok (record { key = key; values = values })
+
+-- the settings: an object by name
+unfoldable pub vars_matcher : Reader VarsMatcher
+vars_matcher t at = object_of variable_test t at ▷ λ tests. Ok (record { tests = tests })
 
 -- the value of the variable, or the filled key where that begins with `{`
 abbrev pub value_of_key : Scene → List ℕ → Result (List ℕ) FillFault

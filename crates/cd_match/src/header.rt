@@ -4,10 +4,10 @@ ghost use Rattle.std.specs.List.{list_any};
 ghost use Rattle.std.specs.Str.{str_eq_ignore_ascii_case};
 ghost use Rattle.cd_fill.specs.Values.{header_values};
 ghost use Rattle.cd_module.specs.Patterns.{fits};
-ghost use Rattle.cd_match.specs.Header.{field_test, some_fits, values_pass, field_passes, header_holds};
+ghost use Rattle.cd_match.specs.Header.{field_test, header_matcher, some_fits, values_pass, field_passes, header_holds};
 
 use cd_fill::Scene;
-use cd_module::{LoadFault, Named, Pattern, Settings};
+use cd_module::{LoadFault, Named, Pattern, Settings, object_by_name_with_nulls};
 use cd_text::{List, Text};
 use cd_tree::{Path, Tree};
 use cd_wire::Field;
@@ -47,6 +47,16 @@ impl Named for FieldTest {
             name: name.copy(alloc)?,
             patterns,
         })
+    }
+}
+
+impl Settings for HeaderMatcher {
+    ghost reader = { header_matcher };
+
+    #[tactic(auto, unfolding(crate::specs::Header::header_matcher))]
+    fn read(alloc: Global, tree: &Tree, at: &Path) -> Result<HeaderMatcher, LoadFault> {
+        let tests = object_by_name_with_nulls::<FieldTest>(alloc, tree, at)?;
+        Ok(HeaderMatcher { tests })
     }
 }
 

@@ -58,8 +58,8 @@ fn matcher_holds(alloc: Global, matcher: &Matcher, scene: &Scene) -> Result<bool
         Matcher::Header(matcher) => Ok(matcher.holds(scene)),
         Matcher::Query(matcher) => Ok(matcher.holds(scene)),
         Matcher::Vars(matcher) => matcher.holds(alloc, scene),
-        Matcher::Not(sets) => {
-            let any = some_holds(alloc, sets.as_slice(), scene)?;
+        Matcher::Not(matcher) => {
+            let any = some_holds(alloc, matcher.sets.as_slice(), scene)?;
             Ok(!any)
         }
     }

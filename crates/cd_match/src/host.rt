@@ -1,16 +1,29 @@
 //! The matcher `host`.
 ghost use Rattle.std.specs.Prelude.{◌≡◌, ◌<◌, MatchOption, length};
 ghost use Rattle.std.specs.List.{before_first, after_first, position, position_or_len};
-ghost use Rattle.cd_match.specs.Host.{is_dot, label_fits, host_fits, host_holds};
+ghost use Rattle.cd_match.specs.Host.{host_matcher, is_dot, label_fits, host_fits, host_holds};
 
 use cd_fill::{Scene, host_without_port};
+use cd_module::{LoadFault, Settings};
 use cd_text::{List, Text};
+use cd_tree::{Path, Tree};
+use std::alloc::Global;
 
 /// Holds where the host that is asked for, without its port, fits one of the patterns. A pattern fits a host with as many
 /// labels, where each label is the same in any case or `*`. Without patterns it never holds.
 #[derive(Debug, Drop)]
 pub struct HostMatcher {
     pub patterns: List<Text>,
+}
+
+impl Settings for HostMatcher {
+    ghost reader = { host_matcher };
+
+    #[tactic(auto, unfolding(crate::specs::Host::host_matcher))]
+    fn read(alloc: Global, tree: &Tree, at: &Path) -> Result<HostMatcher, LoadFault> {
+        let patterns = List::<Text>::read(alloc, tree, at)?;
+        Ok(HostMatcher { patterns })
+    }
 }
 
 fn label_fits(wanted: &[u8], label: &[u8]) -> bool

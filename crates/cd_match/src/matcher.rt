@@ -1,6 +1,7 @@
 use crate::header::HeaderMatcher;
 use crate::host::HostMatcher;
 use crate::method::MethodMatcher;
+use crate::not::NotMatcher;
 use crate::path::PathMatcher;
 use crate::query::QueryMatcher;
 use crate::vars::VarsMatcher;
@@ -22,8 +23,8 @@ pub enum Matcher {
     Query(QueryMatcher),
     /// `vars`: variables and placeholders.
     Vars(VarsMatcher),
-    /// `not`: holds where none of these sets does.
-    Not(List<MatcherSet>),
+    /// `not`: sets of which none is to hold.
+    Not(NotMatcher),
 }
 
 /// Matchers that hold together.

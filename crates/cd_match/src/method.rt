@@ -1,15 +1,28 @@
 //! The matcher `method`.
 ghost use Rattle.std.specs.Prelude.{◌≡◌};
-ghost use Rattle.cd_match.specs.Method.{method_holds};
+ghost use Rattle.cd_match.specs.Method.{method_matcher, method_holds};
 
 use cd_fill::Scene;
+use cd_module::{LoadFault, Settings};
 use cd_text::{List, Text};
+use cd_tree::{Path, Tree};
+use std::alloc::Global;
 
 /// Holds where the method, as handlers have left it, is listed; case counts (RFC 9110, section 9.1). Without methods it never
 /// holds.
 #[derive(Debug, Drop)]
 pub struct MethodMatcher {
     pub methods: List<Text>,
+}
+
+impl Settings for MethodMatcher {
+    ghost reader = { method_matcher };
+
+    #[tactic(auto, unfolding(crate::specs::Method::method_matcher))]
+    fn read(alloc: Global, tree: &Tree, at: &Path) -> Result<MethodMatcher, LoadFault> {
+        let methods = List::<Text>::read(alloc, tree, at)?;
+        Ok(MethodMatcher { methods })
+    }
 }
 
 impl MethodMatcher {

@@ -1,7 +1,7 @@
 //! The matcher `path`.
 ghost use Rattle.std.specs.Prelude.{◌≡◌};
 ghost use Rattle.std.specs.List.{list_any};
-ghost use Rattle.cd_match.specs.Path.{is_star, path_pattern, path_holds};
+ghost use Rattle.cd_match.specs.Path.{is_star, path_pattern, path_matcher, path_holds};
 
 use cd_fill::Scene;
 use cd_module::{LoadFault, LoadKind, Pattern, Settings};
@@ -37,6 +37,16 @@ impl Settings for PathPattern {
             return Err(LoadFault::at(alloc, LoadKind::BadValue, at));
         }
         Ok(PathPattern { pattern })
+    }
+}
+
+impl Settings for PathMatcher {
+    ghost reader = { path_matcher };
+
+    #[tactic(auto, unfolding(crate::specs::Path::path_matcher))]
+    fn read(alloc: Global, tree: &Tree, at: &Path) -> Result<PathMatcher, LoadFault> {
+        let patterns = List::<PathPattern>::read(alloc, tree, at)?;
+        Ok(PathMatcher { patterns })
     }
 }
 

@@ -3,11 +3,11 @@ ghost use Rattle.std.specs.Prelude.{◌≡◌, ◌==◌, [], length, unwrap_or};
 ghost use Rattle.std.specs.List.{list_all};
 ghost use Rattle.form_urlencoded.specs.Form.{raw_pairs};
 ghost use Rattle.cd_fill.specs.Values.{decoded};
-ghost use Rattle.cd_match.specs.Query.{key_test, is_wanted, key_passes, query_holds};
+ghost use Rattle.cd_match.specs.Query.{key_test, query_matcher, is_wanted, key_passes, query_holds};
 
 use crate::escapes::stands_for;
 use cd_fill::Scene;
-use cd_module::{LoadFault, Named, Settings};
+use cd_module::{LoadFault, Named, Settings, object_by_name};
 use cd_text::{List, Octets, Text};
 use cd_tree::{Path, Tree};
 use form_urlencoded::raw_pairs;
@@ -43,6 +43,16 @@ impl Named for KeyTest {
             key: name.copy(alloc)?,
             values,
         })
+    }
+}
+
+impl Settings for QueryMatcher {
+    ghost reader = { query_matcher };
+
+    #[tactic(auto, unfolding(crate::specs::Query::query_matcher))]
+    fn read(alloc: Global, tree: &Tree, at: &Path) -> Result<QueryMatcher, LoadFault> {
+        let tests = object_by_name::<KeyTest>(alloc, tree, at)?;
+        Ok(QueryMatcher { tests })
     }
 }
 

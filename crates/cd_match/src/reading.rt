@@ -2,72 +2,59 @@
 ghost use Rattle.std.specs.Prelude.{◌≡◌};
 ghost use Rattle.cd_text.specs.Gives.{Gives};
 ghost use Rattle.cd_module.specs.Settings.{each, each_member, is_setting, list_of};
-ghost use Rattle.cd_tree.specs.declared.tree.Member.{out-Member};
-ghost use Rattle.cd_match.specs.Matchers.{sets, matcher_set, matcher, plain_matcher, route_sets};
+ghost use Rattle.cd_match.specs.Matchers.{sets, matcher_set, matcher, matcher_of, route_sets};
+ghost use Rattle.cd_match.specs.Not.{not_matcher};
 
-use crate::header::{FieldTest, HeaderMatcher};
+use crate::header::HeaderMatcher;
 use crate::host::HostMatcher;
+use crate::kind::MatcherKind;
 use crate::matcher::{Matcher, MatcherSet};
 use crate::method::MethodMatcher;
-use crate::path::{PathMatcher, PathPattern};
-use crate::query::{KeyTest, QueryMatcher};
+use crate::not::NotMatcher;
+use crate::path::PathMatcher;
+use crate::query::QueryMatcher;
 use crate::sets::Sets;
-use crate::vars::{VariableTest, VarsMatcher};
-use cd_module::{
-    LoadFault, LoadKind, Settings, is_a_setting, object_by_name, object_by_name_with_nulls,
-};
+use crate::vars::VarsMatcher;
+use cd_module::{LoadFault, LoadKind, Named, Settings, is_a_setting};
 use cd_text::{List, Text};
 use cd_tree::{Member, Path, Tree};
 use std::alloc::Global;
 
-// A matcher that has no sets inside, by its name.
-#[tactic(auto, unfolding(crate::specs::Matchers::plain_matcher))]
-fn read_plain_matcher(
-    alloc: Global,
-    name: &Text,
-    tree: &Tree,
-    at: &Path,
-) -> Result<Matcher, LoadFault>
-    ensures { Gives LoadFault.NoMemory result (plain_matcher name.now tree.now at.now) }
+// A matcher that is known by its name.
+#[cycle(sets)]
+#[tactic(auto, unfolding(crate::specs::Matchers::matcher_of))]
+fn read_kind(alloc: Global, kind: MatcherKind, tree: &Tree, at: &Path) -> Result<Matcher, LoadFault>
+    ensures { Gives LoadFault.NoMemory result (matcher_of sets kind tree.now at.now) }
 {
-    match name.as_str() {
-        "host" => {
-            let patterns = List::<Text>::read(alloc, tree, at)?;
-            Ok(Matcher::Host(HostMatcher { patterns }))
-        }
-        "path" => {
-            let patterns = List::<PathPattern>::read(alloc, tree, at)?;
-            Ok(Matcher::Path(PathMatcher { patterns }))
-        }
-        "method" => {
-            let methods = List::<Text>::read(alloc, tree, at)?;
-            Ok(Matcher::Method(MethodMatcher { methods }))
-        }
-        "header" => {
-            let tests = object_by_name_with_nulls::<FieldTest>(alloc, tree, at)?;
-            Ok(Matcher::Header(HeaderMatcher { tests }))
-        }
-        "query" => {
-            let tests = object_by_name::<KeyTest>(alloc, tree, at)?;
-            Ok(Matcher::Query(QueryMatcher { tests }))
-        }
-        "vars" => {
-            let tests = object_by_name::<VariableTest>(alloc, tree, at)?;
-            Ok(Matcher::Vars(VarsMatcher { tests }))
-        }
-        name => Err(LoadFault::unknown_module(alloc, "http.matchers.", name, at)),
+    match kind {
+        MatcherKind::Host => Ok(Matcher::Host(HostMatcher::read(alloc, tree, at)?)),
+        MatcherKind::Path => Ok(Matcher::Path(PathMatcher::read(alloc, tree, at)?)),
+        MatcherKind::Method => Ok(Matcher::Method(MethodMatcher::read(alloc, tree, at)?)),
+        MatcherKind::Header => Ok(Matcher::Header(HeaderMatcher::read(alloc, tree, at)?)),
+        MatcherKind::Query => Ok(Matcher::Query(QueryMatcher::read(alloc, tree, at)?)),
+        MatcherKind::Vars => Ok(Matcher::Vars(VarsMatcher::read(alloc, tree, at)?)),
+        MatcherKind::Not => Ok(Matcher::Not(read_not(alloc, tree, at)?)),
     }
+}
+
+/// A `not`, with its sets.
+#[cycle(sets)]
+#[tactic(auto, unfolding(crate::specs::Not::not_matcher))]
+pub(crate) fn read_not(alloc: Global, tree: &Tree, at: &Path) -> Result<NotMatcher, LoadFault>
+    ensures { Gives LoadFault.NoMemory result (not_matcher sets tree.now at.now) }
+{
+    let sets = read_sets(alloc, tree, at)?;
+    Ok(NotMatcher { sets })
 }
 
 #[cycle(sets)]
 #[tactic(auto, unfolding(crate::specs::Matchers::matcher))]
-fn read_matcher(alloc: Global, member: &Member, at: &Path) -> Result<Matcher, LoadFault>
-    ensures { Gives LoadFault.NoMemory result (matcher sets (out-Member member.now).key (out-Member member.now).value at.now) }
+fn read_matcher(alloc: Global, name: &Text, tree: &Tree, at: &Path) -> Result<Matcher, LoadFault>
+    ensures { Gives LoadFault.NoMemory result (matcher sets name.now tree.now at.now) }
 {
-    if member.key.equals("not") {
-        Ok(Matcher::Not(read_sets(alloc, &member.value, at)?))
-    } else {
-        read_plain_matcher(alloc, &member.key, &member.value, at)
+    match MatcherKind::named(name.as_str()) {
+        Some(kind) => read_kind(alloc, kind, tree, at),
+        None => Err(LoadFault::unknown_module(alloc, "http.matchers.", name.as_str(), at)),
     }
 }
 
@@ -81,7 +68,7 @@ fn read_matchers(alloc: Global, members: &[Member], at: &Path) -> Result<List<Ma
             continue;
         }
         let here = at.member(alloc, member.key.as_str())?;
-        matchers.push(read_matcher(alloc, member, &here)?)?;
+        matchers.push(read_matcher(alloc, &member.key, &member.value, &here)?)?;
     }
     Ok(matchers)
 }
@@ -119,6 +106,19 @@ fn read_sets(alloc: Global, tree: &Tree, at: &Path) -> Result<List<MatcherSet>, 
     match tree {
         Tree::Items(items) => read_each_set(alloc, items.as_slice(), at),
         _ => Err(LoadFault::at(alloc, LoadKind::WrongKind, at)),
+    }
+}
+
+impl Named for Matcher {
+    ghost named = { matcher sets };
+
+    fn read_named(
+        alloc: Global,
+        name: &Text,
+        tree: &Tree,
+        at: &Path,
+    ) -> Result<Matcher, LoadFault> {
+        read_matcher(alloc, name, tree, at)
     }
 }
 

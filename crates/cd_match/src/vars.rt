@@ -3,10 +3,10 @@ ghost use Rattle.std.specs.Prelude.{◌≡◌, IfOk};
 ghost use Rattle.std.specs.List.{list_any};
 ghost use Rattle.std.specs.Str.{bytes_eq};
 ghost use Rattle.cd_fill.specs.Filling.{fill};
-ghost use Rattle.cd_match.specs.Vars.{variable_test, is_among, value_of_key, variable_passes, vars_hold};
+ghost use Rattle.cd_match.specs.Vars.{variable_test, vars_matcher, is_among, value_of_key, variable_passes, vars_hold};
 
 use cd_fill::{FillFault, Scene, fill, value_of_variable};
-use cd_module::{LoadFault, Named, Settings};
+use cd_module::{LoadFault, Named, Settings, object_by_name};
 use cd_text::{List, NoMemory, Text};
 use cd_tree::{Path, Tree};
 use std::alloc::Global;
@@ -41,6 +41,16 @@ impl Named for VariableTest {
             key: name.copy(alloc)?,
             values,
         })
+    }
+}
+
+impl Settings for VarsMatcher {
+    ghost reader = { vars_matcher };
+
+    #[tactic(auto, unfolding(crate::specs::Vars::vars_matcher))]
+    fn read(alloc: Global, tree: &Tree, at: &Path) -> Result<VarsMatcher, LoadFault> {
+        let tests = object_by_name::<VariableTest>(alloc, tree, at)?;
+        Ok(VarsMatcher { tests })
     }
 }
 

@@ -14,7 +14,7 @@ use Rattle.cd_tree.specs.declared.tree.Tree.{Tree, out-Tree, roll-Tree, roll-out
 use Rattle.cd_tree.specs.declared.tree.Tree.TheOpen.{Tree-F}
 use Rattle.cd_module.specs.Faults.{of_field}
 use Rattle.cd_module.specs.Recursion.{levels, recursive}
-use Rattle.cd_module.specs.Settings.{Reader, text_layer, text, truth_layer, truth, whole_layer, whole, each, list_layer, list_of, members, where_there, optional, must_be_there, needed, all_layer, name_of, is_setting, is_no_id, each_member, object_layer, object_of, object_with_nulls}
+use Rattle.cd_module.specs.Settings.{Reader, text_layer, text, truth_layer, truth, whole_layer, whole, number_or_text_layer, number_or_text, unread_list_layer, unread_list, unread_object_layer, unread_object, each, list_layer, list_of, members, where_there, optional, must_be_there, needed, all_layer, name_of, is_setting, is_no_id, each_member, object_layer, object_of, object_with_nulls}
 use Rattle.cd_module.specs.Bare.{no_ids, bare, SeesNoIds}
 use Rattle.cd_module.specs.declared.fault.LoadFault.{LoadFault}
 use Rattle.cd_module.proofs.Recursion.{Inward, enough, ▷-same}
@@ -79,6 +79,39 @@ whole-layer (Tree-F.Object ms) at = refl
 
 pub whole-bare : SeesNoIds whole
 whole-bare = record { same = λ t at. ap (λ x. whole_layer x at) (out-bare t) ∙ whole-layer (out-Tree t) at }
+
+number-or-text-layer : (x : Tree-F Tree Member) (at : Path) → number_or_text_layer (bare_layer x) at ≡ number_or_text_layer x at
+number-or-text-layer Tree-F.Null at = refl
+number-or-text-layer (Tree-F.Bool b) at = refl
+number-or-text-layer (Tree-F.Num n) at = refl
+number-or-text-layer (Tree-F.Text t) at = refl
+number-or-text-layer (Tree-F.Items items) at = refl
+number-or-text-layer (Tree-F.Object ms) at = refl
+
+pub number_or_text-bare : SeesNoIds number_or_text
+number_or_text-bare = record { same = λ t at. ap (λ x. number_or_text_layer x at) (out-bare t) ∙ number-or-text-layer (out-Tree t) at }
+
+unread-list-layer : (x : Tree-F Tree Member) (at : Path) → unread_list_layer (bare_layer x) at ≡ unread_list_layer x at
+unread-list-layer Tree-F.Null at = refl
+unread-list-layer (Tree-F.Bool b) at = refl
+unread-list-layer (Tree-F.Num n) at = refl
+unread-list-layer (Tree-F.Text t) at = refl
+unread-list-layer (Tree-F.Items items) at = refl
+unread-list-layer (Tree-F.Object ms) at = refl
+
+pub unread_list-bare : SeesNoIds unread_list
+unread_list-bare = record { same = λ t at. ap (λ x. unread_list_layer x at) (out-bare t) ∙ unread-list-layer (out-Tree t) at }
+
+unread-object-layer : (x : Tree-F Tree Member) (at : Path) → unread_object_layer (bare_layer x) at ≡ unread_object_layer x at
+unread-object-layer Tree-F.Null at = refl
+unread-object-layer (Tree-F.Bool b) at = refl
+unread-object-layer (Tree-F.Num n) at = refl
+unread-object-layer (Tree-F.Text t) at = refl
+unread-object-layer (Tree-F.Items items) at = refl
+unread-object-layer (Tree-F.Object ms) at = refl
+
+pub unread_object-bare : SeesNoIds unread_object
+unread_object-bare = record { same = λ t at. ap (λ x. unread_object_layer x at) (out-bare t) ∙ unread-object-layer (out-Tree t) at }
 
 -- ---- lists
 

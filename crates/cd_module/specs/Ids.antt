@@ -1,6 +1,6 @@
 -- The names of modules.
 use Rattle.std.specs.Prelude.{ℕ, ◌==◌, ◌-◌, ◌&&◌, ◌||◌, not, nat_le, Bool, if◌then◌else◌, List, length, take, slice_get, Option, Result, Ok, Err}
-use Rattle.std.specs.List.{list_all, slice_split}
+use Rattle.std.specs.List.{list_all, slice_split, join_with_byte}
 use Rattle.cd_module.specs.declared.id.ModuleId.{ModuleId}
 use Rattle.cd_module.specs.declared.id.IdFormFault.{IdFormFault}
 use Rattle.cd_module.specs.declared.id.IdFormFault.TheVariants.{BadForm}
@@ -20,6 +20,14 @@ labels_in text = slice_split (λ byte. byte == 46) text
 -- the id whose labels stand between the dots
 abbrev pub id_of : List ℕ → Result ModuleId IdFormFault
 id_of text = if list_all is_label (labels_in text) then Ok (record { labels = labels_in text }) else Err BadForm
+
+-- one label or more
+abbrev pub is_id : ModuleId → Bool
+is_id id = not (length id.labels == 0) && list_all is_label id.labels
+
+-- the labels, joined by dots
+abbrev pub dotted : ModuleId → List ℕ
+dotted id = join_with_byte 46 id.labels
 
 -- the last label
 abbrev pub name_in : List (List ℕ) → Option (List ℕ)

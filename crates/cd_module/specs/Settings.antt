@@ -13,6 +13,10 @@ use Rattle.cd_tree.specs.declared.tree.Tree.TheOpen.{Tree-F}
 use Rattle.cd_module.specs.Faults.{refused, of_field}
 use Rattle.cd_module.specs.declared.fault.LoadFault.{LoadFault}
 use Rattle.cd_module.specs.declared.fault.LoadKind.TheVariants.{WrongKind, Missing}
+use Rattle.cd_module.specs.declared.unread.UnreadList.{UnreadList}
+use Rattle.cd_module.specs.declared.unread.UnreadObject.{UnreadObject}
+use Rattle.cd_module.specs.declared.values.NumberOrText.{NumberOrText}
+use Rattle.cd_module.specs.declared.values.NumberOrText.TheVariants as either
 
 -- the settings that a value gives, or the first fault; the path leads to the value
 abbrev pub Reader : Type 0 → Type 0
@@ -58,6 +62,45 @@ whole_layer (Tree-F.Object members) at = Err (refused WrongKind at)
 -- a whole number
 abbrev pub whole : Reader Num
 whole t at = whole_layer (out-Tree t) at
+
+-- a number alone, or a text
+abbrev pub number_or_text_layer : Tree-F Tree Member → Path → Result NumberOrText LoadFault
+number_or_text_layer Tree-F.Null at = Err (refused WrongKind at)
+number_or_text_layer (Tree-F.Bool b) at = Err (refused WrongKind at)
+number_or_text_layer (Tree-F.Num n) at = Ok (either.Number n)
+number_or_text_layer (Tree-F.Text t) at = Ok (either.Text t)
+number_or_text_layer (Tree-F.Items items) at = Err (refused WrongKind at)
+number_or_text_layer (Tree-F.Object members) at = Err (refused WrongKind at)
+
+-- a number or a text
+abbrev pub number_or_text : Reader NumberOrText
+number_or_text t at = number_or_text_layer (out-Tree t) at
+
+-- a list alone is a list, whatever its elements are
+abbrev pub unread_list_layer : Tree-F Tree Member → Path → Result UnreadList LoadFault
+unread_list_layer Tree-F.Null at = Err (refused WrongKind at)
+unread_list_layer (Tree-F.Bool b) at = Err (refused WrongKind at)
+unread_list_layer (Tree-F.Num n) at = Err (refused WrongKind at)
+unread_list_layer (Tree-F.Text t) at = Err (refused WrongKind at)
+unread_list_layer (Tree-F.Items items) at = Ok (record {})
+unread_list_layer (Tree-F.Object members) at = Err (refused WrongKind at)
+
+-- a list whose elements are not read
+abbrev pub unread_list : Reader UnreadList
+unread_list t at = unread_list_layer (out-Tree t) at
+
+-- an object alone is an object, whatever its members are
+abbrev pub unread_object_layer : Tree-F Tree Member → Path → Result UnreadObject LoadFault
+unread_object_layer Tree-F.Null at = Err (refused WrongKind at)
+unread_object_layer (Tree-F.Bool b) at = Err (refused WrongKind at)
+unread_object_layer (Tree-F.Num n) at = Err (refused WrongKind at)
+unread_object_layer (Tree-F.Text t) at = Err (refused WrongKind at)
+unread_object_layer (Tree-F.Items items) at = Err (refused WrongKind at)
+unread_object_layer (Tree-F.Object members) at = Ok (record {})
+
+-- an object whose members are not read
+abbrev pub unread_object : Reader UnreadObject
+unread_object t at = unread_object_layer (out-Tree t) at
 
 -- ---- a list
 

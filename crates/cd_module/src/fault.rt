@@ -1,6 +1,7 @@
-ghost use Rattle.std.specs.Prelude.{◌≡◌, ◌≢◌, ◌++◌, IfOk};
-ghost use Rattle.cd_module.specs.Faults.{refused, unknown_module, of_field};
+ghost use Rattle.std.specs.Prelude.{◌≡◌, ◌≢◌, ◌++◌, IfOk, MatchResult};
+ghost use Rattle.cd_module.specs.Faults.{refused, unknown_module, repeated_address, repeated_id, limit_reached, of_field};
 
+use crate::limits::Limit;
 use cd_text::{NoMemory, Text};
 use cd_tree::{FieldFault, Path};
 use std::alloc::{AllocError, AllocFailed, Global};
@@ -84,6 +85,49 @@ impl<T: Drop> From<AllocFailed<T>> for LoadFault {
     }
 }
 
+fn repeated_address(alloc: Global, address: &str, at: &Path) -> Result<LoadFault, NoMemory>
+    ensures { IfOk result (λ fault. fault ≡ repeated_address address.now at.now) }
+{
+    Ok(LoadFault::Refused(Refusal {
+        kind: LoadKind::RepeatedAddress,
+        at: at.copy(alloc)?,
+        other: Path::root(alloc),
+        about: Text::from_str(alloc, address)?,
+    }))
+}
+
+fn repeated_id(alloc: Global, id: &str, first: &Path, second: &Path) -> Result<LoadFault, NoMemory>
+    ensures { IfOk result (λ fault. fault ≡ repeated_id id.now first.now second.now) }
+{
+    Ok(LoadFault::Refused(Refusal {
+        kind: LoadKind::RepeatedId,
+        at: first.copy(alloc)?,
+        other: second.copy(alloc)?,
+        about: Text::from_str(alloc, id)?,
+    }))
+}
+
+fn limit_reached(alloc: Global, limit: Limit) -> Result<LoadFault, NoMemory>
+    ensures { IfOk result (λ fault. fault ≡ limit_reached limit) }
+{
+    Ok(LoadFault::Refused(Refusal {
+        kind: LoadKind::LimitReached,
+        at: Path::root(alloc),
+        other: Path::root(alloc),
+        about: Text::from_str(alloc, limit.name())?,
+    }))
+}
+
+// The fault, or that there is no memory for it.
+fn or_no_memory(fault: Result<LoadFault, NoMemory>) -> LoadFault
+    ensures { MatchResult fault (λ made. result ≡ made) (λ _. result ≡ LoadFault.NoMemory) }
+{
+    match fault {
+        Ok(fault) => fault,
+        Err(_) => LoadFault::NoMemory,
+    }
+}
+
 fn unknown_module(
     alloc: Global,
     namespace: &str,
@@ -129,10 +173,28 @@ impl LoadFault {
     pub fn unknown_module(alloc: Global, namespace: &str, name: &str, at: &Path) -> LoadFault
         ensures { result ≢ LoadFault.NoMemory → result ≡ unknown_module (namespace.now ++ name.now) at.now }
     {
-        match unknown_module(alloc, namespace, name, at) {
-            Ok(fault) => fault,
-            Err(_) => LoadFault::NoMemory,
-        }
+        or_no_memory(unknown_module(alloc, namespace, name, at))
+    }
+
+    /// The fault of an address, in its written form, that is listened on again at this path.
+    pub fn repeated_address(alloc: Global, address: &str, at: &Path) -> LoadFault
+        ensures { result ≢ LoadFault.NoMemory → result ≡ repeated_address address.now at.now }
+    {
+        or_no_memory(repeated_address(alloc, address, at))
+    }
+
+    /// The fault of an id that the objects at two paths have.
+    pub fn repeated_id(alloc: Global, id: &str, first: &Path, second: &Path) -> LoadFault
+        ensures { result ≢ LoadFault.NoMemory → result ≡ repeated_id id.now first.now second.now }
+    {
+        or_no_memory(repeated_id(alloc, id, first, second))
+    }
+
+    /// The fault that there is more of something than there may be.
+    pub fn limit_reached(alloc: Global, limit: Limit) -> LoadFault
+        ensures { result ≢ LoadFault.NoMemory → result ≡ limit_reached limit }
+    {
+        or_no_memory(limit_reached(alloc, limit))
     }
 
     /// The fault of an object's members.

@@ -1,8 +1,8 @@
-ghost use Rattle.std.specs.Prelude.{◌≡◌, ◌-◌, ◌==◌, length, map, take, IfOk};
-ghost use Rattle.std.specs.List.{list_all, slice_split};
+ghost use Rattle.std.specs.Prelude.{◌≡◌, ◌∷◌, ◌++◌, map, string_bytes, IfOk, OnOk};
+ghost use Rattle.std.specs.List.{list_all, join_with_byte};
 ghost use Rattle.std.specs.Option.{option_copied};
 ghost use Rattle.cd_text.specs.Gives.{Gives};
-ghost use Rattle.cd_module.specs.Ids.{is_label_byte, is_label, id_of, name_in, namespace_in};
+ghost use Rattle.cd_module.specs.Ids.{is_label_byte, is_label, id_of, dotted, name_in, namespace_in};
 
 use cd_text::{List, NoMemory, Text, parts_of};
 use std::alloc::Global;
@@ -76,7 +76,44 @@ fn labels_of(alloc: Global, parts: &[&str]) -> Result<List<Text>, NoMemory>
     Ok(labels)
 }
 
+fn copies_of(alloc: Global, labels: &[Text]) -> Result<List<Text>, NoMemory>
+    ensures { IfOk result (λ copies. copies ≡ labels.now) }
+{
+    let mut copies = List::new(alloc);
+    for label in labels {
+        copies.push(label.copy(alloc)?)?;
+    }
+    Ok(copies)
+}
+
+fn add_label(text: &mut String, label: &str) -> Result<(), NoMemory>
+    ensures { OnOk result (string_bytes text.new ≡ string_bytes text.old ++ 46 ∷ label.now) }
+{
+    text.push('.')?;
+    text.push_str(label)?;
+    Ok(())
+}
+
+// The labels, joined by dots.
+fn joined(alloc: Global, first: &Text, others: &[Text]) -> Result<Text, NoMemory>
+    ensures { IfOk result (λ made. made ≡ join_with_byte 46 (first.now ∷ others.now)) }
+{
+    let mut text = String::from_str(alloc, first.as_str())?;
+    for label in others {
+        add_label(&mut text, label.as_str())?;
+    }
+    Ok(Text::from_string(text))
+}
+
 impl ModuleId {
+    /// The id of these labels. Each is of `a` to `z`, `0` to `9` and `_`, and there is one at least, in an id that a text may write.
+    pub fn from_labels(alloc: Global, labels: &[&str]) -> Result<ModuleId, NoMemory>
+        ensures { IfOk result (λ id. id.labels ≡ map (λ label. label.now) labels.now) }
+    {
+        let labels = labels_of(alloc, labels)?;
+        Ok(ModuleId { labels })
+    }
+
     /// The id that a text writes; BadForm exactly where it writes none.
     pub fn read(alloc: Global, text: &Text) -> Result<ModuleId, IdFormFault>
         ensures { Gives IdFormFault.NoMemory result (id_of text.now) }
@@ -86,6 +123,24 @@ impl ModuleId {
             return Err(IdFormFault::BadForm);
         }
         let labels = labels_of(alloc, parts.as_slice())?;
+        Ok(ModuleId { labels })
+    }
+
+    /// The text of the id: its labels, joined by dots.
+    pub fn to_text(&self, alloc: Global) -> Result<Text, NoMemory>
+        ensures { IfOk result (λ text. text ≡ dotted self.now) }
+    {
+        match self.labels.as_slice() {
+            [] => Ok(Text::from_string(String::new(alloc))),
+            [first, others @ ..] => joined(alloc, first, others),
+        }
+    }
+
+    /// A copy.
+    pub fn copy(&self, alloc: Global) -> Result<ModuleId, NoMemory>
+        ensures { IfOk result (λ id. id ≡ self.now) }
+    {
+        let labels = copies_of(alloc, self.labels.as_slice())?;
         Ok(ModuleId { labels })
     }
 

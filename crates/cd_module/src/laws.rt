@@ -1,10 +1,15 @@
-ghost use Rattle.std.specs.Prelude.{◌≡◌, ℕ, List};
+ghost use Rattle.std.specs.Prelude.{◌≡◌, ℕ, List, Ok, true};
 ghost use Rattle.cd_module.specs.Bare.{bare, SeesNoIds};
+ghost use Rattle.cd_module.specs.Ids.{id_of, is_id, dotted};
+ghost use Rattle.cd_module.specs.declared.id.ModuleId.{ModuleId};
 ghost use Rattle.cd_module.specs.Recursion.{Inward, recursive};
 ghost use Rattle.cd_module.specs.Settings.{Reader, list_of, object_of, object_with_nulls};
+ghost use Rattle.cd_module.specs.declared.limits.TheConstants.{MAX_MODULES, MAX_ADDRESSES, MAX_SERVERS, MAX_ERROR_SUBROUTES};
 
+use crate::id::ModuleId;
 use crate::named::Named;
 use crate::settings::Settings;
+use cd_text::Text;
 use cd_tree::{Path, Tree};
 
 /// Trees that differ in ids alone are read alike, by each reader that sees none: with the same settings, or the same first
@@ -41,4 +46,22 @@ pub fn recursions_see_no_ids<T: Drop>(tree: &Tree, at: &Path)
 {
     let _ = tree;
     let _ = at;
+}
+
+/// The limits of a configuration, as numbers.
+pub fn limits_of_configurations()
+    ensures modules { MAX_MODULES ≡ 65536 }
+    ensures addresses { MAX_ADDRESSES ≡ 1024 }
+    ensures servers { MAX_SERVERS ≡ 256 }
+    ensures error_subroutes { MAX_ERROR_SUBROUTES ≡ 8 }
+{}
+
+/// What a text reads as is an id, and the text of an id reads as that id. A text that reads as an id is its text.
+pub fn ids_read_back(id: &ModuleId, text: &Text)
+    ensures id { is_id id.now ≡ true → id_of (dotted id.now) ≡ Ok id.now }
+    ensures read { (found : ModuleId) → id_of text.now ≡ Ok found → is_id found ≡ true }
+    ensures text { (found : ModuleId) → id_of text.now ≡ Ok found → dotted found ≡ text.now }
+{
+    let _ = id;
+    let _ = text;
 }

@@ -20,18 +20,26 @@
 mod fault;
 mod id;
 mod laws;
+mod limits;
 mod lists;
 mod members;
 mod named;
 mod pattern;
 mod settings;
+mod unread;
 mod values;
 mod wording;
 
 pub use fault::{LoadFault, LoadKind, Refusal};
 pub use id::{IdFormFault, ModuleId};
-pub use laws::{ids_are_not_seen, lists_see_no_ids, objects_see_no_ids, recursions_see_no_ids};
+pub use laws::{
+    ids_are_not_seen, ids_read_back, limits_of_configurations, lists_see_no_ids,
+    objects_see_no_ids, recursions_see_no_ids,
+};
+pub use limits::{Limit, MAX_ADDRESSES, MAX_ERROR_SUBROUTES, MAX_MODULES, MAX_SERVERS};
 pub use members::{fields_of, is_a_setting, name_of, needed, optional};
 pub use named::{Named, object_by_name, object_by_name_with_nulls};
 pub use pattern::{Pattern, ends_in_any_case, starts_in_any_case};
 pub use settings::Settings;
+pub use unread::{UnreadList, UnreadObject};
+pub use values::NumberOrText;

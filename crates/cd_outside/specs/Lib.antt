@@ -2,10 +2,11 @@ pub mod Counts
 pub mod Taken
 pub mod Given
 pub mod Past
+pub mod Keys
 pub mod FixtureCall
 pub mod Telling
 pub mod Faults
 pub mod Pieces
+pub mod Places
 pub mod Script
 pub mod FixtureRecord
-pub mod Keys

@@ -4,7 +4,7 @@ use cd_text::{NoMemory, Text};
 use std::alloc::Global;
 
 /// An address of the server: where it listens, and where a connection came to.
-#[derive(Debug, Drop, PartialEq, Eq, PartialOrd, Ord)]
+#[derive(Debug, Drop, PartialEq, Eq)]
 pub struct Address {
     /// A name or an IP address as it was written, without brackets; empty for all interfaces.
     pub host: Text,

@@ -1,3 +1,6 @@
+ghost use Rattle.std.specs.Prelude.{◌≡◌, ◌↔◌, IsTrue};
+ghost use Rattle.cd_outside.specs.Keys.{holder_eq};
+
 use crate::Key;
 
 /// Who holds a key: an instance of a module, or an app, of one draft of a configuration.
@@ -9,6 +12,16 @@ pub struct Holder {
     pub app: bool,
     /// The place of the app or the instance in its draft, counted from 0.
     pub place: u32,
+}
+
+impl Holder {
+    /// Whether this is the holder: the same app or the same instance of the same draft.
+    pub fn same(&self, other: &Holder) -> bool
+        ensures value { result ≡ holder_eq self.now other.now }
+        ensures same { IsTrue result ↔ (self.now ≡ other.now) }
+    {
+        self.draft == other.draft && self.app == other.app && self.place == other.place
+    }
 }
 
 /// A key with one that holds it.

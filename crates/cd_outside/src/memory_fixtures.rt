@@ -1,10 +1,11 @@
-ghost use Rattle.std.specs.Prelude.{◌≡◌, ◌∷◌, ◌++◌, ◌⊎◌, [], true, false, is_some, Contains, IfOk, Some};
+ghost use Rattle.std.specs.Prelude.{◌≡◌, ◌∷◌, ◌⊎◌, [], true, false, is_some, IfOk, IfSome};
 ghost use Rattle.cd_outside.specs.declared.fixtures.FixtureCall.TheVariants as call;
 ghost use Rattle.cd_outside.specs.declared.fixtures.Opened.TheVariants as opened;
 ghost use Rattle.cd_outside.specs.Counts.{Rises};
-ghost use Rattle.cd_outside.specs.FixtureCall.{CallsGrow, opening_of};
+ghost use Rattle.cd_outside.specs.Keys.{has_key};
+ghost use Rattle.cd_outside.specs.FixtureCall.{CallsGrow, opening_of, open_keys, was_shut};
 ghost use Rattle.cd_outside.specs.Faults.{IsDue, Counted};
-ghost use Rattle.cd_outside.specs.FixtureRecord.{told, TakesOne};
+ghost use Rattle.cd_outside.specs.FixtureRecord.{told};
 
 use crate::fixture_record::FixtureRecord;
 use crate::{Faults, FixtureCall, Fixtures, Key, Opened};
@@ -12,7 +13,9 @@ use cd_text::{List, NoMemory};
 use std::alloc::Global;
 
 /// Fixtures in memory, which open nothing and record each call. An opening that finds no memory for its record fails and is
-/// counted, and from then on nothing is told. An opening takes the memory of its closing too, and `new` that of `shut`.
+/// counted, and from then on nothing is told. `new` takes the memory for a shutting, and an opening that for its closing, so
+/// that these take none. Neither does any other: after the closing of a key that is not open, or a second shutting, nothing is
+/// told any more.
 #[derive(Debug, Drop)]
 pub struct MemoryFixtures {
     /// The calls so far.
@@ -24,9 +27,7 @@ pub struct MemoryFixtures {
 impl MemoryFixtures {
     /// Fixtures of which nothing was asked yet, whose openings fail at these numbers, counted from 0.
     pub fn new(alloc: Global, failing: List<u64>) -> Result<MemoryFixtures, NoMemory>
-        ensures calls { IfOk result (λ made. told made.recorded ≡ Some []) }
-        ensures held { IfOk result (λ made. made.recorded.held ≡ []) }
-        ensures unshut { IfOk result (λ made. made.recorded.is_shut ≡ false) }
+        ensures calls { IfOk result (λ made. made.recorded ≡ record { calls = []; silent = false }) }
         ensures faults { IfOk result (λ made. made.faults ≡ record { failing = failing; calls = 0; count = 0 }) }
     {
         Ok(MemoryFixtures {
@@ -39,7 +40,7 @@ impl MemoryFixtures {
     pub fn calls(&self) -> &List<FixtureCall>
         ensures { result.now ≡ self.now.recorded.calls }
     {
-        &self.recorded.calls
+        self.recorded.calls()
     }
 
     /// How often it has failed.
@@ -60,13 +61,10 @@ impl Fixtures for MemoryFixtures {
         ensures tells { result ≡ opened.Ready → is_some (told self.old.recorded) ≡ true → is_some (told self.new.recorded) ≡ true }
         ensures cause { Rises self.old.faults.count self.new.faults.count (result ≡ opened.Failed) }
 
-        // where its number is none that fails, it fails for want of memory alone, and from then on nothing is told
+        // where its number is none that fails, it fails for want of memory alone, and nothing is told from that call on
         ensures fails { IsDue self.old.faults → result ≡ opened.Failed }
-        ensures only { result ≡ opened.Failed → IsDue self.old.faults ⊎ (self.new.recorded.silent ≡ true) }
+        ensures only { result ≡ opened.Failed → IsDue self.old.faults ⊎ ((self.old.recorded.silent ≡ false) × (self.new.recorded.silent ≡ true)) }
         ensures stays { self.new.recorded.silent ≡ true → self.new.recorded.calls ≡ self.old.recorded.calls }
-        ensures held { result ≡ opened.Ready → self.new.recorded.silent ≡ false → self.new.recorded.held ≡ self.old.recorded.held ++ key.now ∷ [] }
-        ensures unheld { IsDue self.old.faults → self.new.recorded.held ≡ self.old.recorded.held }
-        ensures shut { self.new.recorded.is_shut ≡ self.old.recorded.is_shut }
         ensures counted { Counted (result ≡ opened.Failed) self.old.faults self.new.faults }
     {
         if self.faults.fails() {
@@ -83,13 +81,11 @@ impl Fixtures for MemoryFixtures {
 
     fn close_key(&mut self, key: &Key)
         ensures calls { CallsGrow (told self.old.recorded) (call.Closed key.now ∷ []) (told self.new.recorded) }
+        ensures tells { IfSome (told self.old.recorded) (λ calls. has_key key.now (open_keys calls) ≡ true → is_some (told self.new.recorded) ≡ true) }
         ensures faults { self.new.faults.count ≡ self.old.faults.count }
 
-        // it has no number, and takes no memory where the key is open
-        ensures tells { Contains self.old.recorded.held key.now → self.new.recorded.silent ≡ self.old.recorded.silent }
+        // it has no number
         ensures stays { self.new.recorded.silent ≡ true → self.new.recorded.calls ≡ self.old.recorded.calls }
-        ensures held { self.new.recorded.silent ≡ false → TakesOne key.now self.old.recorded.held self.new.recorded.held }
-        ensures shut { self.new.recorded.is_shut ≡ self.old.recorded.is_shut }
         ensures counted { self.new.faults ≡ self.old.faults }
     {
         self.recorded.add_closed(key);
@@ -97,13 +93,11 @@ impl Fixtures for MemoryFixtures {
 
     fn shut(&mut self)
         ensures calls { CallsGrow (told self.old.recorded) (call.Shut ∷ []) (told self.new.recorded) }
+        ensures tells { IfSome (told self.old.recorded) (λ calls. was_shut calls ≡ false → is_some (told self.new.recorded) ≡ true) }
         ensures faults { self.new.faults.count ≡ self.old.faults.count }
 
-        // it has no number, and the first takes no memory
-        ensures tells { self.old.recorded.is_shut ≡ false → self.new.recorded.silent ≡ self.old.recorded.silent }
+        // it has no number
         ensures stays { self.new.recorded.silent ≡ true → self.new.recorded.calls ≡ self.old.recorded.calls }
-        ensures shuts { self.new.recorded.silent ≡ false → self.new.recorded.is_shut ≡ true }
-        ensures held { self.new.recorded.held ≡ self.old.recorded.held }
         ensures counted { self.new.faults ≡ self.old.faults }
     {
         self.recorded.add_shut();

@@ -115,9 +115,10 @@ impl Lane for MemoryLane {
         ensures past { Some self.new.past ≡ option_map (after_read result into.new) (Some self.old.past) }
         ensures cause { Rises self.old.faults.count self.new.faults.count (result ≡ taken.Failed) }
 
-        // where its number is none that fails, it fails for want of memory alone, and what it has read is then gone
+        // it gives what is left of the piece at hand, as far as there is room; where its number is none that fails, it fails
+        // for want of memory alone, and takes nothing either
         ensures fails { IsDue self.old.faults → result ≡ taken.Failed }
-        ensures kept { IsDue self.old.faults → self.new.current ≡ self.old.current }
+        ensures kept { result ≡ taken.Failed → self.new.current ≡ self.old.current }
         ensures draws { Draws result into.new self.old.current self.new.current }
         ensures ended { self.old.current ≡ Some [] → result ≡ taken.Failed → IsDue self.old.faults }
         ensures script { self.new.script ≡ self.old.script }
@@ -130,7 +131,7 @@ impl Lane for MemoryLane {
         let Some(pieces) = &mut self.current else {
             unreachable!();
         };
-        let count = pieces.read(into);
+        let count = pieces.fill(into);
         if count == 0 {
             mark_ended(self.alloc, &mut self.past);
             return Taken::End;
@@ -139,6 +140,7 @@ impl Lane for MemoryLane {
             self.faults.rise();
             return Taken::Failed;
         }
+        pieces.advance(count);
         Taken::Bytes(count)
     }
 

@@ -1,10 +1,11 @@
-ghost use Rattle.std.specs.Prelude.{◌≡◌, ◌<◌, ◌≤◌, ◌++◌, [], length, take, min};
-ghost use Rattle.cd_outside.specs.Pieces.{joined, left_of, piece_at};
+ghost use Rattle.std.specs.Prelude.{◌≡◌, ◌<◌, ◌≤◌, ◌+◌, ◌^◌, [], length, take, min};
+ghost use Rattle.cd_outside.specs.Pieces.{not_empty, first_piece, left_after};
+ghost use Rattle.cd_outside.specs.Places.{left_of, piece_at};
 
 use cd_text::{List, Octets};
 use std::marker::Model;
 
-/// Pieces that are read one after another. Contracts see the bytes that are left.
+/// Pieces that are read one after another. Contracts see those of which bytes are left: of the first what is left of it.
 #[derive(Debug, Drop)]
 pub struct Pieces {
     pieces: List<Octets>,
@@ -15,9 +16,9 @@ pub struct Pieces {
 
 impl Model for Pieces {
     ghost use Rattle.std.specs.Prelude.{List, ℕ, ◌≤◌, length};
-    ghost use Rattle.cd_outside.specs.Pieces.{left_of, piece_at};
+    ghost use Rattle.cd_outside.specs.Places.{left_of, piece_at};
 
-    ghost Value = { List ℕ };
+    ghost Value = { List (List ℕ) };
 
     ghost view = { λ p. left_of p.pieces p.next p.offset };
 
@@ -25,9 +26,9 @@ impl Model for Pieces {
 }
 
 impl Pieces {
-    /// Nothing was read yet.
+    /// Nothing was read yet. Empty pieces are passed over.
     pub fn new(pieces: List<Octets>) -> Pieces
-        ensures { result ≡ joined pieces }
+        ensures { result ≡ not_empty pieces }
     {
         Pieces {
             pieces,
@@ -36,21 +37,42 @@ impl Pieces {
         }
     }
 
-    /// Reads from the next piece that is not empty into the front of `into`, and says how many bytes that were. It is 0 only
-    /// at the end.
-    pub fn read(&mut self, into: &mut [u8]) -> usize
+    /// Copies what is left of the first piece into the front of `into`, as far as there is room, and says how many bytes that
+    /// are: 0 only at the end. It takes nothing.
+    pub fn fill(&mut self, into: &mut [u8]) -> usize
         requires { 0 < length into.old }
-        ensures bytes { self.old ≡ take result into.new ++ self.new }
-        ensures bound { result ≤ length into.new }
+        ensures count { result ≡ min (length (first_piece self.old)) (length into.new) }
+        ensures bytes { take result into.new ≡ take result (first_piece self.old) }
         ensures end { result ≡ 0 → self.old ≡ [] }
+        ensures left { self.new ≡ self.old }
     {
         skip(self.pieces.as_slice(), &mut self.next, &mut self.offset);
-        let Some(piece) = self.pieces.as_slice().get(self.next) else {
-            return 0;
-        };
-        let (_, left) = piece.as_slice().split_at(self.offset);
-        let count = copy_front(left, into);
+        let left = at_hand(self.pieces.as_slice(), self.next, self.offset);
+        copy_front(left, into)
+    }
+
+    /// Takes so many bytes of the first piece.
+    pub fn advance(&mut self, count: usize)
+        requires { count ≤ length (first_piece self.old) }
+        ensures { self.new ≡ left_after count self.old }
+    {
+        skip(self.pieces.as_slice(), &mut self.next, &mut self.offset);
+        let left = at_hand(self.pieces.as_slice(), self.next, self.offset);
+        prove!(count <= left.len());
         self.offset += count;
+    }
+
+    /// Reads what is left of the first piece into the front of `into`, as far as there is room, and says how many bytes that
+    /// were: 0 only at the end.
+    pub fn read(&mut self, into: &mut [u8]) -> usize
+        requires { 0 < length into.old }
+        ensures count { result ≡ min (length (first_piece self.old)) (length into.new) }
+        ensures bytes { take result into.new ≡ take result (first_piece self.old) }
+        ensures end { result ≡ 0 → self.old ≡ [] }
+        ensures left { self.new ≡ left_after result self.old }
+    {
+        let count = self.fill(into);
+        self.advance(count);
         count
     }
 }
@@ -70,6 +92,21 @@ fn skip(pieces: &[Octets], next: &mut usize, offset: &mut usize)
         *next += 1;
         *offset = 0;
     }
+}
+
+// What is left of the first piece of which something is left, where those before it were passed over.
+fn at_hand(pieces: &[Octets], next: usize, offset: usize) -> &[u8]
+    requires offset { offset ≤ length (piece_at pieces.now next) }
+    requires some { next < length pieces.now → offset < length (piece_at pieces.now next) }
+    ensures left { result.now ≡ first_piece (left_of pieces.now next offset) }
+    ensures bound { offset + length result.now < 2 ^ 64 }
+    ensures within { offset + length result.now ≤ length (piece_at pieces.now next) }
+{
+    let Some(piece) = pieces.get(next) else {
+        return &[];
+    };
+    let (_, left) = piece.as_slice().split_at(offset);
+    left
 }
 
 // Copies as many bytes as there are and there is room for.

@@ -4,9 +4,9 @@ use Rattle.std.proofs.Common.{eq-eqb}
 use Rattle.cd_outside.specs.declared.holder.Holder.{Holder}
 use Rattle.cd_outside.specs.Keys.{holder_eq, keys_of}
 use Rattle.cd_outside.proofs.KeyLemmas.{holder_eq-true}
-use Rattle.cd_pool.specs.Pairs.{Leased}
+use Rattle.cd_pool.specs.declared.lease.Leased.{Leased}
 use Rattle.cd_pool.specs.Pairs.{pairs, without, leases_of, GivesLast}
-use Rattle.cd_pool.specs.Rooms.{uses, times, AreNumbers}
+use Rattle.cd_pool.specs.Numbers.{uses, times, AreNumbers}
 
 -- a lease that is in no pair is in no holder's list
 absent : (h : Holder) (n : ℕ) (x : Leased) (xs : List Leased) (b d : Bool) → (x.number == n) ≡ b → (uses n xs ≡ 0 → (ns : List ℕ) → leases_of h xs ≡ ns ++ n ∷ [] → ⊥) → cond b (1 + uses n xs) (uses n xs) ≡ 0 → (ns : List ℕ) → cond d (x.number ∷ leases_of h xs) (leases_of h xs) ≡ ns ++ n ∷ [] → ⊥

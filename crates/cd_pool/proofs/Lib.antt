@@ -1,5 +1,3 @@
-pub mod KeyDigests
 pub mod Numbers
 pub mod Giving
 pub mod Named
-pub mod Shown

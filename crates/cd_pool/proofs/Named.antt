@@ -3,8 +3,9 @@ use Rattle.std.proofs.Common.{◌≡◌, ℕ, ◌+◌, ◌≤◌, ◌==◌, Bool
 use Rattle.std.specs.Option.{IsSome}
 use Rattle.std.proofs.lemmas.Bool.{eqb-true}
 use Rattle.cd_outside.specs.declared.holder.Pair.{Pair}
-use Rattle.cd_pool.specs.Pairs.{Leased, pair_at, without}
-use Rattle.cd_pool.specs.Rooms.{uses, times, AreNumbers}
+use Rattle.cd_pool.specs.declared.lease.Leased.{Leased}
+use Rattle.cd_pool.specs.Pairs.{pair_at, without}
+use Rattle.cd_pool.specs.Numbers.{uses, times, AreNumbers}
 use Rattle.cd_pool.proofs.Numbers.{no_pair, uses-without}
 use Rattle.cd_pool.proofs.Giving.{once}
 

@@ -1,12 +1,13 @@
 -- The numbers of leases after a take, a give and a reservation.
-use Rattle.std.proofs.Common.{◌≡◌, ℕ, zero, suc, ◌+◌, ◌-◌, ◌≤◌, ◌==◌, Bool, true, false, cond, List, [], ◌∷◌, ◌++◌, refl, sym, ap, ◌∙◌, arith, append_assoc, Some, None, nat_lt, subst}
+use Rattle.std.proofs.Common.{◌≡◌, ℕ, zero, suc, ◌+◌, ◌-◌, ◌≤◌, ◌==◌, Bool, true, false, cond, List, [], ◌∷◌, ◌++◌, refl, sym, ap, ◌∙◌, arith, append_assoc, Some, None, nat_lt, subst, take, drop}
+use Rattle.std.specs.List.{remove}
 use Rattle.std.specs.Option.{IsSome}
 use Rattle.std.proofs.lemmas.Bool.Decides.{nat_tests}
 use Rattle.std.proofs.lemmas.Bool.{eqb-true}
 use Rattle.std.proofs.lemmas.List.{append-nil}
-use Rattle.cd_pool.specs.Pairs.{Leased}
+use Rattle.cd_pool.specs.declared.lease.Leased.{Leased}
 use Rattle.cd_pool.specs.Pairs.{pair_at, without}
-use Rattle.cd_pool.specs.Rooms.{uses, times, AreNumbers, numbers_from}
+use Rattle.cd_pool.specs.Numbers.{uses, times, AreNumbers, numbers_from}
 
 -- one more of a sum is one more of its first part
 one_more : (b : Bool) (k m : ℕ) → cond b (1 + (k + m)) (k + m) ≡ cond b (1 + k) k + m
@@ -97,13 +98,20 @@ new_number held m free rest p popped numbers =
     let before : uses m held + (times m rest + times m (m ∷ [])) ≤ cond (nat_lt m p) 1 0 = subst (λ z. uses m held + z ≤ cond (nat_lt m p) 1 0) (ap (times m) popped ∙ times-append m rest (m ∷ [])) (numbers m) in
     no_pair m held (grind (arith, nat_tests))
 
--- the numbers up to one more
-pub one_further : (from number : ℕ) (ys zs : List ℕ) → from ≤ number → ys ≡ numbers_from from (number - from) → zs ≡ ys ++ number ∷ [] → zs ≡ numbers_from from (number + 1 - from)
-one_further from number ys zs le before added =
+-- one number further, behind others
+pub one_further : (from number : ℕ) (before ys zs : List ℕ) → from ≤ number → ys ≡ before ++ numbers_from from (number - from) → zs ≡ ys ++ number ∷ [] → zs ≡ before ++ numbers_from from (number + 1 - from)
+one_further from number before ys zs le so_far added =
     let next : number + 1 - from ≡ suc (number - from) = omega arith in
     let here : from + (number - from) ≡ number = omega arith in
-    rw (next, added, before, here) refl
+    rw (next, added, so_far, here) (append_assoc before (numbers_from from (number - from)) (number ∷ []))
 
 -- the same numbers, counted otherwise
-pub numbers_count : (xs : List ℕ) (p q k m : ℕ) → xs ≡ numbers_from p m → p ≡ q → m ≡ k → xs ≡ numbers_from q k
-numbers_count xs p q k m e same count = e ∙ (ap (λ z. numbers_from z m) same ∙ ap (λ z. numbers_from q z) count)
+pub same_numbers : (p q k m : ℕ) → p ≡ q → m ≡ k → numbers_from p m ≡ numbers_from q k
+same_numbers p q k m same count = ap (λ z. numbers_from z m) same ∙ ap (λ z. numbers_from q z) count
+
+-- what is left of the leases where the first with this number is taken out
+pub rest_at : (n at : ℕ) (held : List Leased) (h : Leased) → drop at held ≡ h ∷ drop (suc at) held → (h.number == n) ≡ true
+    → without n held ≡ take at held ++ without n (drop at held) → remove held at ≡ without n held
+rest_at n at held h there hit before =
+    let here : without n (drop at held) ≡ drop (suc at) held = ap (without n) there ∙ ap (λ b. cond b (drop (suc at) held) (h ∷ without n (drop (suc at) held))) hit in
+    sym (before ∙ ap (λ z. take at held ++ z) here)

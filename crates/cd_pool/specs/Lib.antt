@@ -1,3 +1,2 @@
 pub mod Pairs
-pub mod Digests
-pub mod Rooms
+pub mod Numbers

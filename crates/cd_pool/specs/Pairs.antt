@@ -3,12 +3,8 @@ use Rattle.std.specs.Prelude.{◌≡◌, ℕ, ◌==◌, false, cond, List, [], �
 use Rattle.cd_outside.specs.declared.key.Key.{Key}
 use Rattle.cd_outside.specs.declared.holder.Holder.{Holder}
 use Rattle.cd_outside.specs.declared.holder.Pair.{Pair}
+use Rattle.cd_pool.specs.declared.lease.Leased.{Leased}
 use Rattle.cd_outside.specs.Keys.{holder_eq, keys_of, without_holder}
-
--- a pair with the number of its lease
-pub record Leased : Type 0 where
-  pub number : ℕ
-  pub pair : Pair
 
 -- the pairs in the order in which they were taken, and for how many more there is room
 pub record Holdings : Type 0 where

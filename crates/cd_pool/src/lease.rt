@@ -1,4 +1,4 @@
-use cd_outside::Key;
+use cd_outside::{Key, Pair};
 use std::marker::Model;
 
 /// Names one pair of a pool. Contracts see its number. It must be given back.
@@ -12,6 +12,13 @@ impl Model for Lease {
     ghost Value = { ℕ };
 
     ghost view = { λ lease. lease.number };
+}
+
+/// A pair with the number of its lease.
+#[derive(Drop)]
+pub struct Leased {
+    pub number: usize,
+    pub pair: Pair,
 }
 
 /// Whether a key that was taken had a pair before.

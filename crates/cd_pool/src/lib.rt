@@ -6,13 +6,11 @@
 //!
 //! Contracts see a pool as its pairs of a key and a holder, in the order in which they were taken, each with the number of
 //! its lease, beside how many pairs more there is room for (specs/Pairs.antt). `reserve` takes all memory: `take` and `give`
-//! take none, so nothing can be refused while a configuration is put down. Opening and closing is left to the caller.
+//! take none, so nothing can be refused while a configuration is shut down. Opening and closing is left to the caller.
 #![tactic(auto)]
 
-mod digest;
 mod lease;
 mod pool;
-mod room;
 
 pub use lease::{Gave, Lease, Took};
 pub use pool::Pool;

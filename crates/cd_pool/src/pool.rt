@@ -1,18 +1,15 @@
-ghost use Rattle.std.specs.Prelude.{◌≡◌, ◌≢◌, ◌<◌, ◌≤◌, ◌+◌, ◌-◌, ◌++◌, ◌∷◌, ◌↔◌, [], ℕ, List, cond, get_or, length, map, max, suc, take, drop, Some, None, IsSome, IfSome, IsTrue, is_some, IfOk, OnOk, OnErr};
+ghost use Rattle.std.specs.Prelude.{◌≡◌, ◌≢◌, ◌<◌, ◌≤◌, ◌+◌, ◌-◌, ◌++◌, ◌∷◌, ◌↔◌, [], ℕ, List, cond, get_or, max, length, remove, Some, None, IsSome, IfSome, IsTrue, is_some, OnOk, OnErr};
 ghost use Rattle.std.specs.Vec.{vec_len, vec_capacity};
 ghost use Rattle.cd_outside.specs.declared.holder.Holder.{Holder};
 ghost use Rattle.cd_outside.specs.Keys.{key_count, keys_in, has_key};
 ghost use Rattle.cd_pool.specs.declared.lease.Took.TheVariants as took;
 ghost use Rattle.cd_pool.specs.declared.lease.Gave.TheVariants as gave;
-ghost use Rattle.cd_pool.specs.Digests.{digest_of};
 ghost use Rattle.cd_pool.specs.Pairs.{pairs, pair_at, without, leases_of, GivesLast};
-ghost use Rattle.cd_pool.specs.Rooms.{leased, numbers_from};
+ghost use Rattle.cd_pool.specs.Numbers.{numbers_from};
 
-use crate::digest::digest_of;
-use crate::lease::{Gave, Lease, Took};
-use crate::room::Room;
-use cd_outside::{Holder, Key};
-use cd_text::{NoMemory, place};
+use crate::lease::{Gave, Lease, Leased, Took};
+use cd_outside::{Holder, Key, Pair};
+use cd_text::NoMemory;
 use std::alloc::Global;
 use std::marker::Model;
 
@@ -20,100 +17,83 @@ use std::marker::Model;
 ///
 /// A pool is not dropped but ended, once it has no pair, so that no key is forgotten that should be closed.
 pub struct Pool {
-    pub(crate) held: Vec<Room>,
-    // rooms for the pairs to come
-    pub(crate) free: Vec<Room>,
-    pub(crate) alloc: Global,
+    pub(crate) held: Vec<Leased>,
+    // the numbers of the leases to come; for each there is room among those that are held, and for all numbers here
+    pub(crate) free: Vec<usize>,
 }
 
 impl Model for Pool {
-    ghost use Rattle.std.specs.Prelude.{◌≤◌, ◌+◌, length, map};
+    ghost use Rattle.std.specs.Prelude.{◌≤◌, ◌+◌, length};
     ghost use Rattle.std.specs.Vec.{vec_len, vec_capacity};
     ghost use Rattle.cd_pool.specs.Pairs.{Holdings};
-    ghost use Rattle.cd_pool.specs.Rooms.{leased, AreNumbered};
+    ghost use Rattle.cd_pool.specs.Numbers.{AreNumbers};
 
     ghost Value = { Holdings };
 
-    ghost view = { λ pool. record { held = map leased pool.held.items; spare = length pool.free.items } };
+    ghost view = { λ pool. record { held = pool.held.items; spare = length pool.free.items } };
 
-    ghost invariant = { λ pool. AreNumbered pool.held.items pool.free.items (vec_len pool.held + vec_len pool.free) × ((vec_len pool.held + vec_len pool.free ≤ vec_capacity pool.held) × (vec_len pool.held + vec_len pool.free ≤ vec_capacity pool.free)) };
+    ghost invariant = { λ pool. AreNumbers pool.held.items pool.free.items (vec_len pool.held + vec_len pool.free) × ((vec_len pool.held + vec_len pool.free ≤ vec_capacity pool.held) × (vec_len pool.held + vec_len pool.free ≤ vec_capacity pool.free)) };
 }
 
-fn place_of(held: &[Room], number: usize) -> usize
-    requires { IsSome (pair_at number (map leased held.now)) }
+fn place_of(held: &[Leased], number: usize) -> usize
+    requires { IsSome (pair_at number held.now) }
     ensures within { result < length held.now }
     ensures number { (d : _) → (get_or held.now result d).number ≡ number }
-    ensures pair { (d : _) → pair_at number (map leased held.now) ≡ Some (get_or held.now result d).pair.value }
-    ensures rest { map leased (take result held.now) ++ map leased (drop (suc result) held.now) ≡ without number (map leased held.now) }
+    ensures pair { (d : _) → pair_at number held.now ≡ Some (get_or held.now result d).pair }
+    ensures rest { remove held.now result ≡ without number held.now }
 {
-    for (at, room) in held.iter().enumerate() {
-        if room.number == number {
+    for (at, leased) in held.iter().enumerate() {
+        if leased.number == number {
             return at;
         }
     }
     unreachable!()
 }
 
-fn is_held(held: &[Room], key: &Key, digest: u64) -> bool
-    requires { digest ≡ digest_of key.now }
-    ensures { result ≡ has_key key.now (keys_in (pairs (map leased held.now))) }
+fn is_held(held: &[Leased], key: &Key) -> bool
+    ensures { result ≡ has_key key.now (keys_in (pairs held.now)) }
 {
-    for room in held {
-        if room.has(key, digest) {
+    for leased in held {
+        if key.same(&leased.pair.key) {
             return true;
         }
     }
     false
 }
 
-fn is_named(held: &[Room], number: usize) -> bool
-    ensures { result ≡ is_some (pair_at number (map leased held.now)) }
+fn is_named(held: &[Leased], number: usize) -> bool
+    ensures { result ≡ is_some (pair_at number held.now) }
 {
-    for room in held {
-        if room.number == number {
+    for leased in held {
+        if leased.number == number {
             return true;
         }
     }
     false
 }
 
-fn count_in(held: &[Room], key: &Key, digest: u64) -> u64
-    requires { digest ≡ digest_of key.now }
-    ensures { result ≡ key_count key.now (pairs (map leased held.now)) }
+fn count_in(held: &[Leased], key: &Key) -> u64
+    ensures { result ≡ key_count key.now (pairs held.now) }
 {
     let mut count = 0;
-    for room in held {
-        if room.has(key, digest) {
+    for leased in held {
+        if key.same(&leased.pair.key) {
             count += 1;
         }
     }
     count
 }
 
-// Rooms for the leases of these numbers.
-fn rooms_for(alloc: Global, from: usize, to: usize) -> Result<Vec<Room>, NoMemory>
-    requires { from ≤ to }
-    ensures numbers { IfOk result (λ rooms. map (λ room. room.number) rooms.items ≡ numbers_from from (to - from)) }
-    ensures len { IfOk result (λ rooms. vec_len rooms ≡ to - from) }
+// Adds the numbers in a row, for which there is room.
+fn add_numbers(free: &mut Vec<usize>, from: usize, to: usize)
+    requires order { from ≤ to }
+    requires room { vec_len free.old + (to - from) ≤ vec_capacity free.old }
+    ensures items { free.new.items ≡ free.old.items ++ numbers_from from (to - from) }
+    ensures len { vec_len free.new ≡ vec_len free.old + (to - from) }
+    ensures capacity { vec_capacity free.new ≡ vec_capacity free.old }
 {
-    let mut rooms = Vec::new(alloc);
     for number in from..to {
-        rooms.push(Room::new(alloc, number)?)?;
-    }
-    Ok(rooms)
-}
-
-// Moves rooms where there is place for them.
-fn place_all(free: &mut Vec<Room>, rooms: Vec<Room>)
-    requires { vec_len free.old + vec_len rooms ≤ vec_capacity free.old }
-    ensures items { free.new.items ≡ free.old.items ++ rooms.items }
-    ensures len { vec_len free.new ≡ vec_len free.old + vec_len rooms }
-    ensures capacity { vec_capacity free.old ≤ vec_capacity free.new }
-{
-    let mut rooms = rooms;
-    match free.append(&mut rooms) {
-        Ok(()) => {}
-        Err(_) => unreachable!(),
+        free.push_reserved(number);
     }
 }
 
@@ -125,7 +105,6 @@ impl Pool {
         Pool {
             held: Vec::new(alloc),
             free: Vec::new(alloc),
-            alloc,
         }
     }
 
@@ -133,11 +112,7 @@ impl Pool {
     pub fn end(self)
         requires { self.held ≡ [] }
     {
-        let Pool {
-            held,
-            free,
-            alloc: _,
-        } = self;
+        let Pool { held, free } = self;
         drop(held);
         drop(free);
     }
@@ -169,10 +144,9 @@ impl Pool {
         }
         let places = self.held.len() + spare;
         let missing = count - spare;
-        let rooms = rooms_for(self.alloc, places, places + missing)?;
         self.held.reserve(count)?;
         self.free.reserve(self.held.len() + missing)?;
-        place_all(&mut self.free, rooms);
+        add_numbers(&mut self.free, places, places + missing);
         Ok(())
     }
 
@@ -186,17 +160,16 @@ impl Pool {
         ensures others { (n : ℕ) → n ≢ result.0 → pair_at n self.new.held ≡ pair_at n self.old.held }
         ensures took { result.1 ≡ cond (has_key key (keys_in (pairs self.old.held))) took.Shared took.First }
     {
-        let digest = digest_of(&key);
-        let took = if is_held(self.held.as_slice(), &key, digest) {
+        let took = if is_held(self.held.as_slice(), &key) {
             Took::Shared
         } else {
             Took::First
         };
-        let Some(room) = self.free.pop() else {
+        let Some(number) = self.free.pop() else {
             unreachable!()
         };
-        let number = room.number;
-        place(&mut self.held, room.filled(key, holder, digest));
+        let pair = Pair { key, holder };
+        self.held.push_reserved(Leased { number, pair });
         (Lease { number }, took)
     }
 
@@ -212,11 +185,10 @@ impl Pool {
     {
         let Lease { number } = lease;
         let at = place_of(self.held.as_slice(), number);
-        let room = self.held.remove(at);
-        let digest = room.digest;
-        let (key, room) = room.cleared(self.alloc);
-        place(&mut self.free, room);
-        if is_held(self.held.as_slice(), &key, digest) {
+        let leased = self.held.remove(at);
+        let key = leased.pair.key;
+        self.free.push_reserved(number);
+        if is_held(self.held.as_slice(), &key) {
             Gave::Still
         } else {
             Gave::Last(key)
@@ -234,13 +206,13 @@ impl Pool {
     pub fn has(&self, key: &Key) -> bool
         ensures { result ≡ has_key key.now (keys_in (pairs self.now.held)) }
     {
-        is_held(self.held.as_slice(), key, digest_of(key))
+        is_held(self.held.as_slice(), key)
     }
 
     /// How many pairs have the key.
     pub fn count(&self, key: &Key) -> u64
         ensures { result ≡ key_count key.now (pairs self.now.held) }
     {
-        count_in(self.held.as_slice(), key, digest_of(key))
+        count_in(self.held.as_slice(), key)
     }
 }

@@ -72,9 +72,9 @@ no_server (Ok value) = Ok value
 no_server (Err (load.Refused fault)) = Err (Settings fault)
 no_server (Err load.NoMemory) = Err NoMemory
 
--- the server that stands there
+-- the server that stands there, which knows its name
 unfoldable pub server_at : List ℕ × Tree → Result Server Refusal
-server_at place = no_server (server place.1 (server_path place.0))
+server_at place = no_server (server place.0 place.1 (server_path place.0))
 
 -- the server of the configuration of these bytes, or why they are refused
 unfoldable pub site_in : List ℕ → Result Server Refusal

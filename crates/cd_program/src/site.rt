@@ -5,7 +5,7 @@ ghost use Rattle.cd_text.specs.Gives.{Gives};
 ghost use Rattle.cd_program.specs.Site.{members_of, single, alone, server_place, server_path, server_at, site_in};
 
 use crate::refusal::Refusal;
-use cd_module::{LoadFault, Settings, is_a_setting};
+use cd_module::{LoadFault, Named, is_a_setting};
 use cd_routes::Server;
 use cd_text::{NoMemory, Text};
 use cd_tree::{Member, Path, Tree, TreeFault, read};
@@ -73,7 +73,7 @@ fn server_at(alloc: Global, name: &Text, tree: &Tree) -> Result<Server, Refusal>
     ensures { Gives Refusal.NoMemory result (server_at (name.now, tree.now)) }
 {
     let at = server_path(alloc, name.as_str())?;
-    match Server::read(alloc, tree, &at) {
+    match Server::read_named(alloc, name, tree, &at) {
         Ok(server) => Ok(server),
         Err(LoadFault::Refused(fault)) => Err(Refusal::Settings(fault)),
         Err(LoadFault::NoMemory) => Err(Refusal::NoMemory),

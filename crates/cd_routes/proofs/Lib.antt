@@ -1,3 +1,7 @@
 pub mod Equations
 pub mod Pushes
 pub mod Routes
+pub mod Servers
+pub mod Rising
+pub mod Catches
+pub mod NameKept

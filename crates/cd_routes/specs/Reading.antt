@@ -7,6 +7,7 @@ use Rattle.cd_module.specs.Settings.{Reader, text, truth, list_of, members, opti
 use Rattle.cd_match.specs.Matchers.{route_sets}
 use Rattle.cd_match.specs.declared.sets.Sets.{Sets}
 use Rattle.cd_handlers.specs.Handlers.{handler}
+use Rattle.cd_routes.specs.Names.{subroute_name}
 use Rattle.cd_routes.specs.declared.route.Route.{Route, roll-Route}
 use Rattle.cd_routes.specs.declared.route.Subroute.{Subroute, roll-Subroute}
 use Rattle.cd_routes.specs.declared.route.Step.{Step}
@@ -33,7 +34,7 @@ subroute inner t at =
 unfoldable pub step : Reader (List Route) → Reader Step
 step inner t at =
     name_of (codes "handler") t at ▷ λ name.
-    if bytes_eq name (codes "subroute") then (subroute inner t at ▷ λ s. Ok (kind.Subroute s))
+    if bytes_eq name subroute_name then (subroute inner t at ▷ λ s. Ok (kind.Subroute s))
     else (handler t at ▷ λ h. Ok (kind.Handler h))
 
 -- what a route without `match` has

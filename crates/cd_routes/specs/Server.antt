@@ -1,29 +1,93 @@
--- A server in a configuration, and the first fault there.
-use Rattle.std.specs.Prelude.{ℕ, List, [], ◌∷◌, codes, unwrap_or, Result, Ok, Err}
+-- A server in a configuration, and the first fault there (Caddy, JSON Config Structure, http.servers).
+use Rattle.std.specs.Prelude.{ℕ, ◌&&◌, Bool, true, List, [], ◌∷◌, map, codes, unwrap_or, Result, Ok, Err}
+use Rattle.std.specs.List.{flat_map, list_all}
 use Rattle.cd_text.specs.Steps.{◌▷◌}
+use Rattle.cd_tree.specs.Tree.{is_below}
 use Rattle.cd_tree.specs.declared.path.Path.{Path}
+use Rattle.cd_tree.specs.declared.tree.Member.{Member}
+use Rattle.cd_outside.specs.declared.address.Address.{Address}
+use Rattle.cd_addr.specs.Addresses.{addresses}
+use Rattle.cd_addr.specs.declared.fault.AddrFault.{AddrFault}
+use Rattle.cd_addr.specs.declared.fault.AddrFault.TheVariants as address
 use Rattle.cd_module.specs.Faults.{refused}
-use Rattle.cd_module.specs.Settings.{Reader, text, list_of, members, needed, optional}
+use Rattle.cd_module.specs.Settings.{Reader, text, truth, number_or_text, unread_list, unread_object, list_of, members, needed, optional}
 use Rattle.cd_module.specs.declared.fault.LoadFault.{LoadFault}
-use Rattle.cd_module.specs.declared.fault.LoadKind.TheVariants.{Missing}
+use Rattle.cd_module.specs.declared.fault.LoadFault.TheVariants.{NoMemory}
+use Rattle.cd_module.specs.declared.fault.LoadKind.TheVariants.{Missing, BadAddress}
 use Rattle.cd_routes.specs.Reading.{routes, error_routes}
 use Rattle.cd_routes.specs.declared.listen.Listen.{Listen}
+use Rattle.cd_routes.specs.declared.listen.ListenText.{ListenText}
 use Rattle.cd_routes.specs.declared.server.Server.{Server}
 
--- there is one address at least
-abbrev pub some_address : List (List ℕ) → Path → Result Listen LoadFault
-some_address [] at = Err (refused Missing at)
-some_address (first ∷ others) at = Ok (record { texts = first ∷ others })
+-- ---- what it listens on
 
--- the addresses that a server listens on
+-- a text that names no addresses
+abbrev pub no_address : AddrFault → Path → LoadFault
+no_address address.BadNetwork at = refused BadAddress at
+no_address address.BadPort at = refused BadAddress at
+no_address address.BadRange at = refused BadAddress at
+no_address address.NoMemory at = NoMemory
+
+-- the addresses, with the place of their text
+abbrev pub placed : Result (List Address) AddrFault → Path → Result ListenText LoadFault
+placed (Ok found) at = Ok (record { addresses = found; at = at })
+placed (Err fault) at = Err (no_address fault at)
+
+-- an element of `listen`
+unfoldable pub listen_text : Reader ListenText
+listen_text t at = text t at ▷ λ written. placed (addresses written) at
+
+-- there is one text at least
+abbrev pub some_text : List ListenText → Path → Result Listen LoadFault
+some_text [] at = Err (refused Missing at)
+some_text (first ∷ others) at = Ok (record { texts = first ∷ others })
+
+-- what a server listens on: element by element
 unfoldable pub listen : Reader Listen
-listen t at = list_of text t at ▷ λ texts. some_address texts at
+listen t at = list_of listen_text t at ▷ λ texts. some_text texts at
 
--- a server
-unfoldable pub server : Reader Server
-server t at =
-    members (codes "listen routes errors") t at ▷ λ ms.
+-- all its addresses, in order
+abbrev pub listened : Listen → List Address
+listened l = flat_map (λ text. text.addresses) l.texts
+
+-- ---- the members without an effect, which are of their kind
+
+unfoldable pub timeouts : List Member → Path → Result (Unit {0}) LoadFault
+timeouts ms at =
+    optional number_or_text (codes "read_timeout") ms at ▷ λ _.
+    optional number_or_text (codes "read_header_timeout") ms at ▷ λ _.
+    optional number_or_text (codes "write_timeout") ms at ▷ λ _.
+    optional number_or_text (codes "idle_timeout") ms at ▷ λ _.
+    optional number_or_text (codes "keepalive_interval") ms at ▷ λ _.
+    optional number_or_text (codes "max_header_bytes") ms at ▷ λ _.
+    Ok tt
+
+unfoldable pub protocols : List Member → Path → Result (Unit {0}) LoadFault
+protocols ms at =
+    optional unread_object (codes "automatic_https") ms at ▷ λ _.
+    optional unread_list (codes "protocols") ms at ▷ λ _.
+    optional truth (codes "strict_sni_host") ms at ▷ λ _.
+    Ok tt
+
+-- ---- the whole
+
+-- a server of that name
+unfoldable pub server : List ℕ → Reader Server
+server name t at =
+    members (codes "listen routes errors read_timeout read_header_timeout write_timeout idle_timeout keepalive_interval max_header_bytes automatic_https protocols strict_sni_host") t at ▷ λ ms.
     needed listen (codes "listen") ms at ▷ λ addresses.
     optional routes (codes "routes") ms at ▷ λ found.
     optional (error_routes routes) (codes "errors") ms at ▷ λ errors.
-    Ok (record { listen = addresses; routes = unwrap_or found []; errors = errors })
+    timeouts ms at ▷ λ _.
+    protocols ms at ▷ λ _.
+    Ok (record { name = name; listen = addresses; routes = unwrap_or found []; errors = errors })
+
+-- ---- names
+
+abbrev pub names_of : List Server → List (List ℕ)
+names_of servers = map (λ s. s.name) servers
+
+-- each name is below those after it
+abbrev pub names_rise : List (List ℕ) → Bool
+names_rise [] = true
+names_rise (name ∷ names) = list_all (is_below name) names && names_rise names

@@ -1,15 +1,21 @@
-ghost use Rattle.std.specs.Prelude.{◌≡◌, ◌&&◌, not, if◌then◌else◌, map, option_map};
-ghost use Rattle.cd_module.specs.Settings.{list_of};
+ghost use Rattle.std.specs.Prelude.{◌≡◌, ◌&&◌, not, ◌≤◌, codes, length, Ok, IsTrue, List, if◌then◌else◌, map, option_map};
+ghost use Rattle.cd_module.specs.Settings.{list_of, name_of, object_of};
 ghost use Rattle.cd_fill.specs.declared.scene.Scene.{Scene};
 ghost use Rattle.cd_match.specs.Holds.{holds};
-ghost use Rattle.cd_routes.specs.Reading.{routes, route};
+ghost use Rattle.cd_routes.specs.Names.{step_name};
+ghost use Rattle.cd_routes.specs.Reading.{routes, route, step};
 ghost use Rattle.cd_routes.specs.Running.{Rest, nothing_left, handled, caught, is_taken, with_group, run_route, run_routes, run_step, run_steps};
+ghost use Rattle.cd_routes.specs.Server.{server, listened, names_of, names_rise};
+ghost use Rattle.cd_routes.specs.declared.server.Server.{Server};
+ghost use Rattle.cd_tree.specs.Tree.{IsSound};
 ghost use Rattle.cd_routes.specs.declared.route.Route.{out-Route};
-ghost use Rattle.cd_routes.specs.declared.route.Step.TheVariants as step;
+ghost use Rattle.cd_routes.specs.declared.route.Step.{Step};
+ghost use Rattle.cd_routes.specs.declared.route.Step.TheVariants as kind;
 ghost use Rattle.cd_routes.specs.declared.route.Subroute.{out-Subroute};
 
 use crate::route::{Route, Subroute};
 use cd_handlers::Handler;
+use cd_text::Text;
 use cd_tree::{Path, Tree};
 
 /// A list of routes is read route by route, and the routes of a subroute are read as all routes are.
@@ -33,11 +39,37 @@ pub fn a_route_does(this: &Route)
 
 /// What a step does to what follows it: a handler its effect, and a subroute its routes, whose errors catch what follows too.
 pub fn a_step_does(handler: &Handler, subroute: &Subroute)
-    ensures handler { (rest : Rest) → (x : Scene) → run_step (step.Handler handler.now) rest x ≡ handled handler.now rest x }
-    ensures subroute { (rest : Rest) → (x : Scene) → run_step (step.Subroute subroute.now) rest x
+    ensures handler { (rest : Rest) → (x : Scene) → run_step (kind.Handler handler.now) rest x ≡ handled handler.now rest x }
+    ensures subroute { (rest : Rest) → (x : Scene) → run_step (kind.Subroute subroute.now) rest x
         ≡ caught (option_map (map run_route) (out-Subroute subroute.now).errors) rest
         (run_routes (out-Subroute subroute.now).routes rest x) }
 {
     let _ = handler;
     let _ = subroute;
+}
+
+/// The name of a handler or a subroute that was read is the text of its `handler`.
+pub fn steps_have_their_names(tree: &Tree, at: &Path)
+    ensures { (read : Step) → step routes tree.now at.now ≡ Ok read → name_of (codes "handler") tree.now at.now ≡ Ok (step_name read) }
+{
+    let _ = tree;
+    let _ = at;
+}
+
+/// A server that was read has the name that it was read under, and listens on one address at least.
+pub fn servers_are_named_and_listen(name: &Text, tree: &Tree, at: &Path)
+    ensures named { (read : Server) → server name.now tree.now at.now ≡ Ok read → read.name ≡ name.now }
+    ensures listens { (read : Server) → server name.now tree.now at.now ≡ Ok read → 1 ≤ length (listened read.listen) }
+{
+    let _ = name;
+    let _ = tree;
+    let _ = at;
+}
+
+/// The names of servers that were read of an object rise, as the keys of each tree that was read do.
+pub fn names_of_servers_rise(tree: &Tree, at: &Path)
+    ensures { (read : List Server) → IsSound tree.now → object_of server tree.now at.now ≡ Ok read → IsTrue (names_rise (names_of read)) }
+{
+    let _ = tree;
+    let _ = at;
 }

@@ -1,14 +1,45 @@
-ghost use Rattle.cd_routes.specs.Server.{listen};
+//! What a server listens on.
+ghost use Rattle.cd_routes.specs.Server.{listen, listen_text};
 
+use cd_addr::{AddrFault, read};
 use cd_module::{LoadFault, LoadKind, Settings};
+use cd_outside::Address;
 use cd_text::{List, Text};
 use cd_tree::{Path, Tree};
 use std::alloc::Global;
 
-/// The addresses that a server listens on, as they stand in the configuration. There is one at least.
+/// The addresses that a text of `listen` names. There is one at least.
+#[derive(Debug, Drop)]
+pub struct ListenText {
+    /// One for each port of the text, by rising port.
+    pub addresses: List<Address>,
+    /// Where the text is in the configuration.
+    pub at: Path,
+}
+
+/// What a server listens on, text by text as in its `listen`. There is one at least.
 #[derive(Debug, Drop)]
 pub struct Listen {
-    pub texts: List<Text>,
+    pub texts: List<ListenText>,
+}
+
+impl Settings for ListenText {
+    ghost reader = { listen_text };
+
+    #[tactic(auto, unfolding(crate::specs::Server::listen_text))]
+    fn read(alloc: Global, tree: &Tree, at: &Path) -> Result<ListenText, LoadFault> {
+        let text = Text::read(alloc, tree, at)?;
+        match read(alloc, &text) {
+            Ok(addresses) => Ok(ListenText {
+                addresses,
+                at: at.copy(alloc)?,
+            }),
+            Err(AddrFault::NoMemory) => Err(LoadFault::NoMemory),
+            Err(AddrFault::BadNetwork | AddrFault::BadPort | AddrFault::BadRange) => {
+                Err(LoadFault::at(alloc, LoadKind::BadAddress, at))
+            }
+        }
+    }
 }
 
 impl Settings for Listen {
@@ -16,7 +47,7 @@ impl Settings for Listen {
 
     #[tactic(auto, unfolding(crate::specs::Server::listen))]
     fn read(alloc: Global, tree: &Tree, at: &Path) -> Result<Listen, LoadFault> {
-        let texts = List::<Text>::read(alloc, tree, at)?;
+        let texts = List::<ListenText>::read(alloc, tree, at)?;
         if texts.is_empty() {
             return Err(LoadFault::at(alloc, LoadKind::Missing, at));
         }

@@ -3,6 +3,7 @@ ghost use Rattle.cd_text.specs.Gives.{Gives};
 ghost use Rattle.cd_module.specs.Settings.{each, list_of, optional as optional_of};
 ghost use Rattle.cd_routes.specs.Reading.{routes, route, step, error_routes, subroute, no_sets};
 
+use crate::naming::subroute_name;
 use crate::route::{Route, Step, Subroute};
 use cd_handlers::Handler;
 use cd_match::Sets;
@@ -112,7 +113,7 @@ fn read_step(alloc: Global, tree: &Tree, at: &Path) -> Result<Step, LoadFault>
     ensures { Gives LoadFault.NoMemory result (step routes tree.now at.now) }
 {
     let name = name_of(alloc, tree, at, "handler")?;
-    if name.equals("subroute") {
+    if name.equals(subroute_name()) {
         Ok(Step::Subroute(read_subroute(alloc, tree, at)?))
     } else {
         Ok(Step::Handler(Handler::read(alloc, tree, at)?))
@@ -175,4 +176,28 @@ fn read_errors(alloc: Global, tree: &Tree, at: &Path) -> Result<List<Route>, Loa
     let fields = fields_of(alloc, tree, at, "routes")?;
     let routes = read_routes_member(alloc, &fields, at, "routes")?;
     Ok(routes.unwrap_or(List::new(alloc)))
+}
+
+impl Settings for Route {
+    ghost reader = { route routes };
+
+    fn read(alloc: Global, tree: &Tree, at: &Path) -> Result<Route, LoadFault> {
+        read_route(alloc, tree, at)
+    }
+}
+
+impl Settings for Step {
+    ghost reader = { step routes };
+
+    fn read(alloc: Global, tree: &Tree, at: &Path) -> Result<Step, LoadFault> {
+        read_step(alloc, tree, at)
+    }
+}
+
+impl Settings for Subroute {
+    ghost reader = { subroute routes };
+
+    fn read(alloc: Global, tree: &Tree, at: &Path) -> Result<Subroute, LoadFault> {
+        read_subroute(alloc, tree, at)
+    }
 }

@@ -1,32 +1,71 @@
-ghost use Rattle.cd_routes.specs.Server.{server};
+ghost use Rattle.cd_text.specs.Gives.{Gives};
+ghost use Rattle.cd_module.specs.declared.fault.LoadFault.{LoadFault};
+ghost use Rattle.cd_routes.specs.Server.{server, timeouts, protocols};
 
 use crate::listen::Listen;
 use crate::reading::{read_errors_member, read_routes_member};
 use crate::route::Route;
-use cd_module::{LoadFault, Settings, fields_of, needed};
-use cd_text::List;
-use cd_tree::{Path, Tree};
+use cd_module::{
+    LoadFault, Named, NumberOrText, UnreadList, UnreadObject, fields_of, needed, optional,
+};
+use cd_text::{List, Text};
+use cd_tree::{Fields, Path, Tree};
 use std::alloc::Global;
 
 /// The settings of a server (Caddy, JSON Config Structure, `http.servers`).
 #[derive(Debug, Drop)]
 pub struct Server {
+    /// Its name among the servers.
+    pub name: Text,
     pub listen: Listen,
     pub routes: List<Route>,
     /// What is done where the routes fail.
     pub errors: Option<List<Route>>,
 }
 
-impl Settings for Server {
-    ghost reader = { server };
+// Times and sizes, which have no effect so far.
+#[tactic(auto, unfolding(crate::specs::Server::timeouts))]
+fn read_timeouts(alloc: Global, fields: &Fields<'_>, at: &Path) -> Result<(), LoadFault>
+    ensures { Gives LoadFault.NoMemory result (timeouts fields.now.members.now at.now) }
+{
+    let _ = optional::<NumberOrText>(alloc, fields, at, "read_timeout")?;
+    let _ = optional::<NumberOrText>(alloc, fields, at, "read_header_timeout")?;
+    let _ = optional::<NumberOrText>(alloc, fields, at, "write_timeout")?;
+    let _ = optional::<NumberOrText>(alloc, fields, at, "idle_timeout")?;
+    let _ = optional::<NumberOrText>(alloc, fields, at, "keepalive_interval")?;
+    let _ = optional::<NumberOrText>(alloc, fields, at, "max_header_bytes")?;
+    Ok(())
+}
+
+// What concerns TLS and the versions of HTTP, which has no effect so far.
+#[tactic(auto, unfolding(crate::specs::Server::protocols))]
+fn read_protocols(alloc: Global, fields: &Fields<'_>, at: &Path) -> Result<(), LoadFault>
+    ensures { Gives LoadFault.NoMemory result (protocols fields.now.members.now at.now) }
+{
+    let _ = optional::<UnreadObject>(alloc, fields, at, "automatic_https")?;
+    let _ = optional::<UnreadList>(alloc, fields, at, "protocols")?;
+    let _ = optional::<bool>(alloc, fields, at, "strict_sni_host")?;
+    Ok(())
+}
+
+impl Named for Server {
+    ghost named = { server };
 
     #[tactic(auto, unfolding(crate::specs::Server::server))]
-    fn read(alloc: Global, tree: &Tree, at: &Path) -> Result<Server, LoadFault> {
-        let fields = fields_of(alloc, tree, at, "listen routes errors")?;
+    fn read_named(alloc: Global, name: &Text, tree: &Tree, at: &Path) -> Result<Server, LoadFault> {
+        let fields = fields_of(
+            alloc,
+            tree,
+            at,
+            "listen routes errors read_timeout read_header_timeout write_timeout idle_timeout keepalive_interval max_header_bytes automatic_https protocols strict_sni_host",
+        )?;
         let listen = needed::<Listen>(alloc, &fields, at, "listen")?;
         let routes = read_routes_member(alloc, &fields, at, "routes")?;
         let errors = read_errors_member(alloc, &fields, at, "errors")?;
+        read_timeouts(alloc, &fields, at)?;
+        read_protocols(alloc, &fields, at)?;
         Ok(Server {
+            name: name.copy(alloc)?,
             listen,
             routes: routes.unwrap_or(List::new(alloc)),
             errors,

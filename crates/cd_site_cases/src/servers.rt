@@ -7,7 +7,7 @@ ghost use Rattle.cd_tree.specs.Tree.{IsSound};
 use crate::asked::request_of;
 use crate::scene::{variables_of, with_variables};
 use cd_fill::Scene;
-use cd_module::{LoadFault, Refusal, Settings};
+use cd_module::{LoadFault, Named, Refusal};
 use cd_routes::{Server, answer_from, server_answer};
 use cd_rows::{Outcome, RowFault, bytes_at, find, has, needed, only, refuses, says, tree_of};
 use cd_text::{Octets, Text, decimal};
@@ -127,14 +127,21 @@ fn outcome_by_text(alloc: Global, row: &Tree, text: &[u8]) -> Result<Outcome, Ro
 }
 
 fn outcome_by(alloc: Global, row: &Tree, tree: &Tree) -> Result<Outcome, RowFault> {
-    match Server::read(alloc, tree, &Path::root(alloc)) {
+    match server_of(alloc, tree) {
         Ok(server) => answered_outcome(alloc, row, &server),
         Err(LoadFault::Refused(refusal)) => refused(alloc, &refusal),
         Err(LoadFault::NoMemory) => Err(RowFault::NoMemory),
     }
 }
 
-fn refused(alloc: Global, refusal: &Refusal) -> Result<Outcome, RowFault> {
+/// The server that stands there, by the name `s`.
+pub fn server_of(alloc: Global, tree: &Tree) -> Result<Server, LoadFault> {
+    let name = Text::from_str(alloc, "s")?;
+    Server::read_named(alloc, &name, tree, &Path::root(alloc))
+}
+
+/// The words of a refusal.
+pub fn refused(alloc: Global, refusal: &Refusal) -> Result<Outcome, RowFault> {
     let words = refusal.words(alloc)?;
     refuses(alloc, words.as_str())
 }

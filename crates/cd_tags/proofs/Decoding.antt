@@ -19,12 +19,12 @@ not_utf8 : (bytes : List ℕ) → (b : Bool) → is_utf8 bytes ≡ b → (IsUtf8
 not_utf8 bytes true e never = absurd (never (IsUtf8-from_is_utf8 bytes e))
 not_utf8 bytes false e never = e
 
-pub is_text : (part bytes : List ℕ) → whole_escapes 0 part ≡ true → bytes ≡ percent_decode part → IsUtf8 bytes → decoded part ≡ Ok bytes
+pub is_text : (part bytes : List ℕ) → whole_escapes part ≡ true → bytes ≡ percent_decode part → IsUtf8 bytes → decoded part ≡ Ok bytes
 is_text part bytes whole is utf8 =
     ap (λ b. chosen b (is_utf8 (percent_decode part)) (percent_decode part)) whole ∙ ap (λ bs. chosen true (is_utf8 bs) bs) (sym is)
     ∙ ap (λ b. chosen true b bytes) (is_utf8-from_IsUtf8 bytes utf8)
 
-pub is_no_text : (part bytes : List ℕ) → whole_escapes 0 part ≡ true → bytes ≡ percent_decode part → (IsUtf8 bytes → ⊥) → decoded part ≡ Err Malformed
+pub is_no_text : (part bytes : List ℕ) → whole_escapes part ≡ true → bytes ≡ percent_decode part → (IsUtf8 bytes → ⊥) → decoded part ≡ Err Malformed
 is_no_text part bytes whole is never =
     ap (λ b. chosen b (is_utf8 (percent_decode part)) (percent_decode part)) whole ∙ ap (λ bs. chosen true (is_utf8 bs) bs) (sym is)
     ∙ ap (λ b. chosen true b bytes) (not_utf8 bytes (is_utf8 bytes) refl never)

@@ -26,13 +26,15 @@ use Rattle.cd_tree.specs.declared.tree.Tree.{Tree}
 use Rattle.cd_path.specs.Looking.{look, or_null}
 use Rattle.cd_path.specs.declared.fault.EditFault.{EditFault}
 use Rattle.cd_tags.specs.Encoding.{is_unreserved, encoded_byte, encoded, encoded_parts, tag_text}
-use Rattle.cd_tags.specs.IfMatch.{is_lower_hex, IsDigest, is_path_byte, whole_escapes, decoded, all_decoded, split_path, parts_of_path, IsTagOf}
+use Rattle.cd_tags.specs.Framed.{escapes_owed}
+use Rattle.cd_tags.specs.IfMatch.{is_lower_hex, IsDigest, is_path_byte, decoded, all_decoded, split_path, parts_of_path, IsTagOf}
 use Rattle.cd_tags.specs.Parts.{are_bytes, is_text, are_texts}
 use Rattle.cd_tags.specs.Tags.{digest, digest_found, digest_at, tag_of, is_digest, tag_holds}
 use Rattle.cd_tags.specs.declared.fault.IfMatchFault.TheVariants.{Malformed}
 use Rattle.cd_tags.specs.declared.fault.TagFault.{TagFault}
 use Rattle.cd_tags.specs.declared.if_match.Tag.{Tag}
 use Rattle.cd_tags.proofs.Forms.{one_tag}
+use Rattle.cd_tags.proofs.Owed.{whole_is_owed}
 
 -- ---- bytes
 
@@ -50,7 +52,7 @@ plain_is b h = elim (cases_eq b 37) [ inl e ↦ absurd (true≢false (sym h ∙ 
 -- what a written byte says of the text that goes on after it
 record Written (b : ℕ) (written rest : List ℕ) : Type 0 where
   pub parts : list_all is_part_byte written ≡ true
-  pub whole : whole_escapes 0 (written ++ rest) ≡ whole_escapes 0 rest
+  pub whole : escapes_owed 0 (written ++ rest) ≡ escapes_owed 0 rest
   pub back : percent_decode (written ++ rest) ≡ b ∷ percent_decode rest
   pub some : 0 < length written
 
@@ -59,7 +61,7 @@ kept b rest h =
     let p = plain_is b h in
     record {
       parts = ap (λ u. (u || (b == 37)) && true) h;
-      whole = ap (λ e. whole_escapes (cond e 2 0) rest) p.1;
+      whole = ap (λ e. escapes_owed (cond e 2 0) rest) p.1;
       back = percent_decode_not_percent b rest p.0;
       some = omega arith;
     }
@@ -87,7 +89,7 @@ all_both p xs ys h k = list_all-append p xs ys ∙ ap₂ (λ a b. a && b) h k
 
 record Part (s : List ℕ) : Type 0 where
   pub parts : list_all is_part_byte (encoded s) ≡ true
-  pub whole : whole_escapes 0 (encoded s) ≡ true
+  pub whole : escapes_owed 0 (encoded s) ≡ true
   pub back : percent_decode (encoded s) ≡ s
 
 part_written : (s : List ℕ) → are_bytes s ≡ true → Part s
@@ -107,7 +109,7 @@ part_back : (s : List ℕ) → is_text s ≡ true → decoded (encoded s) ≡ Ok
 part_back s h =
     let both = and_parts (is_utf8 s) _ h in
     let p = part_written s both.1 in
-    ap (λ w. cond (w && is_utf8 (percent_decode (encoded s))) (Ok (percent_decode (encoded s))) (Err Malformed)) p.whole
+    ap (λ w. cond (w && is_utf8 (percent_decode (encoded s))) (Ok (percent_decode (encoded s))) (Err Malformed)) (whole_is_owed (encoded s) ∙ p.whole)
     ∙ ap (λ t. cond (is_utf8 t) (Ok t) (Err Malformed)) p.back ∙ ap (λ u. cond u (Ok s) (Err Malformed)) both.0
 
 all_back : (parts : List (List ℕ)) → are_texts parts ≡ true → all_decoded (map encoded parts) ≡ Ok parts

@@ -3,7 +3,7 @@ ghost use Rattle.std.specs.List.{list_all, slice_split};
 ghost use Rattle.cd_text.specs.Gives.{Gives};
 ghost use Rattle.cd_tags.specs.IfMatch.{IsTagOf, is_lower_hex, is_path_byte, whole_escapes, decoded, all_decoded, parts_of_path};
 ghost use Rattle.cd_tags.specs.Encoding.{is_unreserved};
-ghost use Rattle.cd_tags.specs.Framed.{tag_in, is_framed, is_closing};
+ghost use Rattle.cd_tags.specs.Framed.{tag_in, is_framed, is_closing, escapes_owed};
 ghost use Rattle.cd_tags.specs.declared.fault.IfMatchFault.TheVariants.{Malformed};
 ghost use Rattle.cd_tags.specs.declared.if_match.Tag.{Tag};
 
@@ -164,9 +164,16 @@ fn decoded(alloc: Global, part: &str) -> Result<Text, IfMatchFault>
     }
 }
 
-/// Whether each `%` has two hexadecimal digits of its own behind it.
+/// Whether each `%` has two hexadecimal digits after it.
 fn has_whole_escapes(part: &[u8]) -> bool
-    ensures { result ≡ whole_escapes 0 part.now }
+    ensures { result ≡ whole_escapes part.now }
+{
+    owes_no_digit(part)
+}
+
+/// The same by a count of the digits that are owed to the last `%`.
+fn owes_no_digit(part: &[u8]) -> bool
+    ensures { result ≡ escapes_owed 0 part.now }
 {
     let mut owed: u8 = 0;
     for byte in part {

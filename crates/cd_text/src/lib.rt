@@ -6,7 +6,7 @@
 //!
 //! `NoMemory` is the one error of calls that are refused for want of memory alone. The word `Gives` (specs/Gives.antt) says
 //! of any result that it is exactly what a definition gives unless memory ran out; `▷` (specs/Steps.antt) chains steps of
-//! such definitions.
+//! such definitions, with `refused_where` for a test and `some_or` for a value that may not be there.
 #![tactic(auto)]
 
 mod list;
@@ -16,7 +16,7 @@ mod octets;
 mod parts;
 mod text;
 
-pub use list::{List, place};
+pub use list::List;
 pub use memory::NoMemory;
 pub use numbers::{decimal, number_of};
 pub use octets::Octets;

@@ -1,6 +1,5 @@
-ghost use Rattle.std.specs.Prelude.{◌≡◌, ◌<◌, ◌≤◌, [], ◌∷◌, ◌++◌, ◌+◌, length, slice_get, slice_set, insert, remove, ◌↔◌, IsTrue, MatchOption, OnOk, OnErr, OnSome};
+ghost use Rattle.std.specs.Prelude.{◌≡◌, ◌<◌, ◌≤◌, [], ◌∷◌, ◌++◌, length, slice_get, insert, remove, ◌↔◌, IsTrue, MatchOption, OnOk, OnErr, OnSome};
 ghost use Rattle.std.specs.Option.{option_copied};
-ghost use Rattle.std.specs.Vec.{vec_len, vec_capacity};
 
 use crate::NoMemory;
 use std::alloc::Global;
@@ -124,26 +123,5 @@ impl<T: Drop> List<T> {
         ensures rest { self.new ≡ remove self.old at }
     {
         self.elements.remove(at)
-    }
-
-    /// Puts an element in the place of the one at `at`.
-    pub fn set(&mut self, at: usize, element: T)
-        requires { at < length self.old }
-        ensures { self.new ≡ slice_set self.old at element }
-    {
-        self.elements[at] = element;
-    }
-}
-
-/// Adds a value where room is reserved, which cannot fail and takes no memory.
-pub fn place<T>(list: &mut Vec<T>, value: T)
-    requires { vec_len list.old < vec_capacity list.old }
-    ensures items { list.new.items ≡ list.old.items ++ value ∷ [] }
-    ensures len { vec_len list.new ≡ vec_len list.old + 1 }
-    ensures capacity { vec_capacity list.old ≤ vec_capacity list.new }
-{
-    match list.push(value) {
-        Ok(()) => {}
-        Err(_) => unreachable!(),
     }
 }

@@ -1,5 +1,4 @@
-ghost use Rattle.std.specs.Prelude.{◌≡◌, ◌++◌, ◌∷◌, ◌↔◌, [], length, map, IsTrue, IfOk, OnOk, OnErr};
-ghost use Rattle.std.specs.Char.{to_ascii_lowercase};
+ghost use Rattle.std.specs.Prelude.{◌≡◌, ◌++◌, ◌∷◌, ◌↔◌, [], length, IsTrue, IfOk, OnOk, OnErr};
 ghost use Rattle.std.specs.Str.{bytes_eq};
 
 use crate::NoMemory;
@@ -99,13 +98,6 @@ impl Octets {
         Ok(())
     }
 
-    /// Writes each letter from A to Z in lower case.
-    pub fn fold_case(&mut self)
-        ensures { self.new ≡ map to_ascii_lowercase self.old }
-    {
-        fold(self.bytes.as_mut_slice());
-    }
-
     /// Whether these are the bytes.
     pub fn equals(&self, other: &[u8]) -> bool
         ensures value { result ≡ bytes_eq self.now other.now }
@@ -113,12 +105,6 @@ impl Octets {
     {
         self.as_slice() == other
     }
-}
-
-fn fold(bytes: &mut [u8])
-    ensures { bytes.new ≡ map to_ascii_lowercase bytes.old }
-{
-    bytes.make_ascii_lowercase();
 }
 
 impl PartialEq for Octets {

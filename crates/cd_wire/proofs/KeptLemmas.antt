@@ -1,12 +1,86 @@
 -- What is kept of an input holds of it when more bytes come.
-use Rattle.std.proofs.Common.{◌≡◌, ℕ, ◌≤◌, List, ◌++◌, length, drop, Option, Some, None, IfSome, refl, sym, ap, ◌∙◌, subst, arith, length-append}
-use Rattle.std.proofs.lemmas.List.{drop-append-le, take-append-le}
-use Rattle.cd_wire.specs.declared.scanning.Line.{Line}
+use Rattle.std.proofs.Common.{inl, ◌≡◌, ℕ, zero, suc, lit<, ◌+◌, ◌≤◌, IsTrue, List, [], ◌∷◌, ◌++◌, length, drop, refl, sym, ap, ◌∙◌, subst, arith, length-append}
+use Rattle.std.proofs.lemmas.List.{drop-append-le, take-append-le, take_all, append-nil}
+use Rattle.std.proofs.lemmas.List.Elements.{All-nil, All-cons}
+use Rattle.std.proofs.lemmas.Str.{IsUtf8-from_ascii}
+use Rattle.std.specs.Str.{IsAscii}
+use Rattle.httparse.specs.Grammar.{lf, IsField, RequestHead, print_request, is_token_byte, is_uri_byte, MayBecomeRequest}
 use Rattle.cd_wire.specs.declared.scanning.Line.TheVariants.{Blank}
+use Rattle.cd_wire.specs.declared.scanning.Scanned.{Scanned}
 use Rattle.cd_wire.specs.declared.taking.Front.{Front}
-use Rattle.cd_wire.specs.Heads.{BeginsHead}
-use Rattle.cd_wire.specs.Scanning.{scan, HasFront, IsKept}
+use Rattle.cd_wire.specs.declared.taking.Search.{Search}
+use Rattle.cd_wire.specs.declared.taking.Known.{Known}
+use Rattle.cd_wire.specs.declared.taking.Known.TheVariants as known
+use Rattle.cd_wire.specs.Heads.{BeginsHead, MayBecomeHead}
+use Rattle.cd_wire.specs.Scanning.{scan}
+use Rattle.cd_wire.specs.Taking.{IsScanned, IsSearch, HasFront, IsKept}
 use Rattle.cd_wire.proofs.RequestLaws.{BeginsHead-append}
+
+-- ---- what may become a head
+
+-- `G / HTTP/1.1`, and an empty line
+abbrev least_head : RequestHead
+least_head = record {
+  blank = [];
+  method = 71 ∷ [];
+  target = 47 ∷ [];
+  minor = 1;
+  line_end = lf;
+  fields = [];
+  last = lf;
+}
+
+slash_ascii : IsAscii (47 ∷ [])
+slash_ascii zero = lit< tt
+slash_ascii (suc i) = lit< tt
+
+-- nothing may
+pub nothing_may : MayBecomeRequest []
+unfolding is_token_byte
+nothing_may = inl (
+  print_request least_head,
+  least_head,
+  (
+    record {
+      method = (omega arith, All-cons (λ b. IsTrue (is_token_byte b)) 71 [] refl (All-nil (λ b. IsTrue (is_token_byte b))));
+      target = (omega arith, All-cons (λ b. IsTrue (is_uri_byte b)) 47 [] refl (All-nil (λ b. IsTrue (is_uri_byte b))));
+      target_text = IsUtf8-from_ascii (47 ∷ []) slash_ascii;
+      minor = omega arith;
+      fields = All-nil IsField;
+    },
+    sym (append-nil (print_request least_head)),
+  ),
+)
+
+-- where all of the bytes may, half of them may
+pub all_may : (input : List ℕ) → MayBecomeRequest input → MayBecomeHead input
+all_may input may = record {
+  count = length input;
+  half = omega arith;
+  may = subst MayBecomeRequest (sym (take_all (length input) input (omega arith))) may;
+}
+
+-- ---- what is kept
+
+-- of what no request has begun nothing is kept
+pub nothing_searched : (input : List ℕ)
+    → IsSearch input (record { scanned = record { count = 0; line = Blank }; parsed = 0 })
+nothing_searched input = record {
+  scanned = record { within = omega arith; stands = refl };
+  within = omega arith;
+  may = nothing_may;
+}
+
+-- all of the bytes were parsed
+pub all_searched : (input : List ℕ) (scanned : Scanned) → IsScanned input scanned → MayBecomeRequest input
+    → IsSearch input (record { scanned = scanned; parsed = length input })
+all_searched input scanned is may = record {
+  scanned = is;
+  within = omega arith;
+  may = subst MayBecomeRequest (sym (take_all (length input) input (omega arith))) may;
+}
+
+-- ---- a piece was appended
 
 front_push : (input piece : List ℕ) (front : Front) → HasFront input front → HasFront (input ++ piece) front
 front_push input piece front f = record {
@@ -16,31 +90,27 @@ front_push input piece front f = record {
   judged = f.judged;
 }
 
-fronts_push : (input piece : List ℕ) (front : Option Front) → IfSome front (HasFront input) → IfSome front (HasFront (input ++ piece))
-fronts_push input piece None f = tt
-fronts_push input piece (Some front) f = front_push input piece front f
-
--- a piece was appended
-pub kept_push : (input piece : List ℕ) (count : ℕ) (line : Line) (front : Option Front) → IsKept input count line front → IsKept (input ++ piece) count line front
-kept_push input piece count line front k = record {
-  within = omega (arith, k.within, length-append input piece);
-  stands = k.stands ∙ ap (scan Blank) (sym (take-append-le count input piece k.within));
-  has = fronts_push input piece front k.has;
+search_push : (input piece : List ℕ) (search : Search) → IsSearch input search → IsSearch (input ++ piece) search
+search_push input piece search s = record {
+  scanned = record {
+    within = omega (arith, s.scanned.within, length-append input piece);
+    stands = s.scanned.stands ∙ ap (scan Blank) (sym (take-append-le search.scanned.count input piece s.scanned.within));
+  };
+  within = omega (arith, s.within, length-append input piece);
+  may = subst MayBecomeRequest (sym (take-append-le search.parsed input piece s.within)) s.may;
 }
 
--- the same of what is left of a buffer
-pub kept_in : (buffer piece : List ℕ) (start count : ℕ) (line : Line) (front : Option Front) → start ≤ length buffer → IsKept (drop start buffer) count line front → IsKept (drop start (buffer ++ piece)) count line front
-kept_in buffer piece start count line front within k =
-    subst (λ (input : List ℕ). IsKept input count line front) (sym (drop-append-le start buffer piece within)) (kept_push (drop start buffer) piece count line front k)
+kept_push : (input piece : List ℕ) (kept : Known) → IsKept input kept → IsKept (input ++ piece) kept
+kept_push input piece (known.Search search) k = search_push input piece search k
+kept_push input piece (known.Front front) k = front_push input piece front k
 
--- the same, of the buffer that the piece makes of it
-pub kept_appended : (buffer new piece : List ℕ) (start count : ℕ) (line : Line) (front : Option Front) → new ≡ buffer ++ piece → start ≤ length buffer → IsKept (drop start buffer) count line front
-    → (start ≤ length new) × IsKept (drop start new) count line front
-kept_appended buffer new piece start count line front is within k = (
-  omega (arith, ap length is, length-append buffer piece),
-  subst (λ (b : List ℕ). IsKept (drop start b) count line front) (sym is) (kept_in buffer piece start count line front within k),
-)
-
--- of what no request has begun nothing is kept
-pub kept_none : (input : List ℕ) → IsKept input 0 Blank None
-kept_none input = record { within = omega arith; stands = refl; has = tt }
+-- the same of what is left of a buffer that the piece makes longer
+pub kept_appended : (buffer new piece : List ℕ) (start : ℕ) (kept : Known) → new ≡ buffer ++ piece
+    → start + start ≤ length buffer → IsKept (drop start buffer) kept
+    → (start + start ≤ length new) × IsKept (drop start new) kept
+kept_appended buffer new piece start kept is half k =
+    let left : drop start buffer ++ piece ≡ drop start new =
+    sym (drop-append-le start buffer piece (omega arith)) ∙ ap (drop start) (sym is) in (
+      omega (arith, ap length is, length-append buffer piece),
+      subst (λ (input : List ℕ). IsKept input kept) left (kept_push (drop start buffer) piece kept k),
+    )

@@ -8,5 +8,6 @@ pub mod OrderLemmas
 pub mod RenderLemmas
 pub mod MemberLemmas
 pub mod TailLaws
+pub mod Existence
 pub mod ScanLemmas
 pub mod KeptLemmas

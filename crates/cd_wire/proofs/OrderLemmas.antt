@@ -68,12 +68,12 @@ All-put_by_name : (P : Field → Type 0) (field : Field) (sorted : List Field) �
     → All P (put_by_name field sorted)
 All-put_by_name P field [] here all = All-cons P field [] here all
 All-put_by_name P field (other ∷ others) here all =
-    elim (name_le other field) as (λ first. All P
-    (if first then other ∷ put_by_name field others else field ∷ (other ∷ others))) [
-      | true ↦
+    elim (name_le field other) as (λ first. All P
+    (if first then field ∷ (other ∷ others) else other ∷ put_by_name field others)) [
+      | true ↦ All-cons P field (other ∷ others) here all
+      | false ↦
           All-cons P other (put_by_name field others) (All-head P other others all)
           (All-put_by_name P field others here (All-tail P other others all))
-      | false ↦ All-cons P field (other ∷ others) here all
     ]
 
 -- what is at most the first of rising names is at most each
@@ -86,27 +86,24 @@ All-le field other (later ∷ others) le all =
     (All-le field other others le (All-tail (λ one. name_le other one ≡ true) later others all))
 
 -- either way the field is put, the names rise
-Rises-step : (field other : Field) (others : List Field) (first : Bool) → name_le other field ≡ first
+Rises-step : (field other : Field) (others : List Field) (first : Bool) → name_le field other ≡ first
     → Rises (other ∷ others) → Rises (put_by_name field others)
-    → Rises (if first then other ∷ put_by_name field others else field ∷ (other ∷ others))
+    → Rises (if first then field ∷ (other ∷ others) else other ∷ put_by_name field others)
 Rises-step field other others true is rises rest =
-    (All-put_by_name (λ one. name_le other one ≡ true) field others is rises.0, rest)
+    (All-cons (λ one. name_le field one ≡ true) other others is (All-le field other others is rises.0), rises)
 Rises-step field other others false is rises rest =
-    let le = name_le-other other field is in
-    (All-cons (λ one. name_le field one ≡ true) other others le (All-le field other others le rises.0), rises)
+    (All-put_by_name (λ one. name_le other one ≡ true) field others (name_le-other field other is) rises.0, rest)
 
 -- one field more, and the names still rise
 Rises-put_by_name : (field : Field) (sorted : List Field) → Rises sorted → Rises (put_by_name field sorted)
 Rises-put_by_name field [] rises = (All-nil (λ other. name_le field other ≡ true), tt)
 Rises-put_by_name field (other ∷ others) rises =
-    Rises-step field other others (name_le other field) refl rises (Rises-put_by_name field others rises.1)
+    Rises-step field other others (name_le field other) refl rises (Rises-put_by_name field others rises.1)
 
--- and so do they after many
-Rises-put_all : (sorted fields : List Field) → Rises sorted
-    → Rises (fold (λ done field. put_by_name field done) sorted fields)
-Rises-put_all sorted [] rises = rises
-Rises-put_all sorted (field ∷ fields) rises =
-    Rises-put_all (put_by_name field sorted) fields (Rises-put_by_name field sorted rises)
+-- and so do they of all
+Rises-by_name : (fields : List Field) → Rises (by_name fields)
+Rises-by_name [] = tt
+Rises-by_name (field ∷ fields) = Rises-put_by_name field (by_name fields) (Rises-by_name fields)
 
 -- the same of any two places
 AllPairs-rises : (fields : List Field) → Rises fields → AllPairs (λ one other. name_le one other ≡ true) fields
@@ -118,7 +115,7 @@ AllPairs-rises (field ∷ fields) rises =
 pub by_name-sorted : (fields : List Field) → IsSortedByKey (λ field. field.name) (slice_cmp nat_cmp) (by_name fields)
 by_name-sorted fields k d low within =
     let sorted = by_name fields in
-    let le = AllPairs-rises sorted (Rises-put_all [] fields tt) k (k + 1) d (omega arith) within in
+    let le = AllPairs-rises sorted (Rises-by_name fields) k (k + 1) d (omega arith) within in
     let one = (get_or sorted k d).name in
     let other = (get_or sorted (k + 1) d).name in
     ap is_lt (nat_list_cmp_total.antisymm other one) ∙ lt_reversed (slice_cmp nat_cmp one other) le
@@ -129,32 +126,23 @@ by_name-sorted fields k d low within =
 IsPermutation-put_by_name : (field : Field) (sorted : List Field) → IsPermutation (field ∷ sorted) (put_by_name field sorted)
 IsPermutation-put_by_name field [] = IsPermutation-refl (field ∷ [])
 IsPermutation-put_by_name field (other ∷ others) =
-    elim (name_le other field) as (λ first. IsPermutation (field ∷ (other ∷ others))
-    (if first then other ∷ put_by_name field others else field ∷ (other ∷ others))) [
-      | true ↦
+    elim (name_le field other) as (λ first. IsPermutation (field ∷ (other ∷ others))
+    (if first then field ∷ (other ∷ others) else other ∷ put_by_name field others)) [
+      | true ↦ IsPermutation-refl (field ∷ (other ∷ others))
+      | false ↦
           IsPermutation-trans (field ∷ (other ∷ others)) (other ∷ (field ∷ others)) (other ∷ put_by_name field others)
           (IsPermutation-sym (other ∷ (field ∷ others)) (field ∷ (other ∷ others))
           (IsPermutation-middle (other ∷ []) field others))
           (IsPermutation-cons other (field ∷ others) (put_by_name field others) (IsPermutation-put_by_name field others))
-      | false ↦ IsPermutation-refl (field ∷ (other ∷ others))
     ]
-
--- many fields more are as many elements more
-IsPermutation-put_all : (sorted fields : List Field)
-    → IsPermutation (fields ++ sorted) (fold (λ done field. put_by_name field done) sorted fields)
-IsPermutation-put_all sorted [] = IsPermutation-refl sorted
-IsPermutation-put_all sorted (field ∷ fields) =
-    let done = put_by_name field sorted in
-    IsPermutation-trans (field ∷ (fields ++ sorted)) (fields ++ done) (fold (λ done field. put_by_name field done) done fields)
-    (IsPermutation-trans (field ∷ (fields ++ sorted)) (fields ++ field ∷ sorted) (fields ++ done)
-    (IsPermutation-sym (fields ++ field ∷ sorted) (field ∷ (fields ++ sorted)) (IsPermutation-middle fields field sorted))
-    (IsPermutation-append_right fields (field ∷ sorted) done (IsPermutation-put_by_name field sorted)))
-    (IsPermutation-put_all done fields)
 
 -- the fields by name are the fields, in another order
 pub IsPermutation-by_name : (fields : List Field) → IsPermutation fields (by_name fields)
-IsPermutation-by_name fields =
-    subst (λ (all : List Field). IsPermutation all (by_name fields)) (append-nil fields) (IsPermutation-put_all [] fields)
+IsPermutation-by_name [] = IsPermutation-refl []
+IsPermutation-by_name (field ∷ fields) =
+    IsPermutation-trans (field ∷ fields) (field ∷ by_name fields) (put_by_name field (by_name fields))
+    (IsPermutation-cons field fields (by_name fields) (IsPermutation-by_name fields))
+    (IsPermutation-put_by_name field (by_name fields))
 
 -- ---- fields of one name keep their order
 
@@ -202,54 +190,38 @@ All-greater field other (later ∷ others) gt all =
       greater field other later gt le true is = absurd (false≢true (sym gt ∙ name_le-trans other later field le is))
       greater field other later gt le false is = is
 
--- either way the field is put, it comes last of its name
-filter-step : (name : List ℕ) (field other : Field) (others : List Field) (first : Bool) → name_le other field ≡ first
-    → Rises (other ∷ others)
-    → filter (is_named name) (put_by_name field others) ≡ filter (is_named name) others ++ filter (is_named name) (field ∷ [])
-    → filter (is_named name) (if first then other ∷ put_by_name field others else field ∷ (other ∷ others))
-    ≡ filter (is_named name) (other ∷ others) ++ filter (is_named name) (field ∷ [])
-filter-step name field other others true is rises rest =
-    elim (is_named name other) as (λ (named : Bool).
-    cond named (other ∷ filter (is_named name) (put_by_name field others)) (filter (is_named name) (put_by_name field others))
-    ≡ cond named (other ∷ filter (is_named name) others) (filter (is_named name) others)
-    ++ filter (is_named name) (field ∷ [])) [
-      | true ↦ ap (λ fields. other ∷ fields) rest
-      | false ↦ rest
-    ]
-filter-step name field other others false is rises rest = cases (is_named name field) refl where
-  cases : (named : Bool) → is_named name field ≡ named
-      → cond named (field ∷ filter (is_named name) (other ∷ others)) (filter (is_named name) (other ∷ others))
-      ≡ filter (is_named name) (other ∷ others) ++ cond named (field ∷ []) []
-  cases true named =
-      let greater = All-cons (λ one. name_le one field ≡ false) other others is (All-greater field other others is rises.0) in
-      let none = none_named name field (other ∷ others) named greater in
-      ap (λ fields. field ∷ fields) none ∙ ap (λ fields. fields ++ field ∷ []) (sym none)
-  cases false named = sym (append-nil (filter (is_named name) (other ∷ others)))
+-- either way the field is put, it comes first of its name
+filter-step : (name : List ℕ) (field other : Field) (others : List Field) (first : Bool) → name_le field other ≡ first
+    → filter (is_named name) (put_by_name field others) ≡ filter (is_named name) (field ∷ others)
+    → filter (is_named name) (if first then field ∷ (other ∷ others) else other ∷ put_by_name field others)
+    ≡ filter (is_named name) (field ∷ (other ∷ others))
+filter-step name field other others true is rest = refl
+filter-step name field other others false is rest = cases (is_named name other) refl (is_named name field) refl rest where
+  cases : (there : Bool) → is_named name other ≡ there → (here : Bool) → is_named name field ≡ here
+      → filter (is_named name) (put_by_name field others)
+      ≡ cond here (field ∷ filter (is_named name) others) (filter (is_named name) others)
+      → cond there (other ∷ filter (is_named name) (put_by_name field others)) (filter (is_named name) (put_by_name field others))
+      ≡ cond here (field ∷ cond there (other ∷ filter (is_named name) others) (filter (is_named name) others))
+      (cond there (other ∷ filter (is_named name) others) (filter (is_named name) others))
+  cases true named true also rest = absurd (false≢true (sym (not_named name other field named is) ∙ also))
+  cases true named false also rest = ap (λ (fields : List Field). other ∷ fields) rest
+  cases false named true also rest = rest
+  cases false named false also rest = rest
 
--- one field more comes last of its name
-filter-put_by_name : (name : List ℕ) (field : Field) (sorted : List Field) → Rises sorted
-    → filter (is_named name) (put_by_name field sorted)
-    ≡ filter (is_named name) sorted ++ filter (is_named name) (field ∷ [])
-filter-put_by_name name field [] rises = refl
-filter-put_by_name name field (other ∷ others) rises =
-    filter-step name field other others (name_le other field) refl rises (filter-put_by_name name field others rises.1)
-
--- many fields more come behind those of their name, in their order
-filter-put_all : (name : List ℕ) (sorted fields : List Field) → Rises sorted
-    → filter (is_named name) (fold (λ done field. put_by_name field done) sorted fields)
-    ≡ filter (is_named name) sorted ++ filter (is_named name) fields
-filter-put_all name sorted [] rises = sym (append-nil (filter (is_named name) sorted))
-filter-put_all name sorted (field ∷ fields) rises =
-    let p = is_named name in
-    filter-put_all name (put_by_name field sorted) fields (Rises-put_by_name field sorted rises)
-    ∙ ap (λ kept. kept ++ filter p fields) (filter-put_by_name name field sorted rises)
-    ∙ append_assoc (filter p sorted) (filter p (field ∷ [])) (filter p fields)
-    ∙ ap (λ kept. filter p sorted ++ kept) (sym (filter-append p (field ∷ []) fields))
+-- one field more comes first of its name
+filter-put_by_name : (name : List ℕ) (field : Field) (sorted : List Field)
+    → filter (is_named name) (put_by_name field sorted) ≡ filter (is_named name) (field ∷ sorted)
+filter-put_by_name name field [] = refl
+filter-put_by_name name field (other ∷ others) =
+    filter-step name field other others (name_le field other) refl (filter-put_by_name name field others)
 
 -- fields of one name keep their order
 pub filter-by_name : (fields : List Field) (name : List ℕ)
     → filter (is_named name) (by_name fields) ≡ filter (is_named name) fields
-filter-by_name fields name = filter-put_all name [] fields tt
+filter-by_name [] name = refl
+filter-by_name (field ∷ fields) name =
+    filter-put_by_name name field (by_name fields)
+    ∙ ap (λ (kept : List Field). cond (is_named name field) (field ∷ kept) kept) (filter-by_name fields name)
 
 -- ---- there is one such list
 
@@ -344,5 +316,5 @@ pub by_name-only : (fields others : List Field)
     → ((name : List ℕ) → filter (is_named name) others ≡ filter (is_named name) fields)
     → others ≡ by_name fields
 by_name-only fields others sorted same =
-    same_list others (by_name fields) (Rises-sorted others sorted) (Rises-put_all [] fields tt)
+    same_list others (by_name fields) (Rises-sorted others sorted) (Rises-by_name fields)
     (λ name. same name ∙ sym (filter-by_name fields name))

@@ -165,12 +165,18 @@ Splits-prefix input (request ∷ requests) (other ∷ others) rest left s t none
     let later = Splits-prefix t.0 requests others rest left there t.2 none in
     (later.0, cc (first.0, later.1))
 
-pub requests_stay : (input more : List ℕ) (ended : Bool) (requests others : List Request) (tail end : Tail)
+pub taken_stay : (input more : List ℕ) (ended : Bool) (requests others : List Request) (left : List ℕ) (end : Tail)
+    → Splits input requests left → HasRequests (input ++ more) ended others end
+    → (later : List Request) × (others ≡ requests ++ later)
+taken_stay input more ended requests others left end before after =
+    Splits-prefix (input ++ more) requests others (left ++ more) after.rest
+    (Splits-append input requests left more before) after.splits after.no_more
+
+pub all_stay : (input more : List ℕ) (ended : Bool) (requests others : List Request) (tail end : Tail)
     → HasRequests input false requests tail → HasRequests (input ++ more) ended others end
     → (later : List Request) × (others ≡ requests ++ later)
-requests_stay input more ended requests others tail end before after =
-    Splits-prefix (input ++ more) requests others (before.rest ++ more) after.rest
-    (Splits-append input requests before.rest more before.splits) after.splits after.no_more
+all_stay input more ended requests others tail end before after =
+    taken_stay input more ended requests others before.rest end before.splits after
 
 -- one more request
 pub Splits-snoc : (input : List ℕ) (requests : List Request) (request : Request) (rest left : List ℕ)

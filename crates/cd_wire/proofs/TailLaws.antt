@@ -32,7 +32,7 @@ Splits-unique input (request ∷ requests) (other ∷ others) rest left s t none
 
 -- at the end of an input there is no body
 no_body_at_end : (rest : List ℕ) → EndsInBody rest → rest ≡ [] → ⊥
-no_body_at_end rest b e = empty_no_head b.0 b.1 (subst (λ r. BeginsHead r b.0 b.1) e b.2)
+no_body_at_end rest b e = empty_no_head b.head b.after (subst (λ r. BeginsHead r b.head b.after) e b.begins)
 
 -- and no fault
 no_fault_at_end : (rest : List ℕ) (ended : Bool) (fault : WireFault) → HasTail rest ended (refused fault) → rest ≡ [] → ⊥
@@ -74,16 +74,16 @@ same_refusal rest ended fault other t u =
 -- what ends in a body is not refused
 cut_or_refused : (rest : List ℕ) (ended : Bool) (fault : WireFault) → EndsInBody rest → HasTail rest ended (refused fault) → ⊥
 cut_or_refused rest ended fault b t =
-    elim t [ inl r ↦ b.3 fault r | inr h ↦ h.1.1 b.0 b.1 b.2 ]
+    elim t [ inl r ↦ b.faultless fault r | inr h ↦ h.1.1 b.head b.after b.begins ]
 
 -- what may go on is not refused
 more_or_refused : (rest : List ℕ) (ended : Bool) (fault : WireFault) → HasTail rest ended more_may_come → HasTail rest ended (refused fault) → ⊥
 more_or_refused rest ended fault m t =
     elim t [
-      | inl r ↦ elim m.1 [ inl none ↦ none.0 r.0 r.1 r.2 | inr b ↦ b.3 fault r ]
+      | inl r ↦ elim m.1 [ inl none ↦ none.0 r.0 r.1 r.2 | inr b ↦ b.faultless fault r ]
       | inr h ↦ elim h.1.2 [
         | inl over ↦ both_ways ended over m.0
-        | inr never ↦ elim m.1 [ inl none ↦ none.1 never | inr b ↦ h.1.1 b.0 b.1 b.2 ]
+        | inr never ↦ elim m.1 [ inl none ↦ none.1 never | inr b ↦ h.1.1 b.head b.after b.begins ]
       ]
     ]
 

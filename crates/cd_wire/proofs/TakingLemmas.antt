@@ -19,8 +19,8 @@ use Rattle.cd_wire.specs.Targets.{is_target}
 use Rattle.cd_wire.specs.Bodies.{BeginsBody, RefusesBody}
 use Rattle.cd_wire.specs.Requests.{BeginsRequest, HasNoRequest, RefusesAfterHead, EndsInBody}
 use Rattle.cd_wire.specs.declared.taking.Front.{Front}
-use Rattle.cd_wire.specs.Scanning.{HasFront}
-use Rattle.cd_wire.specs.Taking.{IsNext}
+use Rattle.cd_wire.specs.Taking.{HasFront}
+use Rattle.cd_wire.specs.Intake.{IsNext}
 use Rattle.cd_wire.specs.declared.intake.Next.TheVariants as next
 use Rattle.cd_wire.proofs.RequestLaws.{BeginsHead-unique}
 
@@ -61,8 +61,14 @@ no_body_no_request input head rest size b judged short request left r =
 -- a body that is neither whole nor refused is one in which the input ends
 pub ends_in_body : (input : List ℕ) (head : Head) (rest : List ℕ) (framing : Framing)
     → BeginsHead input head rest → judge head ≡ Ok framing
-    → ((fault : WireFault) → ¬ (RefusesBody framing rest fault)) → EndsInBody input
-ends_in_body input head rest framing b judged sound = (head, rest, b, refused)
+    → ((fault : WireFault) → ¬ (RefusesBody framing rest fault)) → HasNoRequest input → EndsInBody input
+ends_in_body input head rest framing b judged sound none = record {
+  head = head;
+  after = rest;
+  begins = b;
+  faultless = refused;
+  not_whole = none;
+}
   where
     different : {f : WireFault} {g : Framing} → ◌≡◌ {A = Result Framing WireFault} (Err f) (Ok g) → ⊥
     different {f} {g} e = cc
@@ -166,9 +172,10 @@ pub not_whole : (input new : List ℕ) (ended : Bool) (front : Front) → HasFro
 not_whole input new ended front f few same =
     let rest : List ℕ = drop front.len input in
     let short : length rest < front.size = omega (arith, length-drop front.len input, f.within) in
+    let none = no_body_no_request input front.head rest front.size f.begins f.judged short in
     subst (λ (n : List ℕ). IsNext input ended n (if ended then next.Cut else next.More)) (sym same)
-    (cut_or_more_is input ended (no_body_no_request input front.head rest front.size f.begins f.judged short)
-    (ends_in_body input front.head rest (Length front.size) f.begins f.judged (λ fault refuses. refuses)))
+    (cut_or_more_is input ended none
+    (ends_in_body input front.head rest (Length front.size) f.begins f.judged (λ fault refuses. refuses) none))
 
 -- a head whose body has come whole
 pub takes_sized : (input : List ℕ) (head : Head) (len size : ℕ) (request : Request) → len ≤ length input

@@ -1,8 +1,8 @@
 -- When an input begins with the head of a request, and what is kept of it (RFC 9112, sections 2 to 5). The grammar is that of
 -- `httparse`, which also takes a line that ends in LF alone, and empty lines before the first: these belong to the head.
-use Rattle.std.specs.Prelude.{◌≡◌, ℕ, ◌≤◌, List, ◌++◌, length, map}
+use Rattle.std.specs.Prelude.{◌≡◌, ℕ, ◌+◌, ◌≤◌, List, ◌++◌, length, map, take}
 use Rattle.std.specs.Char.{to_ascii_lowercase}
-use Rattle.httparse.specs.Grammar.{RequestHead, print_request, ReadsRequest}
+use Rattle.httparse.specs.Grammar.{RequestHead, print_request, ReadsRequest, MayBecomeRequest}
 use Rattle.httparse.specs.Spans.{name_and_value}
 use Rattle.cd_wire.specs.declared.limits.TheConstants.{MAX_HEAD_BYTES, MAX_HEAD_FIELDS}
 use Rattle.cd_wire.specs.declared.fields.Field.{Field}
@@ -36,3 +36,9 @@ HasNoHead input = (head : Head) (rest : List ℕ) → ¬ (BeginsHead input head 
 -- no input that begins so begins with a head
 abbrev pub NeverHasHead : List ℕ → Type 0
 NeverHasHead input = (more : List ℕ) → HasNoHead (input ++ more)
+
+-- half of the input, or more of it, may still become the lines of a head. What stands in a target that has not ended may, too
+pub record MayBecomeHead (input : List ℕ) : Type 0 where
+  pub count : ℕ
+  pub half : length input ≤ count + count
+  pub may : MayBecomeRequest (take count input)

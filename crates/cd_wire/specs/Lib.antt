@@ -6,5 +6,6 @@ pub mod Bodies
 pub mod Requests
 pub mod Scanning
 pub mod Taking
+pub mod Intake
 pub mod Faults
 pub mod Render

@@ -1,37 +1,42 @@
 -- The bytes of an answer (RFC 9112, sections 4 to 6).
-use Rattle.std.specs.Prelude.{◌≡◌, ℕ, ◌⊎◌, Bool, true, false, ◌&&◌, ◌||◌, not, List, [], ◌∷◌, ◌++◌, length, codes, ◌==◌, nat_lt, nat_le, if◌then◌else◌, unwrap_or, map, filter, fold, decimal}
+use Rattle.std.specs.Prelude.{◌≡◌, ℕ, ◌⊎◌, Bool, true, false, ◌&&◌, ◌||◌, not, List, [], ◌∷◌, ◌++◌, length, codes, ◌==◌, nat_lt, nat_le, if◌then◌else◌, unwrap_or, map, filter, decimal}
 use Rattle.std.specs.List.{flat_map}
 use Rattle.std.specs.Char.{to_ascii_uppercase}
+use Rattle.std.specs.Str.{bytes_eq, str_to_ascii_lowercase}
 use Rattle.std.specs.Ordering.{nat_cmp, is_le}
 use Rattle.std.specs.Cmp.Lexicographic.{slice_cmp}
 use Rattle.httparse.specs.Ascii.{tab, space, del, crlf_bytes}
 use Rattle.http.specs.StatusCode.{reason_phrase}
 use Rattle.cd_wire.specs.declared.fields.Field.{Field}
 use Rattle.cd_wire.specs.declared.answer.Answer.{Answer}
-use Rattle.cd_wire.specs.Fields.{is_named}
 
--- the field is sent as it stands: its name is not one of the lines that frame an answer
+-- the field has that name, which is in lower case: names of fields are case-insensitive (RFC 9110, section 5.1)
+abbrev pub has_name : List ℕ → Field → Bool
+has_name name field = bytes_eq (str_to_ascii_lowercase field.name) name
+
+-- the field is sent as it is given: it is none of those that frame an answer
 abbrev pub is_sent : Field → Bool
 is_sent field =
-    not (is_named (codes "content-length") field)
-    && not (is_named (codes "connection") field)
-    && not (is_named (codes "transfer-encoding") field)
+    not (has_name (codes "content-length") field)
+    && not (has_name (codes "connection") field)
+    && not (has_name (codes "transfer-encoding") field)
 
 -- the first field's name is not greater than the second's
 abbrev pub name_le : Field → Field → Bool
 name_le one other = is_le (slice_cmp nat_cmp one.name other.name)
 
--- one more field among fields by rising name: behind all whose names are not greater
+-- one more field among fields by rising name: before the first whose name is not less
 abbrev pub put_by_name : Field → List Field → List Field
 put_by_name field [] = field ∷ []
 put_by_name field (other ∷ others) =
-    if name_le other field then other ∷ put_by_name field others else field ∷ (other ∷ others)
+    if name_le field other then field ∷ (other ∷ others) else other ∷ put_by_name field others
 
 -- the fields by rising name, and equal names in their order: what that says is the law `fields_go_by_name`
 abbrev pub by_name : List Field → List Field
-by_name fields = fold (λ sorted field. put_by_name field sorted) [] fields
+by_name [] = []
+by_name (field ∷ fields) = put_by_name field (by_name fields)
 
--- each letter that begins a word in upper case
+-- a letter that begins the name or follows `-` in upper case; any other byte there stays
 abbrev pub titled : Bool → List ℕ → List ℕ
 titled begins [] = []
 titled begins (byte ∷ bytes) = (if begins then to_ascii_uppercase byte else byte) ∷ titled (byte == 45) bytes
@@ -66,7 +71,7 @@ unfoldable pub length_line : Answer → List ℕ
 length_line answer =
     if has_body answer.status then codes "Content-Length: " ++ decimal (length answer.body) ++ crlf_bytes else []
 
--- where the connection ends behind the answer, it says so
+-- where the connection ends after the answer, it says so
 unfoldable pub close_line : Bool → List ℕ
 close_line close = if close then codes "Connection: close" ++ crlf_bytes else []
 

@@ -43,11 +43,13 @@ RefusesAfterHead input fault =
     × ((judge head ≡ Err fault)
     ⊎ ((framing : Framing) × (judge head ≡ Ok framing) × RefusesBody framing after fault))
 
--- the input begins with a head that has no fault, and neither has what came of its body
-abbrev pub EndsInBody : List ℕ → Type 0
-EndsInBody input =
-    (head : Head) × (after : List ℕ) × BeginsHead input head after
-    × ((fault : WireFault) → ¬ (RefusesAfterHead input fault))
+-- the input begins with a head, neither it nor what came of its body has a fault, and the request is not whole
+pub record EndsInBody (input : List ℕ) : Type 0 where
+  pub head : Head
+  pub after : List ℕ
+  pub begins : BeginsHead input head after
+  pub faultless : (fault : WireFault) → ¬ (RefusesAfterHead input fault)
+  pub not_whole : HasNoRequest input
 
 -- some bytes that have no head, where the input has ended, or where no more bytes can make one of them
 abbrev pub RefusesHead : List ℕ → Bool → Type 0

@@ -6,13 +6,13 @@ use cd_text::{Octets, Text};
 /// A field of a head (RFC 9110, section 5).
 #[derive(Debug, Drop)]
 pub struct Field {
-    /// The name, in lower case.
+    /// The name. In a request it is in lower case.
     pub name: Text,
     /// The value, without white space around it.
     pub value: Octets,
 }
 
-/// What the fields of one name are.
+/// How many fields have a name: none, one with its value, or more.
 #[derive(Drop)]
 pub(crate) enum Found<'a> {
     Nothing,

@@ -18,7 +18,7 @@ pub(crate) struct Head {
     pub fields: List<Field>,
 }
 
-/// What stands at the front of an input: a head and its length, none yet, or none whatever follows.
+/// What an input begins with: a head and its length, none yet, or none whatever follows.
 #[derive(Drop)]
 pub(crate) enum HeadRead {
     Whole(Head, usize),
@@ -54,6 +54,7 @@ fn read_head(alloc: Global, bytes: &[u8]) -> Result<HeadRead, NoMemory>
     let mut request = httparse::Request::new(&mut headers);
     match request.parse(bytes) {
         Ok(Status::Complete(len)) => {
+            // The array holds no more, but no clause of the parser says so.
             if request.headers.len() > MAX_HEAD_FIELDS {
                 return Ok(HeadRead::Hopeless);
             }
@@ -77,7 +78,7 @@ fn read_head(alloc: Global, bytes: &[u8]) -> Result<HeadRead, NoMemory>
     }
 }
 
-// So many bytes of the text at most.
+// The first bytes of the text, so many at most.
 fn front_of(text: &[u8], most: usize) -> &[u8]
     ensures value { result.now ≡ take most text.now }
     ensures short { length result.now ≤ most }

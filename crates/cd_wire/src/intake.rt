@@ -1,18 +1,16 @@
-ghost use Rattle.std.specs.Prelude.{◌≡◌, ◌==◌, ◌≤◌, [], ◌++◌, length, drop, false, IfOk, IfSome, OnErr, if◌then◌else◌, is_ok};
-ghost use Rattle.std.specs.Vec.{vec_len};
-ghost use Rattle.cd_wire.specs.Taking.{IsBegun, IsNext};
-ghost use Rattle.cd_wire.specs.Scanning.{scan, is_over, HasFront};
-ghost use Rattle.cd_wire.specs.declared.scanning.Line.TheVariants as place;
+ghost use Rattle.std.specs.Prelude.{◌≡◌, ◌==◌, ◌≤◌, ◌+◌, [], ◌++◌, length, drop, IfOk, OnErr, if◌then◌else◌, is_ok};
+ghost use Rattle.std.specs.Vec.{vec_len, vec_capacity};
+ghost use Rattle.cd_wire.specs.Intake.{IsNext};
 ghost use Rattle.cd_wire.specs.declared.intake.Next.TheVariants as next;
 
 use crate::fault::WireFault;
 use crate::request::Request;
-use crate::scanning::{Line, Scanned, is_over, scan_on};
-use crate::taking::{Begun, Front, find_front, is_whole, take_front};
+use crate::taking::{Begun, Known, find_front, is_whole, no_search, take_front};
 use crate::texts::rest_from;
 use cd_text::NoMemory;
 use std::alloc::Global;
 use std::marker::Model;
+use std::mem;
 
 /// What `Intake::next` finds.
 #[derive(Drop)]
@@ -25,50 +23,57 @@ pub enum Next {
     End,
     /// The input ended inside a body.
     Cut,
-    /// What follows is refused, and so is all behind it.
+    /// What follows is refused, and so is all after it.
     Refused(WireFault),
 }
 
 /// The bytes of a connection that have come and that no request has taken yet.
 ///
-/// What was read of the head at their front is kept, so that bytes that come one by one are not read again and again, and what
-/// was taken is dropped.
+/// What was read of the head at their front is kept, so that bytes that come one by one are not read again and again. What
+/// was taken is dropped: it is never more than what is left.
+///
+///     buffer:   taken bytes   bytes that are left
+///               0             start                 buffer.len()
 #[derive(Drop)]
 pub struct Intake {
     alloc: Global,
     buffer: Vec<u8>,
-    // what requests took of the buffer, and is not dropped yet
+    // how many bytes of the buffer requests took: half of it at most
     start: usize,
-    // where the end of the head was looked for, from the start
-    scanned: Scanned,
-    // how many bytes there were when they were parsed and were no head yet
-    tried: usize,
-    // the head at the start, once it was read
-    front: Option<Front>,
+    // what was read of the bytes from `start` on
+    known: Known,
 }
 
 impl Model for Intake {
-    ghost use Rattle.std.specs.Prelude.{ℕ, List, ◌≤◌, length, drop};
-    ghost use Rattle.cd_wire.specs.Scanning.{IsKept};
+    ghost use Rattle.std.specs.Prelude.{ℕ, List, ◌≤◌, ◌+◌, length, drop};
+    ghost use Rattle.cd_wire.specs.Taking.{IsKept};
 
     ghost Value = { List ℕ };
 
     ghost view = { λ i. drop i.start i.buffer.items };
 
-    ghost invariant = { λ i. (i.start ≤ length i.buffer.items) × IsKept (drop i.start i.buffer.items) i.scanned.count i.scanned.line i.front };
+    ghost invariant = { λ i. (i.start + i.start ≤ length i.buffer.items) × IsKept (drop i.start i.buffer.items) i.known };
 }
 
-// Drops what was taken of a buffer where that is half of it or more, and tells where the rest begins.
-fn drop_taken(buffer: &mut Vec<u8>, start: usize) -> usize
-    requires { start ≤ vec_len buffer.old }
-    ensures within { result ≤ length buffer.new.items }
-    ensures rest { drop result buffer.new.items ≡ drop start buffer.old.items }
+// A buffer of no bytes, for which no memory is taken.
+fn no_bytes(alloc: Global) -> Vec<u8>
+    ensures items { result.items ≡ [] }
+    ensures capacity { vec_capacity result ≡ 0 }
 {
-    let left = buffer.len() - start;
-    if start < left || start == 0 {
-        return start;
+    Vec::new(alloc)
+}
+
+// Drops the taken bytes of a buffer where they are more than those that are left, and answers how many it still has.
+fn drop_taken(buffer: &mut Vec<u8>, taken: usize) -> usize
+    requires { taken ≤ vec_len buffer.old }
+    ensures half { result + result ≤ length buffer.new.items }
+    ensures rest { drop result buffer.new.items ≡ drop taken buffer.old.items }
+{
+    let left = buffer.len() - taken;
+    if taken <= left {
+        return taken;
     }
-    buffer.copy_within(start.., 0);
+    buffer.copy_within(taken.., 0);
     buffer.truncate(left);
     0
 }
@@ -80,25 +85,6 @@ fn cut_or_more(ended: bool) -> Next
     if ended { Next::Cut } else { Next::More }
 }
 
-// What the input begins with: the head that is known, or what is found there.
-fn known_front(
-    alloc: Global,
-    known: Option<Front>,
-    bytes: &[u8],
-    ended: bool,
-    over: bool,
-    due: bool,
-) -> Result<Begun, NoMemory>
-    requires known { IfSome known (HasFront bytes.now) }
-    requires none { over ≡ false → is_over (scan place.Blank bytes.now) ≡ false }
-    ensures { IfOk result (IsBegun bytes.now ended) }
-{
-    match known {
-        Some(front) => Ok(Begun::Front(front)),
-        None => find_front(alloc, bytes, ended, over, due),
-    }
-}
-
 impl Intake {
     /// No bytes. It takes no memory.
     pub fn new(alloc: Global) -> Intake
@@ -106,14 +92,9 @@ impl Intake {
     {
         Intake {
             alloc,
-            buffer: Vec::new(alloc),
+            buffer: no_bytes(alloc),
             start: 0,
-            scanned: Scanned {
-                count: 0,
-                line: Line::Blank,
-            },
-            tried: 0,
-            front: None,
+            known: Known::Search(no_search()),
         }
     }
 
@@ -128,43 +109,33 @@ impl Intake {
     pub fn push(&mut self, piece: &[u8]) -> Result<(), NoMemory>
         ensures { self.new ≡ (if is_ok result then self.old ++ piece.now else self.old) }
     {
-        self.start = drop_taken(&mut self.buffer, self.start);
         Ok(self.buffer.extend_from_slice(piece)?)
     }
 
     /// Takes the next request off the front (RFC 9112, sections 2 to 6). `ended` says that no more bytes come.
     ///
     /// What is found depends on the bytes alone, and not on the pieces in which they came, but for one thing: where the input
-    /// has not ended, bytes that can no longer become a head may still be `More`, until they are `MAX_HEAD_BYTES`. Anything but
-    /// a request leaves the bytes as they are, and so does `NoMemory`.
+    /// has not ended, bytes that can no longer become a head may still be `More`, until they are twice as many or
+    /// `MAX_HEAD_BYTES`. Anything but a request leaves the bytes as they are, and so does `NoMemory`.
     pub fn next(&mut self, ended: bool) -> Result<Next, NoMemory>
         ensures found { IfOk result (IsNext self.old ended self.new) }
         ensures err { OnErr result (self.new ≡ self.old) }
     {
         let rest = rest_from(self.buffer.as_slice(), self.start);
-        let scanned = scan_on(rest, self.scanned);
-        self.scanned = scanned;
-        let known = self.front.take();
-        // Twice as many bytes as last time are parsed again, so that most that never become a head are refused at once.
-        let due = rest.len() / 2 >= self.tried;
-        let begun = known_front(self.alloc, known, rest, ended, is_over(scanned.line), due)?;
+        let known = mem::replace(&mut self.known, Known::Search(no_search()));
+        let begun = find_front(self.alloc, rest, ended, known)?;
         match begun {
             Begun::Front(front) => {
                 if !is_whole(rest, &front) {
-                    self.front = Some(front);
+                    self.known = Known::Front(front);
                     return Ok(cut_or_more(ended));
                 }
                 let (request, len) = take_front(self.alloc, rest, front)?;
-                self.start += len;
-                self.scanned = Scanned {
-                    count: 0,
-                    line: Line::Blank,
-                };
-                self.tried = 0;
+                self.start = drop_taken(&mut self.buffer, self.start + len);
                 Ok(Next::Request(request))
             }
-            Begun::More => {
-                self.tried = rest.len();
+            Begun::More(search) => {
+                self.known = Known::Search(search);
                 Ok(Next::More)
             }
             Begun::End => Ok(Next::End),

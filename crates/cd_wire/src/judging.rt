@@ -20,7 +20,7 @@ fn all_visible(bytes: &[u8]) -> bool
     bytes.iter().all(|byte| byte.is_ascii_graphic())
 }
 
-// Whether there are as many Host fields as the version wants.
+// Whether there are as many Host fields as the version wants, of visible bytes.
 fn is_host(minor: u8, fields: &[Field]) -> bool
     ensures { result ≡ is_host minor (values (codes "host") fields.now) }
 {

@@ -1,4 +1,5 @@
 //! What the definitions mean beyond what a call says, each as a call that does nothing.
+ghost use Rattle.cd_wire.specs.declared.limits.TheConstants.{MAX_HEAD_BYTES, MAX_HEAD_FIELDS, MAX_BODY_BYTES, MAX_CHUNK_LINE_BYTES};
 ghost use Rattle.std.specs.Prelude.{◌≡◌, ℕ, Bool, true, false, List, [], ◌∷◌, ◌++◌, filter, IsPermutation};
 ghost use Rattle.std.specs.List.Sorted.{IsSortedByKey};
 ghost use Rattle.std.specs.Ordering.{nat_cmp};
@@ -10,6 +11,14 @@ ghost use Rattle.cd_wire.specs.declared.fault.WireFault.{WireFault};
 ghost use Rattle.cd_wire.specs.declared.fields.Field.{Field};
 ghost use Rattle.cd_wire.specs.declared.request.Request.{Request};
 
+/// The limits, which the contracts cite by name, as numbers.
+pub fn limits_are()
+    ensures head { MAX_HEAD_BYTES ≡ 16384 }
+    ensures fields { MAX_HEAD_FIELDS ≡ 64 }
+    ensures body { MAX_BODY_BYTES ≡ 1048576 }
+    ensures chunk_line { MAX_CHUNK_LINE_BYTES ≡ 1024 }
+{}
+
 /// An input has one list of requests at most, and one reason why no further one follows.
 pub fn requests_are_unique()
     ensures requests { (input : List ℕ) (ended : Bool) (requests others : List Request) (tail end : Tail)
@@ -20,10 +29,20 @@ pub fn requests_are_unique()
         → tail ≡ end }
 {}
 
+/// Each input that has ended has a list of requests and a reason why no further one follows: none is without.
+pub fn requests_exist()
+    ensures { (input : List ℕ)
+        → ¬ ((requests : List Request) (tail : Tail) → ¬ (HasRequests input true requests tail)) }
+{}
+
 /// The requests of an input stay when more bytes come, and when it ends: those of its beginning are the beginning of its own.
+/// This holds of all requests of the beginning, and of those that were taken so far.
 pub fn requests_stay()
-    ensures { (input more : List ℕ) (ended : Bool) (requests others : List Request) (tail end : Tail)
+    ensures all { (input more : List ℕ) (ended : Bool) (requests others : List Request) (tail end : Tail)
         → HasRequests input false requests tail → HasRequests (input ++ more) ended others end
+        → (later : List Request) × (others ≡ requests ++ later) }
+    ensures taken { (input more : List ℕ) (ended : Bool) (requests others : List Request) (left : List ℕ) (end : Tail)
+        → Splits input requests left → HasRequests (input ++ more) ended others end
         → (later : List Request) × (others ≡ requests ++ later) }
 {}
 

@@ -1,15 +1,16 @@
 //! The bytes of HTTP/1.1: requests from what a connection sends, and the bytes of what is answered.
 //!
-//! `Intake` takes the bytes of a connection in any pieces and gives its requests, one after another, by the definition in
-//! specs/Requests.antt: the requests of an input are a relation over all its bytes, where the grammar of a head is
-//! `httparse`'s. `requests_are_unique`, `requests_stay` and `splits_stay` are its laws. Bodies are read by their length; a
-//! coding is not known yet.
+//! `Intake` takes the bytes of a connection in any pieces and gives its requests, one after another: what a call finds is
+//! specs/Intake.antt. The requests of an input are a relation over all its bytes (specs/Requests.antt), where the grammar of
+//! a head is `httparse`'s. `requests_are_unique`, `requests_exist`, `requests_stay` and `splits_stay` are its laws. Bodies are
+//! read by their length; a coding is not known yet.
 //!
 //! `render` gives exactly the bytes that specs/Render.antt defines for an answer. `fields_go_by_name` says of the order of
 //! fields there what a reader wants to know of it. `refusal` gives the fixed answers, which take no memory.
 //!
-//! Nothing here reads or writes: the caller brings the bytes and sends them. The fields of an answer are the caller's: their
-//! values are cleaned of control bytes here, and their names are taken to be names of fields.
+//! Nothing here reads or writes: the caller brings the bytes and sends them. The fields of an answer are the caller's: those
+//! that would frame the answer are left out in any case of their names, and values are cleaned of control bytes. That a name
+//! has the form of one is left to the caller.
 #![tactic(auto)]
 
 mod answer;
@@ -35,7 +36,8 @@ pub use fault::WireFault;
 pub use fields::Field;
 pub use intake::{Intake, Next};
 pub use laws::{
-    fields_go_by_name, no_bytes_are_no_request, requests_are_unique, requests_stay, splits_stay,
+    fields_go_by_name, limits_are, no_bytes_are_no_request, requests_are_unique, requests_exist,
+    requests_stay, splits_stay,
 };
 pub use limits::{MAX_BODY_BYTES, MAX_CHUNK_LINE_BYTES, MAX_HEAD_BYTES, MAX_HEAD_FIELDS};
 pub use refusals::refusal;

@@ -1,64 +1,48 @@
 ghost use Rattle.std.specs.Prelude.{◌≡◌, ◌≤◌, ◌||◌, ◌&&◌, not, [], ◌++◌, length, IfOk, OnOk, map, filter, true, decimal, if◌then◌else◌};
-ghost use Rattle.std.specs.List.{flat_map, prefix_len};
-ghost use Rattle.cd_wire.specs.Render.{is_sent, name_le, put_by_name, by_name, titled, clean_byte, field_line, has_body, status_line, length_line, close_line, phrase_of, reason_of, render};
+ghost use Rattle.std.specs.List.{flat_map};
+ghost use Rattle.std.specs.Str.{str_to_ascii_lowercase};
+ghost use Rattle.cd_wire.specs.Render.{has_name, is_sent, by_name, titled, clean_byte, field_line, has_body, status_line, length_line, close_line, phrase_of, reason_of, render};
 
 use crate::answer::Answer;
 use crate::fields::Field;
-use cd_text::{NoMemory, Octets, Text};
+use crate::texts::is_text;
+use cd_text::{NoMemory, Octets};
 use http::StatusCode;
 use std::alloc::Global;
+
+fn has_name(field: &Field, name: &[u8]) -> bool
+    requires { str_to_ascii_lowercase name.now ≡ name.now }
+    ensures { result ≡ has_name name.now field.now }
+{
+    is_text(field.name.as_str().as_bytes(), name)
+}
 
 fn is_sent(field: &Field) -> bool
     ensures { result ≡ is_sent field.now }
 {
-    let name = &field.name;
-    !name.equals("content-length")
-        && !name.equals("connection")
-        && !name.equals("transfer-encoding")
+    !has_name(field, b"content-length")
+        && !has_name(field, b"connection")
+        && !has_name(field, b"transfer-encoding")
 }
 
-fn is_name_le(one: &Field, other: &Field) -> bool
-    ensures { result ≡ name_le one.now other.now }
+fn sent(alloc: Global, fields: &[Field]) -> Result<Vec<&Field>, NoMemory>
+    ensures { IfOk result (λ sent. map (λ f. f.now) sent.items ≡ filter is_sent fields.now) }
 {
-    one.name.cmp(&other.name).is_le()
-}
-
-// How many fields at the front have names that are not greater.
-fn place_of(sorted: &[&Field], field: &Field) -> usize
-    ensures within { result ≤ length sorted.now }
-    ensures place { result ≡ prefix_len (λ other. name_le other field.now)
-        (map (λ other. other.now) sorted.now) }
-{
-    let mut place = 0;
-    for other in sorted {
-        if !is_name_le(other, field) {
-            return place;
+    let mut sent: Vec<&Field> = Vec::new(alloc);
+    for field in fields {
+        if is_sent(field) {
+            sent.push(field)?;
         }
-        place += 1;
     }
-    place
+    Ok(sent)
 }
 
-fn put_by_name<'a>(sorted: &mut Vec<&'a Field>, field: &'a Field) -> Result<(), NoMemory>
-    ensures { OnOk result (map (λ f. f.now) sorted.new.items
-        ≡ put_by_name field.now (map (λ f. f.now) sorted.old.items)) }
-{
-    let place = place_of(sorted.as_slice(), field);
-    sorted.insert(place, field)?;
-    Ok(())
-}
-
-#[tactic(auto, using(crate::proofs::RenderLemmas::by_name_sent, crate::proofs::RenderLemmas::by_name_dropped))]
-fn by_name<'a>(alloc: Global, fields: &'a [Field]) -> Result<Vec<&'a Field>, NoMemory>
+fn by_name(alloc: Global, fields: &[Field]) -> Result<Vec<&Field>, NoMemory>
     ensures { IfOk result (λ sorted.
         map (λ f. f.now) sorted.items ≡ by_name (filter is_sent fields.now)) }
 {
-    let mut sorted: Vec<&Field> = Vec::new(alloc);
-    for field in fields {
-        if is_sent(field) {
-            put_by_name(&mut sorted, field)?;
-        }
-    }
+    let mut sorted = sent(alloc, fields)?;
+    sorted.sort_by(|one, other| one.name.cmp(&other.name))?;
     Ok(sorted)
 }
 

@@ -8,18 +8,21 @@ pub struct Request {
     pub method: Text,
     /// The target, as it stands in the head.
     pub target: Octets,
-    /// The path that the target has.
+    /// The path of the target, up to the first `?`, percent-decoded: any bytes, with dots and double slashes as sent. It is `/`
+    /// where an absolute target has no path, and `*` for the target `*`.
     pub path: Octets,
-    /// What stands behind the first `?` of the target, where it has one.
+    /// What follows the first `?` of the target, not decoded. `None` where there is no `?`, which is not the same as an empty query.
     pub query: Option<Octets>,
-    /// The host that is asked for, with its port where one is named.
+    /// The host that is asked for, with its port where one is named: the authority of an absolute target, else the value of Host.
+    /// It is empty where an HTTP/1.0 request has neither.
     pub host: Octets,
-    /// The second number of the version: 1 for HTTP/1.1.
+    /// The minor version: 1 for HTTP/1.1, 0 for HTTP/1.0.
     pub minor: u8,
-    /// The fields of the head, in their order.
+    /// The fields of the head, in their order. Host is among them as sent, also where an absolute target has another host.
     pub fields: List<Field>,
-    /// The body.
+    /// The body, which is empty where there is none: at most `MAX_BODY_BYTES`.
     pub body: Octets,
-    /// Whether the client wants the connection closed behind the answer.
+    /// Whether the client wants the connection closed after the answer: with HTTP/1.0, or by `close` in a Connection field
+    /// (RFC 9112, section 9.6).
     pub close: bool,
 }

@@ -18,10 +18,12 @@ pub(crate) enum Line {
     Over,
 }
 
-/// So many bytes were looked at, and there they stand.
+/// How far the end of a head was looked for.
 #[derive(Clone, Copy, Debug)]
 pub(crate) struct Scanned {
+    /// How many bytes were looked at.
     pub count: usize,
+    /// Where they end.
     pub line: Line,
 }
 

@@ -1,9 +1,9 @@
 //! The request at the front of an input: its head, once that has come, and then its body.
-ghost use Rattle.std.specs.Prelude.{◌≡◌, ◌≤◌, ◌<◌, ◌+◌, [], true, false, length, drop, IfOk, IfSome};
+ghost use Rattle.std.specs.Prelude.{◌≡◌, ℕ, ◌≤◌, ◌<◌, ◌+◌, List, [], true, false, nat_lt, length, drop, IfOk, IfSome};
 ghost use Rattle.cd_wire.specs.Heads.{BeginsHead};
 ghost use Rattle.cd_wire.specs.Requests.{BeginsRequest};
-ghost use Rattle.cd_wire.specs.Scanning.{scan, is_over, HasFront};
-ghost use Rattle.cd_wire.specs.Taking.{IsBegun};
+ghost use Rattle.cd_wire.specs.Scanning.{scan, is_over};
+ghost use Rattle.cd_wire.specs.Taking.{IsScanned, IsSearch, HasFront, IsKept, IsBegun};
 ghost use Rattle.cd_wire.specs.declared.scanning.Line.TheVariants as place;
 
 use crate::asking::request_of;
@@ -13,6 +13,7 @@ use crate::head::{Head, HeadRead, read_front};
 use crate::judging::judge;
 use crate::limits::MAX_HEAD_BYTES;
 use crate::request::Request;
+use crate::scanning::{Line, Scanned, is_over, scan_on};
 use crate::texts::rest_from;
 use cd_text::{NoMemory, Octets};
 use std::alloc::Global;
@@ -25,13 +26,44 @@ pub(crate) struct Front {
     pub size: usize,
 }
 
+/// How far the head at the front of an input was looked for.
+#[derive(Clone, Copy, Debug)]
+pub(crate) struct Search {
+    /// Where its end was looked for.
+    pub scanned: Scanned,
+    /// How many bytes there were when they were last parsed. They could still become a head.
+    pub parsed: usize,
+}
+
+/// What is known of the head at the front of an input.
+#[derive(Drop)]
+pub(crate) enum Known {
+    /// It has not come.
+    Search(Search),
+    /// It was read and is not refused, and its body has not come whole.
+    Front(Front),
+}
+
 /// What an input begins with: a head that is not refused, or why there is none.
 #[derive(Drop)]
 pub(crate) enum Begun {
     Front(Front),
-    More,
+    More(Search),
     End,
     Refused(WireFault),
+}
+
+/// Nothing was looked for yet.
+pub(crate) fn no_search() -> Search
+    ensures { (input : List ℕ) → IsSearch input result }
+{
+    Search {
+        scanned: Scanned {
+            count: 0,
+            line: Line::Blank,
+        },
+        parsed: 0,
+    }
 }
 
 // A head that was read, or its fault.
@@ -47,24 +79,35 @@ fn judged(bytes: &[u8], ended: bool, head: Head, len: usize) -> Begun
     }
 }
 
-// Reads the head at the front of an input that has some bytes.
-fn parse_front(alloc: Global, bytes: &[u8], ended: bool) -> Result<Begun, NoMemory>
-    requires { 0 < length bytes.now }
+// Parses the head at the front of an input that has some bytes, in which its end was looked for.
+fn parse_front(
+    alloc: Global,
+    bytes: &[u8],
+    ended: bool,
+    scanned: Scanned,
+) -> Result<Begun, NoMemory>
+    requires some { 0 < length bytes.now }
+    requires scanned { IsScanned bytes.now scanned }
     ensures { IfOk result (IsBegun bytes.now ended) }
 {
     let read = read_front(alloc, bytes)?;
     match read {
         HeadRead::Whole(head, len) => Ok(judged(bytes, ended, head, len)),
         HeadRead::Partial if ended => Ok(Begun::Refused(WireFault::BadHead)),
-        HeadRead::Partial => Ok(Begun::More),
+        HeadRead::Partial => Ok(Begun::More(Search {
+            scanned,
+            parsed: bytes.len(),
+        })),
         HeadRead::Hopeless => Ok(Begun::Refused(WireFault::BadHead)),
     }
 }
 
-// An input that has some bytes, in which no head ends.
-fn without_head(bytes: &[u8], ended: bool) -> Begun
+// An input that has some bytes, in which no head ends, and of which at least half were parsed.
+fn without_head(bytes: &[u8], ended: bool, search: Search) -> Begun
     requires some { 0 < length bytes.now }
     requires none { is_over (scan place.Blank bytes.now) ≡ false }
+    requires search { IsSearch bytes.now search }
+    requires half { length bytes.now ≤ search.parsed + search.parsed }
     ensures { IsBegun bytes.now ended result }
 {
     if ended {
@@ -73,35 +116,59 @@ fn without_head(bytes: &[u8], ended: bool) -> Begun
     if bytes.len() >= MAX_HEAD_BYTES {
         return Begun::Refused(WireFault::BadHead);
     }
-    Begun::More
+    Begun::More(search)
 }
 
 // An input without bytes.
 fn no_input(ended: bool) -> Begun
     ensures { IsBegun [] ended result }
 {
-    if ended { Begun::End } else { Begun::More }
+    if ended {
+        Begun::End
+    } else {
+        Begun::More(no_search())
+    }
 }
 
-/// What an input begins with, where no head is known yet. `over` says whether a head may have ended in it, and `due` that it
-/// is to be parsed even if not, to see whether it never becomes a head.
-pub(crate) fn find_front(
-    alloc: Global,
-    bytes: &[u8],
-    ended: bool,
-    over: bool,
-    due: bool,
-) -> Result<Begun, NoMemory>
-    requires { over ≡ false → is_over (scan place.Blank bytes.now) ≡ false }
+// Whether less than half of the bytes were parsed.
+fn is_due(len: usize, parsed: usize) -> bool
+    requires { parsed ≤ len }
+    ensures { result ≡ nat_lt (parsed + parsed) len }
+{
+    len - parsed > parsed
+}
+
+// What an input begins with, where its head was looked for so far. It is parsed where a head may have ended, and where it is
+// due, so that bytes that never become a head are refused early.
+fn search_on(alloc: Global, bytes: &[u8], ended: bool, search: Search) -> Result<Begun, NoMemory>
+    requires { IsSearch bytes.now search }
     ensures { IfOk result (IsBegun bytes.now ended) }
 {
     if bytes.is_empty() {
         return Ok(no_input(ended));
     }
-    if over || due {
-        return parse_front(alloc, bytes, ended);
+    let scanned = scan_on(bytes, search.scanned);
+    if is_over(scanned.line) || is_due(bytes.len(), search.parsed) {
+        return parse_front(alloc, bytes, ended, scanned);
     }
-    Ok(without_head(bytes, ended))
+    let parsed = search.parsed;
+    Ok(without_head(bytes, ended, Search { scanned, parsed }))
+}
+
+/// What an input begins with, where this is known of it.
+pub(crate) fn find_front(
+    alloc: Global,
+    bytes: &[u8],
+    ended: bool,
+    known: Known,
+) -> Result<Begun, NoMemory>
+    requires { IsKept bytes.now known }
+    ensures { IfOk result (IsBegun bytes.now ended) }
+{
+    match known {
+        Known::Search(search) => search_on(alloc, bytes, ended, search),
+        Known::Front(front) => Ok(Begun::Front(front)),
+    }
 }
 
 /// Whether the whole body has come.

@@ -2,4 +2,4 @@ use Rattle.cd_legal.proofs.Fresh.{legal-fresh}
 use Rattle.cd_legal.proofs.laws.legal_is_fresh.Goals as goal
 
 pub returns : goal.returns
-returns c = λ k. legal-fresh c.args.log.now k c.requires
+returns c = legal-fresh

@@ -2,4 +2,4 @@ use Rattle.cd_legal.proofs.Apart.{apart}
 use Rattle.cd_legal.proofs.laws.tickets_stand_apart.Goals as goal
 
 pub returns : goal.returns
-returns c = apart c.args.log.now
+returns c = apart

@@ -1,5 +1,5 @@
 use Rattle.std.proofs.Common.{◌≡◌, ◌≤◌, ◌-◌, length}
-use Rattle.cd_outside.specs.Pieces.{left_of, piece_at}
+use Rattle.cd_outside.specs.Places.{left_of, piece_at}
 use Rattle.cd_outside.proofs.pieces.skip.Given as goal
 
 abbrev pub invariant-loop-piece : goal.invariant-loop-piece

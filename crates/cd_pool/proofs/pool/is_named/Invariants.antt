@@ -1,7 +1,6 @@
-use Rattle.std.proofs.Common.{◌≡◌, map, drop}
+use Rattle.std.proofs.Common.{◌≡◌, drop}
 use Rattle.cd_pool.specs.Pairs.{pair_at}
-use Rattle.cd_pool.specs.Rooms.{leased}
 use Rattle.cd_pool.proofs.pool.is_named.Given as goal
 
-abbrev pub invariant-loop-room : goal.invariant-loop-room
-invariant-loop-room l = pair_at l.number (map leased l.held) ≡ pair_at l.number (map leased (drop l.room-index l.held))
+abbrev pub invariant-loop-leased : goal.invariant-loop-leased
+invariant-loop-leased l = pair_at l.number l.held ≡ pair_at l.number (drop l.leased-index l.held)

@@ -1,4 +1,6 @@
-use Rattle.std.proofs.Common.{List, ℕ, ◌≤◌, length, subst, arith}
+use Rattle.std.proofs.Common.{List, ℕ, ◌<◌, ◌≤◌, length, subst, arith}
+use Rattle.std.proofs.lemmas.List.{take_all}
+use Rattle.httparse.specs.Grammar.{MayBecomeRequest}
 use Rattle.cd_wire.specs.declared.head.HeadRead.{HeadRead}
 use Rattle.cd_wire.specs.declared.head.HeadRead.TheVariants.{Whole, Partial, Hopeless}
 use Rattle.cd_wire.specs.declared.limits.TheConstants.{MAX_HEAD_BYTES}
@@ -19,13 +21,17 @@ pub returns-then-bytes-ge-MAX_HEAD_BYTES : goal.returns-then-bytes-ge-MAX_HEAD_B
 returns-then-bytes-ge-MAX_HEAD_BYTES c =
     let read = subst (λ (t : List ℕ). IsHeadRead t Partial) c.front_of-front.ensures.value
     (subst (λ (r : HeadRead). IsHeadRead c.front_of-front.result.now r) c.in-Partial.is c.in_ok-read.ensures) in
-    never_head_when_full c.args.bytes.now c.if-bytes-ge-MAX_HEAD_BYTES.true read
+    never_head_when_full c.args.bytes.now c.if-bytes-ge-MAX_HEAD_BYTES.true read.0
 
 pub returns-else-bytes-ge-MAX_HEAD_BYTES : goal.returns-else-bytes-ge-MAX_HEAD_BYTES
 returns-else-bytes-ge-MAX_HEAD_BYTES c =
     let read = subst (λ (t : List ℕ). IsHeadRead t Partial) c.front_of-front.ensures.value
     (subst (λ (r : HeadRead). IsHeadRead c.front_of-front.result.now r) c.in-Partial.is c.in_ok-read.ensures) in
-    (c.if-bytes-ge-MAX_HEAD_BYTES.false, no_head_in_front c.args.bytes.now read)
+    let short : length c.args.bytes.now < MAX_HEAD_BYTES = c.if-bytes-ge-MAX_HEAD_BYTES.false in (
+      short,
+      no_head_in_front c.args.bytes.now read.0,
+      subst MayBecomeRequest (take_all MAX_HEAD_BYTES c.args.bytes.now (omega arith)) read.1,
+    )
 
 pub returns-in-Hopeless : goal.returns-in-Hopeless
 returns-in-Hopeless c =

@@ -22,4 +22,15 @@ returns-then-bytes-ge-MAX_HEAD_BYTES c =
 pub returns : goal.returns
 returns c =
     let none = no_head_yet c.args.bytes.now c.requires.none in
-    (c.if-ended.false, (no_head_no_request c.args.bytes.now none, inl (c.if-bytes-ge-MAX_HEAD_BYTES.false, none)))
+    let search = c.args.search in (
+      c.if-ended.false,
+      (
+        no_head_no_request c.args.bytes.now none,
+        inl (record {
+          short = c.if-bytes-ge-MAX_HEAD_BYTES.false;
+          none = none;
+          may = record { count = search.parsed; half = c.requires.half; may = c.requires.search.may };
+        }),
+      ),
+      c.requires.search,
+    )

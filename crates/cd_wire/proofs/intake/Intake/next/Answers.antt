@@ -19,7 +19,7 @@ pub returns-in-More-clause-found : goal.returns-in-More-clause-found
 returns-in-More-clause-found c =
     let is = c.rest_from-rest.ensures ∙ ap (drop c.self.inside.start) c.as_slice.ensures.value ∙ c.self.view_is in
     let here = subst (λ (b : Begun). IsBegun c.rest_from-rest.result.now c.args.ended b) c.in-More.is c.in_ok-begun.ensures in
-    let found = subst (λ (input : List ℕ). IsBegun input c.args.ended begun.More) is here in
+    let found = subst (λ (input : List ℕ). IsBegun input c.args.ended (begun.More c.in-More.search)) is here in
     (c.self.view_is, found.0, found.1)
 
 pub returns-in-Refused-clause-found : goal.returns-in-Refused-clause-found

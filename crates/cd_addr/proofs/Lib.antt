@@ -1,0 +1,4 @@
+mod Ports
+mod Cuts
+mod Hosts
+mod ReadBack

@@ -1,0 +1,19 @@
+-- What there may be only so much of in a configuration.
+use Rattle.std.specs.Prelude.{ℕ, List, codes}
+use Rattle.cd_module.specs.declared.limits.Limit.{Limit}
+use Rattle.cd_module.specs.declared.limits.Limit.TheVariants.{Modules, Addresses, Servers, ErrorSubroutes}
+use Rattle.cd_module.specs.declared.limits.TheConstants.{MAX_MODULES, MAX_ADDRESSES, MAX_SERVERS, MAX_ERROR_SUBROUTES}
+
+-- how much there may be
+abbrev pub most : Limit → ℕ
+most Modules = MAX_MODULES
+most Addresses = MAX_ADDRESSES
+most Servers = MAX_SERVERS
+most ErrorSubroutes = MAX_ERROR_SUBROUTES
+
+-- the words for it in a refusal
+abbrev pub named : Limit → List ℕ
+named Modules = codes "modules"
+named Addresses = codes "addresses"
+named Servers = codes "servers"
+named ErrorSubroutes = codes "error subroutes"
