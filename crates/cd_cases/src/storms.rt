@@ -10,9 +10,9 @@
 ghost use Rattle.cd_tree.specs.Tree.{IsSound};
 
 use crate::edits::look_at;
-use crate::keys::address_word;
 use crate::tags::tag_at;
 use crate::words::{found, number_in, put};
+use cd_addr::write;
 use cd_outside::{Call, MemoryLane};
 use cd_rows::{Outcome, RowFault, find, number_of, only, path_at, text_of};
 use cd_storm::{Storm, script};
@@ -82,7 +82,7 @@ fn put_call(alloc: Global, out: &mut Octets, call: &Call) -> Result<(), RowFault
     let [piece] = call.pieces.as_slice() else {
         return Err(RowFault::Malformed("not one piece"));
     };
-    let address = address_word(alloc, &call.address)?;
+    let address = write(alloc, &call.address)?;
     put(out, address.as_str())?;
     put(out, " ")?;
     Ok(out.append(piece.as_slice())?)
