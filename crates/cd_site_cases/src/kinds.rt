@@ -1,6 +1,7 @@
 //! The kinds of rows: each is named by a member.
 ghost use Rattle.cd_tree.specs.Tree.{IsSound};
 
+use crate::configurations::configuration_outcome;
 use crate::fill::fill_outcome;
 use crate::parts::{error_subroutes_outcome, listen_outcome, names_outcome};
 use crate::scene::scene_outcome;
@@ -74,6 +75,8 @@ fn outcome_of_part(alloc: Global, row: &Tree) -> Result<Outcome, RowFault> {
         names_outcome(alloc, row)
     } else if has(row, "error_subroutes") {
         error_subroutes_outcome(alloc, row)
+    } else if has(row, "configuration") {
+        configuration_outcome(alloc, row)
     } else {
         Err(RowFault::Malformed("no kind that is known"))
     }

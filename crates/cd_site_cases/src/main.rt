@@ -2,11 +2,12 @@
 //!
 //! The words are names of files. Each line of a file is a row (see the crate cd_rows), and a member of the row names its kind
 //! (kinds.rt). Most rows have a server or a part of one, and what is asked of it (servers.rt). Others look at a scene and at texts
-//! filled in it (fill.rt, scene.rt), at names, patterns and the words of refusals (words.rt), or at what settings say of
-//! themselves (parts.rt). data/README.md describes the rows.
+//! filled in it (fill.rt, scene.rt), at names, patterns and the words of refusals (words.rt), at what settings say of
+//! themselves (parts.rt), or at what whole configurations plan (configurations.rt). data/README.md describes the rows.
 #![tactic(auto)]
 
 mod asked;
+mod configurations;
 mod fill;
 mod kinds;
 mod parts;

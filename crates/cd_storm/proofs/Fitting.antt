@@ -2,7 +2,8 @@
 use Rattle.std.proofs.Common.{◌≡◌, ℕ, zero, suc, ◌+◌, ◌*◌, ◌≤◌, ◌<◌, List, [], ◌∷◌, ◌++◌, length, map, Bool, true, false, refl, ap, ap₂, ◌∙◌, arith}
 use Rattle.std.specs.List.{list_all, range_with_len}
 use Rattle.json.specs.Token.{end_array, end_object}
-use Rattle.cd_tree.specs.Tree.{largest, depth, joined, tokens, member_tokens, is_below, keys_rise, is_ordered, IsSound}
+use Rattle.cd_text.specs.Steps.{joined}
+use Rattle.cd_tree.specs.Tree.{largest, depth, tokens, member_tokens, is_below, keys_rise, is_ordered, IsSound}
 use Rattle.cd_tree.specs.declared.tree.Tree.{Tree}
 use Rattle.cd_tree.specs.declared.tree.Tree.TheVariants.{Text, Items}
 use Rattle.cd_tree.proofs.Inside.{both, from_parts}

@@ -1,0 +1,66 @@
+//! What whole configurations plan, and why others are refused: the modules, each with its path, and then the apps, each with the
+//! addresses that it opens; each on a line.
+use crate::servers::refused;
+use cd_addr::write;
+use cd_module::{LoadFault, Settings};
+use cd_outside::Key;
+use cd_rows::{Outcome, RowFault, bytes_at, only, tree_of};
+use cd_standard::{AppPlan, Configuration, Planned, apps_of, modules_of};
+use cd_text::{NoMemory, Octets};
+use cd_tree::{Path, Tree};
+use std::alloc::Global;
+
+pub fn configuration_outcome(alloc: Global, row: &Tree) -> Result<Outcome, RowFault> {
+    only(alloc, row, "configuration found refused")?;
+    let text = bytes_at(alloc, row, "configuration")?;
+    let tree = tree_of(alloc, text.as_slice())?;
+    match Configuration::read(alloc, &tree, &Path::root(alloc)) {
+        Ok(configuration) => Ok(planned(alloc, &configuration)?),
+        Err(LoadFault::Refused(refusal)) => refused(alloc, &refusal),
+        Err(LoadFault::NoMemory) => Err(RowFault::NoMemory),
+    }
+}
+
+fn planned(alloc: Global, configuration: &Configuration) -> Result<Outcome, NoMemory> {
+    let mut out = Octets::new(alloc);
+    let modules = modules_of(alloc, configuration)?;
+    for module in modules.as_slice() {
+        put_module(alloc, module, &mut out)?;
+    }
+    let apps = apps_of(alloc, configuration)?;
+    for app in apps.as_slice() {
+        put_app(alloc, app, &mut out)?;
+    }
+    Ok(Outcome {
+        member: "found",
+        bytes: out,
+    })
+}
+
+fn put_module(alloc: Global, module: &Planned, out: &mut Octets) -> Result<(), NoMemory> {
+    let id = module.id.to_text(alloc)?;
+    let at = module.at.to_text(alloc)?;
+    out.append(id.as_str().as_bytes())?;
+    out.push(b' ')?;
+    out.append(at.as_str().as_bytes())?;
+    out.push(b'\n')
+}
+
+fn put_app(alloc: Global, app: &AppPlan, out: &mut Octets) -> Result<(), NoMemory> {
+    out.append(app.name.as_str().as_bytes())?;
+    for key in app.keys.as_slice() {
+        put_key(alloc, key, out)?;
+    }
+    out.push(b'\n')
+}
+
+fn put_key(alloc: Global, key: &Key, out: &mut Octets) -> Result<(), NoMemory> {
+    out.push(b' ')?;
+    match key {
+        Key::Listen(address) => {
+            let address = write(alloc, address)?;
+            out.append(address.as_str().as_bytes())
+        }
+        Key::Writer(name) => out.append(name.as_str().as_bytes()),
+    }
+}

@@ -1,0 +1,4 @@
+pub mod Adding
+pub mod Levels
+pub mod Keys
+pub mod Examples

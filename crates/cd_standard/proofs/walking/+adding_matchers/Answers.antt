@@ -1,0 +1,26 @@
+use Rattle.std.proofs.Common.{◌∷◌, ◌++◌, [], codes, ap, sym, ◌∙◌, arith}
+use Rattle.std.specs.List.{flat_map}
+use Rattle.cd_tree.specs.Path.{◌▸◌}
+use Rattle.cd_standard.specs.Plans.{matcher_modules}
+use Rattle.cd_standard.specs.Walking.{in_matcher}
+use Rattle.cd_standard.proofs.Adding.{members_done, module_and_inside}
+use Rattle.cd_standard.proofs.Levels.{matcher_modules_is, set_modules_is}
+use Rattle.cd_standard.proofs.walking.+adding_matchers.Goals as goal
+
+pub add_matcher-returns-clause-added : goal.add_matcher-returns-clause-added
+add_matcher-returns-clause-added t c =
+    let m = c.args.matcher.now in
+    let at = c.args.at.now in
+    let is = c.name-name.ensures in
+    module_and_inside (in_matcher m) _ _ _ _ _ _ _ c.in_ok-add_module.ensures c.in_ok-add_inside.ensures.added
+    (c.in_ok-labels.ensures ∙ ap (λ n. codes "http" ∷ codes "matchers" ∷ n ∷ []) is)
+    (c.in_ok-enter.ensures ∙ ap (λ n. at ▸ n) is)
+    ∙ ap (λ r. c.args.out.now ++ r) (sym (matcher_modules_is m at))
+
+pub add_set-returns-clause-added : goal.add_set-returns-clause-added
+add_set-returns-clause-added t c =
+    let s = c.args.set.now in
+    let at = c.args.at.now in
+    members_done (λ m. matcher_modules m c.loop-matcher.at) c.as_slice-matcher-items.result.now c.loop-matcher.matcher-index _ _ (omega (arith, c.loop-matcher-test.false)) c.loop-matcher.invariant.added
+    ∙ ap (λ ms. c.args.out.now ++ flat_map (λ m. matcher_modules m at) ms) c.as_slice-matcher-items.ensures
+    ∙ ap (λ r. c.args.out.now ++ r) (sym (set_modules_is s at))

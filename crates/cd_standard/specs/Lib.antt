@@ -1,0 +1,5 @@
+pub mod Configuration
+pub mod Plans
+pub mod Loading
+pub mod Walking
+pub mod Listening

@@ -1,0 +1,163 @@
+-- The modules and the apps of a configuration, in the order in which they are made and started.
+use Rattle.std.specs.Prelude.{ℕ, suc, if◌then◌else◌, List, [], ◌∷◌, ◌++◌, map, codes, decimal, Option, Some, None, option_map}
+use Rattle.std.specs.List.{flat_map}
+use Rattle.cd_tree.specs.Path.{◌▸◌}
+use Rattle.cd_tree.specs.declared.path.Path.{Path}
+use Rattle.cd_outside.specs.declared.address.Address.{Address}
+use Rattle.cd_outside.specs.declared.key.Key.TheVariants as key
+use Rattle.cd_match.specs.Names.{kind_name, kind_layer}
+use Rattle.cd_match.specs.declared.matcher.Matcher.TheOpen.{Matcher-F, MatcherSet-F, NotMatcher-F}
+use Rattle.cd_match.specs.declared.matcher.Matcher.{Matcher, fold-Matcher}
+use Rattle.cd_match.specs.declared.matcher.MatcherSet.{MatcherSet, fold-MatcherSet}
+use Rattle.cd_handlers.specs.Names.{handler_name}
+use Rattle.cd_routes.specs.Names.{subroute_name}
+use Rattle.cd_routes.specs.declared.listen.Listen.{Listen}
+use Rattle.cd_routes.specs.declared.route.Route.{Route, Route-F, fold-Route}
+use Rattle.cd_routes.specs.declared.route.Step.{Step, fold-Step}
+use Rattle.cd_routes.specs.declared.route.Step.TheOpen.{Step-F, Subroute-F}
+use Rattle.cd_routes.specs.declared.server.Server.{Server}
+use Rattle.cd_standard.specs.declared.admin.Admin.{Admin}
+use Rattle.cd_standard.specs.declared.app.App.{App}
+use Rattle.cd_standard.specs.declared.app.App.TheVariants.{Echo, Http}
+use Rattle.cd_standard.specs.declared.configuration.Configuration.{Configuration}
+use Rattle.cd_standard.specs.declared.plan.AppPlan.{AppPlan}
+use Rattle.cd_standard.specs.declared.plan.Plan.{Plan}
+use Rattle.cd_standard.specs.declared.plan.Planned.{Planned}
+
+-- ---- modules
+
+-- the modules in a value, by the path of the value
+abbrev pub Modules : Type 0
+Modules = Path → List Planned
+
+-- those in the elements of a list, from this place on
+abbrev pub in_elements : ℕ → List Modules → Modules
+in_elements place [] at = []
+in_elements place (first ∷ others) at = first (at ▸ decimal place) ++ in_elements (suc place) others at
+
+-- a module that opens nothing
+abbrev pub planned : List (List ℕ) → Path → Planned
+planned labels at = record { id = record { labels = labels }; at = at; keys = [] }
+
+-- ---- the modules of a route's matchers: a `not` before those of its sets
+
+abbrev pub inside_matcher : Matcher-F Modules Modules Modules → Modules
+inside_matcher (Matcher-F.Host m) at = []
+inside_matcher (Matcher-F.Path m) at = []
+inside_matcher (Matcher-F.Method m) at = []
+inside_matcher (Matcher-F.Header m) at = []
+inside_matcher (Matcher-F.Query m) at = []
+inside_matcher (Matcher-F.Vars m) at = []
+inside_matcher (Matcher-F.Not sets) at = sets at
+
+-- a matcher is the member of its set that has its name
+abbrev pub matcher_level : Matcher-F Modules Modules Modules → Modules
+matcher_level m at =
+    let name = kind_name (kind_layer m) in
+    planned (codes "http" ∷ codes "matchers" ∷ name ∷ []) (at ▸ name) ∷ inside_matcher m (at ▸ name)
+
+abbrev pub set_level : MatcherSet-F Modules Modules Modules → Modules
+set_level set at = flat_map (λ m. m at) set.matchers
+
+abbrev pub not_level : NotMatcher-F Modules Modules Modules → Modules
+not_level none at = in_elements 0 none.sets at
+
+unfoldable pub matcher_modules : Matcher → Modules
+matcher_modules = fold-Matcher Modules Modules Modules matcher_level set_level not_level
+
+unfoldable pub set_modules : MatcherSet → Modules
+set_modules = fold-MatcherSet Modules Modules Modules matcher_level set_level not_level
+
+-- ---- the modules of a route: its matchers, then its handlers; a subroute before its routes, and those before its errors
+
+abbrev pub handler_module : List ℕ → Path → Planned
+handler_module name at = planned (codes "http" ∷ codes "handlers" ∷ name ∷ []) at
+
+abbrev pub step_level : Step-F Modules Modules Modules → Modules
+step_level (Step-F.Handler handler) at = handler_module (handler_name handler) at ∷ []
+step_level (Step-F.Subroute inside) at = handler_module subroute_name at ∷ inside at
+
+abbrev pub route_level : Route-F Modules Modules Modules → Modules
+route_level route at = in_elements 0 (map set_modules route.matching.sets) (at ▸ codes "match") ++ in_elements 0 route.handle (at ▸ codes "handle")
+
+-- the routes of an `errors`, if there is one
+abbrev pub in_errors : Option (List Modules) → Modules
+in_errors None at = []
+in_errors (Some routes) at = in_elements 0 routes (at ▸ codes "errors" ▸ codes "routes")
+
+abbrev pub subroute_level : Subroute-F Modules Modules Modules → Modules
+subroute_level inside at = in_elements 0 inside.routes (at ▸ codes "routes") ++ in_errors inside.errors at
+
+unfoldable pub step_modules : Step → Modules
+step_modules = fold-Step Modules Modules Modules step_level route_level subroute_level
+
+unfoldable pub route_modules : Route → Modules
+route_modules = fold-Route Modules Modules Modules step_level route_level subroute_level
+
+-- ---- the modules of a server and of an app
+
+abbrev pub routes_modules : List Route → Modules
+routes_modules routes = in_elements 0 (map route_modules routes)
+
+abbrev pub errors_modules : Option (List Route) → Modules
+errors_modules errors = in_errors (option_map (map route_modules) errors)
+
+-- its routes, then its error routes; a server itself is no module
+abbrev pub server_modules : Path → Server → List Planned
+server_modules servers s = routes_modules s.routes (servers ▸ s.name ▸ codes "routes") ++ errors_modules s.errors (servers ▸ s.name)
+
+abbrev pub app_name : App → List ℕ
+app_name (Echo echo) = codes "echo"
+app_name (Http http) = codes "http"
+
+abbrev pub inside_app : App → Modules
+inside_app (Echo echo) at = []
+inside_app (Http http) at = flat_map (server_modules (at ▸ codes "servers")) http.servers
+
+abbrev pub app_modules : Path → App → List Planned
+app_modules apps app = planned (app_name app ∷ []) (apps ▸ app_name app) ∷ inside_app app (apps ▸ app_name app)
+
+abbrev pub root : Path
+root = record { parts = [] }
+
+-- app after app
+abbrev pub modules_of : Configuration → List Planned
+modules_of c = flat_map (app_modules (root ▸ codes "apps")) c.apps
+
+-- ---- what is listened on
+
+-- an address with the path of its text
+abbrev pub Listened : Type 0
+Listened = Address × Path
+
+-- text by text, and port by port
+abbrev pub listen_addresses : Listen → List Listened
+listen_addresses listen = flat_map (λ text. map (λ address. (address, text.at)) text.addresses) listen.texts
+
+-- server after server
+abbrev pub app_addresses : App → List Listened
+app_addresses (Echo echo) = listen_addresses echo.listen
+app_addresses (Http http) = flat_map (λ server. listen_addresses server.listen) http.servers
+
+-- the admin API counts as an app, unless it is disabled
+abbrev pub admin_addresses : Admin → List Listened
+admin_addresses admin = if admin.disabled then [] else (admin.listen, root ▸ codes "admin" ▸ codes "listen") ∷ []
+
+-- all addresses, in the order in which they are opened
+abbrev pub addresses_of : Configuration → List Listened
+addresses_of c = admin_addresses c.admin ++ flat_map app_addresses c.apps
+
+-- ---- apps
+
+abbrev pub app_plan : List ℕ → List Listened → AppPlan
+app_plan name addresses = record { name = name; keys = map (λ one. key.Listen one.0) addresses }
+
+abbrev pub admin_plans : Admin → List AppPlan
+admin_plans admin = if admin.disabled then [] else app_plan (codes "admin") (admin_addresses admin) ∷ []
+
+-- the admin API, then app after app
+abbrev pub apps_of : Configuration → List AppPlan
+apps_of c = admin_plans c.admin ++ map (λ app. app_plan (app_name app) (app_addresses app)) c.apps
+
+abbrev pub plan_of : Configuration → Plan
+plan_of c = record { modules = modules_of c; apps = apps_of c }

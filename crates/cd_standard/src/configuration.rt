@@ -1,0 +1,69 @@
+ghost use Rattle.std.specs.Prelude.{◌≡◌, IfOk};
+ghost use Rattle.cd_standard.specs.Configuration.{apps, apps_or_none, configuration, admin_or_usual};
+
+use crate::admin::Admin;
+use crate::app::App;
+use cd_module::{LoadFault, Settings, fields_of, object_by_name, optional};
+use cd_text::{List, NoMemory};
+use cd_tree::{Path, Tree};
+use std::alloc::Global;
+
+/// What a whole configuration says (Caddy, JSON Config Structure).
+#[derive(Debug, Drop)]
+pub struct Configuration {
+    pub admin: Admin,
+    /// By rising name.
+    pub apps: List<App>,
+}
+
+// An object of apps.
+#[derive(Debug, Drop)]
+struct Apps {
+    apps: List<App>,
+}
+
+impl Settings for Apps {
+    ghost reader = { apps };
+
+    #[tactic(auto, unfolding(crate::specs::Configuration::apps))]
+    fn read(alloc: Global, tree: &Tree, at: &Path) -> Result<Apps, LoadFault> {
+        let apps = object_by_name::<App>(alloc, tree, at)?;
+        Ok(Apps { apps })
+    }
+}
+
+fn apps_or_none(alloc: Global, given: Option<Apps>) -> List<App>
+    ensures { result ≡ apps_or_none given }
+{
+    match given {
+        Some(found) => {
+            let Apps { apps } = found;
+            apps
+        }
+        None => List::new(alloc),
+    }
+}
+
+fn admin_or_usual(alloc: Global, given: Option<Admin>) -> Result<Admin, NoMemory>
+    ensures { IfOk result (λ made. made ≡ admin_or_usual given) }
+{
+    match given {
+        Some(admin) => Ok(admin),
+        None => Admin::usual(alloc),
+    }
+}
+
+impl Settings for Configuration {
+    ghost reader = { configuration };
+
+    #[tactic(auto, unfolding(crate::specs::Configuration::configuration))]
+    fn read(alloc: Global, tree: &Tree, at: &Path) -> Result<Configuration, LoadFault> {
+        let fields = fields_of(alloc, tree, at, "admin apps")?;
+        let admin = optional::<Admin>(alloc, &fields, at, "admin")?;
+        let apps = optional::<Apps>(alloc, &fields, at, "apps")?;
+        Ok(Configuration {
+            admin: admin_or_usual(alloc, admin)?,
+            apps: apps_or_none(alloc, apps),
+        })
+    }
+}

@@ -1,0 +1,28 @@
+//! The standard modules: what a whole configuration says, its first fault, and its plan of modules and apps.
+//!
+//! `Configuration` is read out of a tree as all settings are (specs/Configuration.antt): `admin`, and `apps` with `echo` and
+//! `http`. What a configuration plans is in specs/Plans.antt: which modules are made, and which apps are started, each in its
+//! order, with what each opens. `loaded` of specs/Loading.antt says what a tree comes to: a plan, or the first fault in this
+//! order: no object, ids, the settings, limits, addresses that are listened on twice.
+//!
+//! What modules do once they are made is left to the crates of the modules.
+#![tactic(auto)]
+
+mod admin;
+mod app;
+mod configuration;
+mod echo;
+mod http;
+mod listening;
+mod plan;
+mod planning;
+mod walking;
+
+pub use admin::Admin;
+pub use app::App;
+pub use configuration::Configuration;
+pub use echo::Echo;
+pub use http::Http;
+pub use listening::apps_of;
+pub use plan::{AppPlan, Plan, Planned};
+pub use planning::modules_of;

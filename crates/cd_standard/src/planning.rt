@@ -1,0 +1,90 @@
+//! The modules and the apps of a configuration.
+ghost use Rattle.std.specs.Prelude.{◌≡◌, ◌∷◌, ◌++◌, [], codes, IfOk, OnOk};
+ghost use Rattle.std.specs.List.{flat_map};
+ghost use Rattle.cd_standard.specs.Plans.{app_name, app_modules, inside_app, modules_of};
+
+use crate::app::App;
+use crate::configuration::Configuration;
+use crate::plan::Planned;
+use crate::walking::{add_module, add_servers, enter, leave};
+use cd_text::{List, NoMemory, Text};
+use cd_tree::Path;
+use std::alloc::Global;
+
+impl App {
+    /// The name of the app, which is the id of its module.
+    pub fn name(&self) -> &'static str
+        ensures { result.now ≡ app_name self.now }
+    {
+        match self {
+            App::Echo(_) => "echo",
+            App::Http(_) => "http",
+        }
+    }
+}
+
+/// The modules of a configuration, in the order in which instances are made.
+pub fn modules_of(alloc: Global, configuration: &Configuration) -> Result<List<Planned>, NoMemory>
+    ensures { IfOk result (λ made. made ≡ modules_of configuration.now) }
+{
+    let mut out = List::new(alloc);
+    let mut at = Path::root(alloc);
+    enter(alloc, &mut at, "apps")?;
+    add_apps(alloc, configuration.apps.as_slice(), &mut at, &mut out)?;
+    Ok(out)
+}
+
+fn add_apps(
+    alloc: Global,
+    apps: &[App],
+    at: &mut Path,
+    out: &mut List<Planned>,
+) -> Result<(), NoMemory>
+    ensures { OnOk result (out.new ≡ out.old ++ flat_map (app_modules at.old) apps.now) }
+{
+    for app in apps {
+        add_app(alloc, app, at, out)?;
+    }
+    Ok(())
+}
+
+fn add_app(alloc: Global, app: &App, at: &mut Path, out: &mut List<Planned>) -> Result<(), NoMemory>
+    ensures added { OnOk result (out.new ≡ out.old ++ app_modules at.old app.now) }
+    ensures path { OnOk result (at.new ≡ at.old) }
+{
+    let name = app.name();
+    enter(alloc, at, name)?;
+    add_module(alloc, label(alloc, name)?, at, out)?;
+    add_inside(alloc, app, at, out)?;
+    leave(at);
+    Ok(())
+}
+
+fn label(alloc: Global, name: &str) -> Result<List<Text>, NoMemory>
+    ensures { IfOk result (λ made. made ≡ name.now ∷ []) }
+{
+    let mut labels = List::new(alloc);
+    labels.push(Text::from_str(alloc, name)?)?;
+    Ok(labels)
+}
+
+// What is inside an app.
+fn add_inside(
+    alloc: Global,
+    app: &App,
+    at: &mut Path,
+    out: &mut List<Planned>,
+) -> Result<(), NoMemory>
+    ensures added { OnOk result (out.new ≡ out.old ++ inside_app app.now at.old) }
+    ensures path { OnOk result (at.new ≡ at.old) }
+{
+    match app {
+        App::Echo(_) => Ok(()),
+        App::Http(http) => {
+            enter(alloc, at, "servers")?;
+            add_servers(alloc, http.servers.as_slice(), at, out)?;
+            leave(at);
+            Ok(())
+        }
+    }
+}
