@@ -5,13 +5,14 @@ use Rattle.cd_outside.specs.declared.key.Key.{Key}
 use Rattle.cd_outside.specs.declared.holder.Holder.{Holder}
 use Rattle.cd_outside.specs.Keys.{holder_eq, bool_eq}
 use Rattle.cd_tree.specs.declared.tree.Tree.{Tree}
+use Rattle.cd_legal.specs.declared.part.Part.TheVariants.{Instance, App}
 use Rattle.cd_legal.specs.declared.plan.Plan.{Plan}
 use Rattle.cd_legal.specs.declared.entry.Entry.{Entry}
 use Rattle.cd_legal.specs.declared.entry.Entry.TheVariants.{Draft, Made, Started, Publish, Abandon, Stopped, Cleaned}
 use Rattle.cd_legal.specs.declared.state.State.{State}
 use Rattle.cd_legal.specs.declared.state.Drafted.{Drafted}
 use Rattle.cd_legal.specs.State.{opening_state, holds, change_at, is_live, instance_of, app_of, new_draft}
-use Rattle.cd_legal.specs.Legal.{allowed, after, legal_from, legal, state_from, state_of, may_make, may_start, may_stop, may_clean, is_complete}
+use Rattle.cd_legal.specs.Legal.{allowed, after, legal_from, legal, state_from, state_of, may_open, may_stop, may_clean, is_complete}
 use Rattle.cd_legal.specs.Whole.{begun}
 use Rattle.cd_legal.proofs.Histories.{first, second}
 use Rattle.cd_legal.proofs.Facts.{makes, starts, can}
@@ -97,8 +98,8 @@ started_one false p a failed x e = plus_none _ _ refl
 module _ (h : Holder) where
   step : (s : State) (e : Entry) → allowed s e ≡ true → begun_in h (after s e) ≡ begun h (e ∷ []) + begun_in h s
   step s (Draft d tree plan) may = plus_none _ _ (pushed (begun_by h.app h.place) (new_draft tree plan) (none_made h.app h.place tree plan) s.drafts h.draft)
-  step s (Made d i taken failed) may = one_more (begun_by h.app h.place) h (instance_of d i) (may_make i taken failed s.pairs) _ (λ x m. made_one h.app h.place i failed x (makes i taken failed s.pairs x m).next) s.drafts may
-  step s (Started d a taken failed) may = one_more (begun_by h.app h.place) h (app_of d a) (may_start a taken failed s.pairs) _ (λ x m. started_one h.app h.place a failed x (starts a taken failed s.pairs x m).next) s.drafts may
+  step s (Made d i taken failed) may = one_more (begun_by h.app h.place) h (instance_of d i) (may_open Instance i taken failed s.pairs) _ (λ x m. made_one h.app h.place i failed x (makes i taken failed s.pairs x m).next) s.drafts may
+  step s (Started d a taken failed) may = one_more (begun_by h.app h.place) h (app_of d a) (may_open App a taken failed s.pairs) _ (λ x m. started_one h.app h.place a failed x (starts a taken failed s.pairs x m).next) s.drafts may
   step s (Publish d n from c) may = plus_none _ _ (kept (begun_by h.app h.place) is_complete _ (λ x m. refl) s.drafts d h.draft (can s (Publish d n from c) may).complete)
   step s (Abandon d) may = plus_none _ _ (kept (begun_by h.app h.place) (λ x. is_live x.life) _ (λ x m. refl) s.drafts d h.draft may)
   step s (Stopped d a) may = plus_none _ _ (kept (begun_by h.app h.place) (may_stop a s.serial) _ (λ x m. refl) s.drafts d h.draft may)

@@ -6,13 +6,14 @@ use Rattle.cd_outside.specs.declared.holder.Holder.{Holder}
 use Rattle.cd_outside.specs.declared.holder.Pair.{Pair}
 use Rattle.cd_outside.specs.Keys.{holder_eq, bool_eq}
 use Rattle.cd_tree.specs.declared.tree.Tree.{Tree}
+use Rattle.cd_legal.specs.declared.part.Part.TheVariants.{Instance, App}
 use Rattle.cd_legal.specs.declared.plan.Plan.{Plan}
 use Rattle.cd_legal.specs.declared.entry.Entry.{Entry}
 use Rattle.cd_legal.specs.declared.entry.Entry.TheVariants.{Draft, Made, Started, Publish, Abandon, Stopped, Cleaned}
 use Rattle.cd_legal.specs.declared.state.State.{State}
 use Rattle.cd_legal.specs.declared.state.Drafted.{Drafted}
 use Rattle.cd_legal.specs.State.{opening_state, is_live, instance_of, app_of, new_draft}
-use Rattle.cd_legal.specs.Legal.{allowed, after, legal_from, legal, state_from, state_of, may_make, may_start, may_stop, may_clean, is_complete}
+use Rattle.cd_legal.specs.Legal.{allowed, after, legal_from, legal, state_from, state_of, may_open, may_stop, may_clean, is_complete}
 use Rattle.cd_legal.specs.Whole.{ended}
 use Rattle.cd_legal.proofs.Histories.{first, second}
 use Rattle.cd_legal.proofs.Facts.{makes, starts, stops, cleans, can}
@@ -53,12 +54,12 @@ still_none : (p m e : ℕ) → e ≡ 0 → past p (m + 1) e ≡ past p m e
 still_none p m e none = not_past p (m + 1) e none ∙ sym (not_past p m e none)
 
 -- one more instance of a sound draft
-made_one : (bound i taken : ℕ) (failed : Option Key) (ps : List Pair) (app : Bool) (p : ℕ) (x : Drafted) → (is_sound bound x && may_make i taken failed ps x) ≡ true → ended_by app p (Some (record x { made = x.made + 1; failed = failed })) ≡ ended_by app p (Some x)
+made_one : (bound i taken : ℕ) (failed : Option Key) (ps : List Pair) (app : Bool) (p : ℕ) (x : Drafted) → (is_sound bound x && may_open Instance i taken failed ps x) ≡ true → ended_by app p (Some (record x { made = x.made + 1; failed = failed })) ≡ ended_by app p (Some x)
 made_one bound i taken failed ps true p x m = refl
 made_one bound i taken failed ps false p x m = still_none p x.made x.cleaned (live_whole bound x (makes i taken failed ps x (second (is_sound bound x) _ m)).opened.live (first (is_sound bound x) _ m)).1
 
 -- one more app
-started_one : (bound a taken : ℕ) (failed : Option Key) (ps : List Pair) (app : Bool) (p : ℕ) (x : Drafted) → (is_sound bound x && may_start a taken failed ps x) ≡ true → ended_by app p (Some (record x { started = x.started + 1; failed = failed })) ≡ ended_by app p (Some x)
+started_one : (bound a taken : ℕ) (failed : Option Key) (ps : List Pair) (app : Bool) (p : ℕ) (x : Drafted) → (is_sound bound x && may_open App a taken failed ps x) ≡ true → ended_by app p (Some (record x { started = x.started + 1; failed = failed })) ≡ ended_by app p (Some x)
 started_one bound a taken failed ps true p x m = still_none p x.started x.stopped (live_whole bound x (starts a taken failed ps x (second (is_sound bound x) _ m)).opened.live (first (is_sound bound x) _ m)).0
 started_one bound a taken failed ps false p x m = refl
 
@@ -83,8 +84,8 @@ cleaned_one i retired false p x m = past_more p i x.cleaned x.made (cleans i ret
 -- what one entry ends
 step : (h : Holder) (s : State) (e : Entry) → are_sound s ≡ true → allowed s e ≡ true → ended_in h (after s e) ≡ ended h (e ∷ []) + ended_in h s
 step h s (Draft d tree plan) all may = plus_none _ _ (pushed (ended_by h.app h.place) (new_draft tree plan) (new_past h.app h.place tree plan) s.drafts h.draft)
-step h s (Made d i taken failed) all may = plus_none _ _ (kept (ended_by h.app h.place) (λ x. is_sound (bound_of s) x && may_make i taken failed s.pairs x) _ (made_one (bound_of s) i taken failed s.pairs h.app h.place) s.drafts d h.draft (sound_at s d (may_make i taken failed s.pairs) all may))
-step h s (Started d a taken failed) all may = plus_none _ _ (kept (ended_by h.app h.place) (λ x. is_sound (bound_of s) x && may_start a taken failed s.pairs x) _ (started_one (bound_of s) a taken failed s.pairs h.app h.place) s.drafts d h.draft (sound_at s d (may_start a taken failed s.pairs) all may))
+step h s (Made d i taken failed) all may = plus_none _ _ (kept (ended_by h.app h.place) (λ x. is_sound (bound_of s) x && may_open Instance i taken failed s.pairs x) _ (made_one (bound_of s) i taken failed s.pairs h.app h.place) s.drafts d h.draft (sound_at s d (may_open Instance i taken failed s.pairs) all may))
+step h s (Started d a taken failed) all may = plus_none _ _ (kept (ended_by h.app h.place) (λ x. is_sound (bound_of s) x && may_open App a taken failed s.pairs x) _ (started_one (bound_of s) a taken failed s.pairs h.app h.place) s.drafts d h.draft (sound_at s d (may_open App a taken failed s.pairs) all may))
 step h s (Publish d n from c) all may = plus_none _ _ (kept (ended_by h.app h.place) is_complete _ (λ x m. refl) s.drafts d h.draft (can s (Publish d n from c) may).complete)
 step h s (Abandon d) all may = plus_none _ _ (kept (ended_by h.app h.place) (λ x. is_live x.life) _ (λ x m. refl) s.drafts d h.draft may)
 step h s (Stopped d a) all may = one_more (ended_by h.app h.place) h (app_of d a) (may_stop a s.serial) _ (stopped_one a s.serial h.app h.place) s.drafts may

@@ -1,20 +1,23 @@
 -- What each entry asks, fact by fact: these follow from `allowed`, and `allowed` from these.
-use Rattle.std.proofs.Common.{◌≡◌, ◌<◌, ℕ, ◌+◌, ◌==◌, Bool, true, false, not, nat_lt, List, length, slice_get, Option, Some, None, refl, ap, ◌∙◌, arith, eq-eqb}
+use Rattle.std.proofs.Common.{◌≡◌, ◌<◌, ℕ, zero, suc, ◌+◌, ◌==◌, Bool, true, false, not, nat_lt, List, [], ◌∷◌, length, map, slice_get, Option, Some, None, refl, ap, ◌∙◌, arith, eq-eqb}
 use Rattle.std.specs.Prelude.{is_none}
 use Rattle.std.proofs.lemmas.Bool.{eqb-true}
 use Rattle.std.proofs.lemmas.Bool.Decides.{nat_tests}
 use Rattle.cd_outside.specs.declared.key.Key.{Key}
 use Rattle.cd_outside.specs.declared.holder.Pair.{Pair}
 use Rattle.cd_outside.specs.Keys.{keys_in}
+use Rattle.cd_legal.specs.declared.part.Part.TheVariants.{Instance, App}
 use Rattle.cd_legal.specs.declared.limits.TheConstants.{MAX_DRAFTS}
 use Rattle.cd_legal.specs.declared.entry.Entry.{Entry}
 use Rattle.cd_legal.specs.declared.entry.Entry.TheVariants.{Draft, Made, Started, Publish, Abandon, Stopped, Begin, Finish, Retire, Cleaned, Halt}
+use Rattle.cd_legal.specs.declared.plan.PlanModule.{PlanModule}
+use Rattle.cd_legal.specs.declared.plan.PlanApp.{PlanApp}
 use Rattle.cd_legal.specs.declared.state.State.{State}
 use Rattle.cd_legal.specs.declared.state.Drafted.{Drafted}
 use Rattle.cd_legal.specs.declared.state.Life.{Life}
 use Rattle.cd_legal.specs.declared.state.Life.TheVariants.{Live, Published, Abandoned}
 use Rattle.cd_legal.specs.State.{holds, has_number, keys_at, module_keys, app_keys, is_live, may_stop_apps, may_clean_instances, all_stopped, apps_stopped, has_ticket, is_ticketed}
-use Rattle.cd_legal.specs.Legal.{keys_fit, is_open, may_make, may_start, is_complete, may_stop, may_clean, allowed}
+use Rattle.cd_legal.specs.Legal.{keys_fit, is_open, may_open, is_complete, may_stop, may_clean, allowed}
 use Rattle.cd_legal.proofs.Histories.{both, first, second}
 
 -- ---- tests
@@ -41,6 +44,17 @@ live-is Abandoned e = cc
 none-is : (o : Option Key) → is_none o ≡ true → o ≡ None
 none-is None e = refl
 none-is (Some key) e = cc
+
+-- what holds of the keys at a place, which is there
+in_place : {A : Type 0} (f : A → List Key) (test : List Key → Bool) (xs : List A) (i : ℕ) → holds test (slice_get (map f xs) i) ≡ true → (i < length xs) × (test (keys_at (map f xs) i) ≡ true)
+in_place f test [] i h = absurd (let e : false ≡ true = h in cc)
+in_place f test (x ∷ xs) zero h = (omega arith, h)
+in_place f test (x ∷ xs) (suc i) h = let (within, fit) = in_place f test xs i h in (omega arith, fit)
+
+in_place-by : {A : Type 0} (f : A → List Key) (test : List Key → Bool) (xs : List A) (i : ℕ) → i < length xs → test (keys_at (map f xs) i) ≡ true → holds test (slice_get (map f xs) i) ≡ true
+in_place-by f test [] i within fit = absurd (omega arith)
+in_place-by f test (x ∷ xs) zero within fit = fit
+in_place-by f test (x ∷ xs) (suc i) within fit = in_place-by f test xs i (omega arith) fit
 
 -- ---- a draft
 
@@ -103,37 +117,38 @@ opens x m = record { live = live-is x.life (first (is_live x.life) _ m); unfaile
 pub is_open-by : (x : Drafted) → IsOpen x → is_open x ≡ true
 is_open-by x f = both (is_live x.life) _ (ap is_live f.live) (ap is_none f.unfailed)
 
-pub makes : (i taken : ℕ) (failed : Option Key) (ps : List Pair) (x : Drafted) → may_make i taken failed ps x ≡ true → Makes i taken failed ps x
+pub makes : (i taken : ℕ) (failed : Option Key) (ps : List Pair) (x : Drafted) → may_open Instance i taken failed ps x ≡ true → Makes i taken failed ps x
 makes i taken failed ps x m =
     let a = second (is_open x) _ m in
-    let b = second (i == x.made) _ a in record {
+    let b = in_place (λ (m : PlanModule). m.keys) (λ ks. keys_fit (keys_in ps) ks taken failed) x.plan.modules i (second (i == x.made) _ a) in record {
       opened = opens x (first (is_open x) _ m);
       next = eqb-true i x.made (first (i == x.made) _ a);
-      within = is-less i (length x.plan.modules) (first (nat_lt i (length x.plan.modules)) _ b);
-      fit = second (nat_lt i (length x.plan.modules)) _ b;
+      within = b.0;
+      fit = b.1;
     }
 
-pub may_make-by : (i taken : ℕ) (failed : Option Key) (ps : List Pair) (x : Drafted) → Makes i taken failed ps x → may_make i taken failed ps x ≡ true
-may_make-by i taken failed ps x f =
-    both (is_open x) _ (is_open-by x f.opened) (both (i == x.made) _ (eq-eqb i x.made f.next) (both (nat_lt i (length x.plan.modules)) _ (less-is i (length x.plan.modules) f.within) f.fit))
+pub makes-by : (i taken : ℕ) (failed : Option Key) (ps : List Pair) (x : Drafted) → Makes i taken failed ps x → may_open Instance i taken failed ps x ≡ true
+makes-by i taken failed ps x f =
+    both (is_open x) _ (is_open-by x f.opened)
+    (both (i == x.made) _ (eq-eqb i x.made f.next) (in_place-by (λ (m : PlanModule). m.keys) (λ ks. keys_fit (keys_in ps) ks taken failed) x.plan.modules i f.within f.fit))
 
-pub starts : (a taken : ℕ) (failed : Option Key) (ps : List Pair) (x : Drafted) → may_start a taken failed ps x ≡ true → Starts a taken failed ps x
+pub starts : (a taken : ℕ) (failed : Option Key) (ps : List Pair) (x : Drafted) → may_open App a taken failed ps x ≡ true → Starts a taken failed ps x
 starts a taken failed ps x m =
     let p = second (is_open x) _ m in
     let q = second (x.made == length x.plan.modules) _ p in
-    let r = second (a == x.started) _ q in record {
+    let r = in_place (λ (z : PlanApp). z.keys) (λ ks. keys_fit (keys_in ps) ks taken failed) x.plan.apps a (second (a == x.started) _ q) in record {
       opened = opens x (first (is_open x) _ m);
       made = eqb-true x.made (length x.plan.modules) (first (x.made == length x.plan.modules) _ p);
       next = eqb-true a x.started (first (a == x.started) _ q);
-      within = is-less a (length x.plan.apps) (first (nat_lt a (length x.plan.apps)) _ r);
-      fit = second (nat_lt a (length x.plan.apps)) _ r;
+      within = r.0;
+      fit = r.1;
     }
 
-pub may_start-by : (a taken : ℕ) (failed : Option Key) (ps : List Pair) (x : Drafted) → Starts a taken failed ps x → may_start a taken failed ps x ≡ true
-may_start-by a taken failed ps x f =
+pub starts-by : (a taken : ℕ) (failed : Option Key) (ps : List Pair) (x : Drafted) → Starts a taken failed ps x → may_open App a taken failed ps x ≡ true
+starts-by a taken failed ps x f =
     both (is_open x) _ (is_open-by x f.opened)
     (both (x.made == length x.plan.modules) _ (eq-eqb x.made (length x.plan.modules) f.made)
-    (both (a == x.started) _ (eq-eqb a x.started f.next) (both (nat_lt a (length x.plan.apps)) _ (less-is a (length x.plan.apps) f.within) f.fit)))
+    (both (a == x.started) _ (eq-eqb a x.started f.next) (in_place-by (λ (z : PlanApp). z.keys) (λ ks. keys_fit (keys_in ps) ks taken failed) x.plan.apps a f.within f.fit)))
 
 pub completes : (x : Drafted) → is_complete x ≡ true → Completes x
 completes x m =
@@ -193,8 +208,8 @@ pub record Halts (s : State) (n : ℕ) : Type 0 where
 -- by its kind
 abbrev pub Can : State → Entry → Type 0
 Can s (Draft d tree plan) = Drafts s d
-Can s (Made d i taken failed) = There (may_make i taken failed s.pairs) s.drafts d
-Can s (Started d a taken failed) = There (may_start a taken failed s.pairs) s.drafts d
+Can s (Made d i taken failed) = There (may_open Instance i taken failed s.pairs) s.drafts d
+Can s (Started d a taken failed) = There (may_open App a taken failed s.pairs) s.drafts d
 Can s (Publish d n from change) = Publishes s d n from
 Can s (Abandon d) = There (λ x. is_live x.life) s.drafts d
 Can s (Stopped d a) = There (may_stop a s.serial) s.drafts d
@@ -207,8 +222,8 @@ Can s (Halt n) = Halts s n
 -- what is allowed can be
 pub can : (s : State) (e : Entry) → allowed s e ≡ true → Can s e
 can s (Draft d tree plan) m = record { next = eqb-true d (length s.drafts) (first (d == length s.drafts) _ m); below = is-less d MAX_DRAFTS (second (d == length s.drafts) _ m) }
-can s (Made d i taken failed) m = there (may_make i taken failed s.pairs) s.drafts d m
-can s (Started d a taken failed) m = there (may_start a taken failed s.pairs) s.drafts d m
+can s (Made d i taken failed) m = there (may_open Instance i taken failed s.pairs) s.drafts d m
+can s (Started d a taken failed) m = there (may_open App a taken failed s.pairs) s.drafts d m
 can s (Publish d n from change) m =
     let a = second (not s.halted) _ m in
     let b = second (holds is_complete (slice_get s.drafts d)) _ a in record {
@@ -235,8 +250,8 @@ can s (Halt n) m = record { running = is-false s.halted (first (not s.halted) _ 
 -- what can be is allowed
 pub allowed-by : (s : State) (e : Entry) → Can s e → allowed s e ≡ true
 allowed-by s (Draft d tree plan) f = both (d == length s.drafts) _ (eq-eqb d (length s.drafts) f.next) (less-is d MAX_DRAFTS f.below)
-allowed-by s (Made d i taken failed) f = holds-there (may_make i taken failed s.pairs) s.drafts d f
-allowed-by s (Started d a taken failed) f = holds-there (may_start a taken failed s.pairs) s.drafts d f
+allowed-by s (Made d i taken failed) f = holds-there (may_open Instance i taken failed s.pairs) s.drafts d f
+allowed-by s (Started d a taken failed) f = holds-there (may_open App a taken failed s.pairs) s.drafts d f
 allowed-by s (Publish d n from change) f =
     both (not s.halted) _ (not-false s.halted f.running)
     (both (holds is_complete (slice_get s.drafts d)) _ f.complete (both (from == s.serial) _ (eq-eqb from s.serial f.current) (eq-eqb n (from + 1) f.next)))

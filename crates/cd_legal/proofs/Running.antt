@@ -8,12 +8,13 @@ use Rattle.cd_outside.specs.declared.key.Key.{Key}
 use Rattle.cd_outside.specs.declared.holder.Holder.{Holder}
 use Rattle.cd_outside.specs.declared.holder.Pair.{Pair}
 use Rattle.cd_outside.specs.Keys.{holder_eq, bool_eq, without_holder, pairs_for}
+use Rattle.cd_legal.specs.declared.part.Part.TheVariants.{Instance, App}
 use Rattle.cd_legal.specs.declared.entry.Entry.{Entry}
 use Rattle.cd_legal.specs.declared.entry.Entry.TheVariants.{Draft, Made, Started, Publish, Abandon, Stopped, Cleaned}
 use Rattle.cd_legal.specs.declared.state.State.{State}
 use Rattle.cd_legal.specs.declared.state.Drafted.{Drafted}
 use Rattle.cd_legal.specs.State.{holds, change_at, is_live, instance_of, app_of, module_keys, app_keys, keys_for}
-use Rattle.cd_legal.specs.Legal.{allowed, after, legal_from, state_from, may_make, may_start, may_stop, may_clean, is_complete}
+use Rattle.cd_legal.specs.Legal.{allowed, after, legal_from, state_from, may_open, may_stop, may_clean, is_complete}
 use Rattle.cd_legal.proofs.Histories.{both, first, second}
 use Rattle.cd_legal.proofs.Facts.{makes, starts, stops, cleans, can}
 use Rattle.cd_legal.proofs.Places.{get_change_other, holds_kept, holds_made, holds_push}
@@ -77,12 +78,12 @@ started_keeps true p failed x is = up p x.stopped x.started is
 started_keeps false p failed x is = is
 
 -- and it runs itself
-made_runs : (bound i taken : ℕ) (failed : Option Key) (ps : List Pair) (x : Drafted) → (is_sound bound x && may_make i taken failed ps x) ≡ true → runs false i (record x { made = x.made + 1; failed = failed }) ≡ true
+made_runs : (bound i taken : ℕ) (failed : Option Key) (ps : List Pair) (x : Drafted) → (is_sound bound x && may_open Instance i taken failed ps x) ≡ true → runs false i (record x { made = x.made + 1; failed = failed }) ≡ true
 made_runs bound i taken failed ps x m =
     let f = makes i taken failed ps x (second (is_sound bound x) _ m) in
     last i x.cleaned x.made f.next (live_whole bound x f.opened.live (first (is_sound bound x) _ m)).1
 
-started_runs : (bound a taken : ℕ) (failed : Option Key) (ps : List Pair) (x : Drafted) → (is_sound bound x && may_start a taken failed ps x) ≡ true → runs true a (record x { started = x.started + 1; failed = failed }) ≡ true
+started_runs : (bound a taken : ℕ) (failed : Option Key) (ps : List Pair) (x : Drafted) → (is_sound bound x && may_open App a taken failed ps x) ≡ true → runs true a (record x { started = x.started + 1; failed = failed }) ≡ true
 started_runs bound a taken failed ps x m =
     let f = starts a taken failed ps x (second (is_sound bound x) _ m) in
     last a x.stopped x.started f.next (live_whole bound x f.opened.live (first (is_sound bound x) _ m)).0
@@ -124,11 +125,11 @@ unchanged s d may f keeps m all = still_run s.drafts (change_at f d s.drafts) (�
 run : (s : State) (e : Entry) → are_sound s ≡ true → allowed s e ≡ true → all_run s.drafts s.pairs ≡ true → all_run (after s e).drafts (after s e).pairs ≡ true
 run s (Draft d tree plan) fine may all = still_run s.drafts _ (λ h t. holds_push (runs h.app h.place) _ s.drafts h.draft t) s.pairs all
 run s (Made d i taken failed) fine may all =
-    taken_run (instance_of d i) _ s.pairs (take taken (keys_for module_keys i (slice_get s.drafts d))) (unchanged s d (may_make i taken failed s.pairs) _ (λ app p x t. made_keeps app p failed x t) may all)
-    (holds_made (runs false i) (λ x. is_sound (bound_of s) x && may_make i taken failed s.pairs x) _ (made_runs (bound_of s) i taken failed s.pairs) s.drafts d (sound_at s d (may_make i taken failed s.pairs) fine may))
+    taken_run (instance_of d i) _ s.pairs (take taken (keys_for module_keys i (slice_get s.drafts d))) (unchanged s d (may_open Instance i taken failed s.pairs) _ (λ app p x t. made_keeps app p failed x t) may all)
+    (holds_made (runs false i) (λ x. is_sound (bound_of s) x && may_open Instance i taken failed s.pairs x) _ (made_runs (bound_of s) i taken failed s.pairs) s.drafts d (sound_at s d (may_open Instance i taken failed s.pairs) fine may))
 run s (Started d a taken failed) fine may all =
-    taken_run (app_of d a) _ s.pairs (take taken (keys_for app_keys a (slice_get s.drafts d))) (unchanged s d (may_start a taken failed s.pairs) _ (λ app p x t. started_keeps app p failed x t) may all)
-    (holds_made (runs true a) (λ x. is_sound (bound_of s) x && may_start a taken failed s.pairs x) _ (started_runs (bound_of s) a taken failed s.pairs) s.drafts d (sound_at s d (may_start a taken failed s.pairs) fine may))
+    taken_run (app_of d a) _ s.pairs (take taken (keys_for app_keys a (slice_get s.drafts d))) (unchanged s d (may_open App a taken failed s.pairs) _ (λ app p x t. started_keeps app p failed x t) may all)
+    (holds_made (runs true a) (λ x. is_sound (bound_of s) x && may_open App a taken failed s.pairs x) _ (started_runs (bound_of s) a taken failed s.pairs) s.drafts d (sound_at s d (may_open App a taken failed s.pairs) fine may))
 run s (Publish d n from c) fine may all = unchanged s d is_complete _ (λ app p x t. t) (can s (Publish d n from c) may).complete all
 run s (Abandon d) fine may all = unchanged s d (λ x. is_live x.life) _ (λ app p x t. t) may all
 run s (Stopped d a) fine may all = others_run (app_of d a) s.drafts _ (but_one (app_of d a) (may_stop a s.serial) _ (stopped_keeps a s.serial) s.drafts may) s.pairs all

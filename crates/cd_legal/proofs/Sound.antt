@@ -5,6 +5,7 @@ use Rattle.std.specs.List.{list_all}
 use Rattle.std.proofs.lemmas.Bool.Decides.{nat_tests}
 use Rattle.std.proofs.lemmas.Bool.{eqb-true}
 use Rattle.std.proofs.lemmas.List.Folds.{list_all-append}
+use Rattle.cd_legal.specs.declared.part.Part.TheVariants.{Instance, App}
 use Rattle.cd_legal.specs.declared.entry.Change.{Change}
 use Rattle.cd_legal.specs.declared.entry.Entry.{Entry}
 use Rattle.cd_legal.specs.declared.entry.Entry.TheVariants.{Draft, Made, Started, Publish, Abandon, Stopped, Cleaned, Halt}
@@ -13,7 +14,7 @@ use Rattle.cd_legal.specs.declared.state.Drafted.{Drafted}
 use Rattle.cd_legal.specs.declared.state.Life.{Life}
 use Rattle.cd_legal.specs.declared.state.Life.TheVariants.{Live, Published, Abandoned}
 use Rattle.cd_legal.specs.State.{holds, change_at, is_live, may_stop_apps, may_clean_instances}
-use Rattle.cd_legal.specs.Legal.{allowed, after, legal_from, legal, state_from, may_make, may_start, may_stop, may_clean, is_complete}
+use Rattle.cd_legal.specs.Legal.{allowed, after, legal_from, legal, state_from, may_open, may_stop, may_clean, is_complete}
 use Rattle.cd_legal.proofs.Histories.{both, first, second, along}
 use Rattle.cd_legal.proofs.Facts.{Publishes, Halts, stops, cleans, can}
 
@@ -100,8 +101,8 @@ halted s n may all =
 -- one entry leaves them so
 pub sound : (s : State) (e : Entry) → allowed s e ≡ true → are_sound s ≡ true → are_sound (after s e) ≡ true
 sound s (Draft d tree plan) may all = list_all-append (is_sound (bound_of s)) s.drafts _ ∙ both (list_all (is_sound (bound_of s)) s.drafts) _ all refl
-sound s (Made d i taken failed) may all = all_changed (is_sound (bound_of s)) (may_make i taken failed s.pairs) _ (λ x m t. t) s.drafts d may all
-sound s (Started d a taken failed) may all = all_changed (is_sound (bound_of s)) (may_start a taken failed s.pairs) _ (λ x m t. t) s.drafts d may all
+sound s (Made d i taken failed) may all = all_changed (is_sound (bound_of s)) (may_open Instance i taken failed s.pairs) _ (λ x m t. t) s.drafts d may all
+sound s (Started d a taken failed) may all = all_changed (is_sound (bound_of s)) (may_open App a taken failed s.pairs) _ (λ x m t. t) s.drafts d may all
 sound s (Publish d n from c) may all = published s d n from c may all
 sound s (Abandon d) may all = all_changed (is_sound (bound_of s)) (λ x. is_live x.life) _ (λ x m t. refl) s.drafts d may all
 sound s (Stopped d a) may all = all_changed (is_sound (bound_of s)) (may_stop a s.serial) _ (λ x m t. over s.serial (bound_of s) x.life _ _ (stops a s.serial x m).over t) s.drafts d may all

@@ -1,19 +1,21 @@
 -- A history without the entries of an abandoned draft.
-use Rattle.std.proofs.Common.{◌≡◌, ◌≢◌, ℕ, ◌+◌, ◌==◌, zero, suc, Bool, true, false, ◌&&◌, not, cond, nat_lt, List, [], ◌∷◌, ◌++◌, length, take, slice_get, Option, Some, None, refl, sym, ap, subst, ◌∙◌, eq-eqb}
+use Rattle.std.proofs.Common.{◌≡◌, ◌≢◌, ℕ, ◌+◌, ◌==◌, zero, suc, Bool, true, false, ◌&&◌, not, cond, nat_lt, List, [], ◌∷◌, ◌++◌, take, slice_get, Option, Some, None, refl, sym, ap, subst, ◌∙◌, eq-eqb}
 use Rattle.std.specs.Prelude.{◌||◌}
 use Rattle.std.proofs.lemmas.Bool.{eqb-true, eqb-false}
 use Rattle.cd_outside.specs.declared.key.Key.{Key}
 use Rattle.cd_outside.specs.declared.holder.Holder.{Holder}
 use Rattle.cd_outside.specs.declared.holder.Pair.{Pair}
 use Rattle.cd_outside.specs.Keys.{key_eq, keys_in, pairs_for}
+use Rattle.cd_legal.specs.declared.part.Part.{Part}
+use Rattle.cd_legal.specs.declared.part.Part.TheVariants.{Instance, App}
 use Rattle.cd_legal.specs.declared.limits.TheConstants.{MAX_DRAFTS}
 use Rattle.cd_legal.specs.declared.plan.Plan.{Plan}
 use Rattle.cd_legal.specs.declared.entry.Entry.{Entry}
 use Rattle.cd_legal.specs.declared.entry.Entry.TheVariants.{Draft, Made, Started, Publish, Abandon, Stopped, Retire, Cleaned}
 use Rattle.cd_legal.specs.declared.state.State.{State}
 use Rattle.cd_legal.specs.declared.state.Drafted.{Drafted}
-use Rattle.cd_legal.specs.State.{opening_state, holds, holds_if_there, has_number, change_at, conf_of, instance_of, app_of, keys_at, module_keys, app_keys, keys_for, new_draft, is_live, of_draft, all_stopped, draft_of, apps_stopped}
-use Rattle.cd_legal.specs.Legal.{keys_fit, is_open, may_make, may_start, may_stop, may_clean, is_complete, allowed, after, legal_from, legal, state_from, state_of}
+use Rattle.cd_legal.specs.State.{opening_state, holds, holds_if_there, has_number, change_at, conf_of, instance_of, app_of, part_keys, opened_in, instances_ready, module_keys, app_keys, keys_for, new_draft, is_live, of_draft, all_stopped, draft_of, apps_stopped}
+use Rattle.cd_legal.specs.Legal.{keys_fit, is_open, may_open, may_stop, may_clean, is_complete, allowed, after, legal_from, legal, state_from, state_of}
 use Rattle.cd_legal.specs.Abandoned.{is_entry_of, is_draft, without_draft, is_abandoned_in, pairs_of_others, Leaves}
 use Rattle.cd_legal.proofs.Histories.{both, first, second}
 use Rattle.cd_legal.proofs.Places.{get_change_other, length_change, change_again, change_apart, change_push, holds_weaker}
@@ -110,13 +112,11 @@ deeper false b b' f e = e
 shallow : (a a' b : Bool) → (a ≡ true → a' ≡ true) → (a && b) ≡ true → (a' && b) ≡ true
 shallow a a' b f e = both a' b (f (first a b e)) (second a b e)
 
--- so may an instance be made
-makes : (d i taken : ℕ) (failed : Option Key) (ps : List Pair) (x : Drafted) → may_make i taken failed ps x ≡ true → may_make i taken failed (pairs_of_others d ps) x ≡ true
-makes d i taken failed ps x = deeper (is_open x) _ _ (deeper (i == x.made) _ _ (deeper (nat_lt i (length x.plan.modules)) _ _ (fits d ps (keys_at (module_keys x.plan) i) taken failed)))
-
--- and an app be started
-starts : (d a taken : ℕ) (failed : Option Key) (ps : List Pair) (x : Drafted) → may_start a taken failed ps x ≡ true → may_start a taken failed (pairs_of_others d ps) x ≡ true
-starts d a taken failed ps x = deeper (is_open x) _ _ (deeper (x.made == length x.plan.modules) _ _ (deeper (a == x.started) _ _ (deeper (nat_lt a (length x.plan.apps)) _ _ (fits d ps (keys_at (app_keys x.plan) a) taken failed))))
+-- so may an instance be made, or an app be started
+opens : (d : ℕ) (part : Part) (i taken : ℕ) (failed : Option Key) (ps : List Pair) (x : Drafted) → may_open part i taken failed ps x ≡ true → may_open part i taken failed (pairs_of_others d ps) x ≡ true
+opens d part i taken failed ps x =
+    deeper (is_open x) _ _ (deeper (instances_ready part x) _ _ (deeper (i == opened_in part x) _ _
+    (holds_weaker (λ ks. keys_fit (keys_in ps) ks taken failed) _ (λ ks fit. fits d ps ks taken failed fit) (slice_get (part_keys part x.plan) i))))
 
 -- of a draft of which nothing came each app is stopped
 stops : (xs : List Drafted) (d j : ℕ) → holds_if_there all_stopped (slice_get xs j) ≡ true → holds_if_there all_stopped (slice_get (change_at undo d xs) j) ≡ true
@@ -137,8 +137,8 @@ module _ (d : ℕ) (s : State) where
   -- all that is allowed stays so
   still : (e : Entry) → (not (is_entry_of d e) || is_draft e) ≡ true → allowed s e ≡ true → allowed (undone d s) e ≡ true
   still (Draft j tree plan) is may = ap (λ (n : ℕ). (j == n) && nat_lt j MAX_DRAFTS) (length_change undo s.drafts d) ∙ may
-  still (Made j i taken failed) is may = holds_weaker (may_make i taken failed s.pairs) _ (makes d i taken failed s.pairs) (slice_get (change_at undo d s.drafts) j) (ap (holds (may_make i taken failed s.pairs)) (sym (elsewhere j (apart j d is))) ∙ may)
-  still (Started j a taken failed) is may = holds_weaker (may_start a taken failed s.pairs) _ (starts d a taken failed s.pairs) (slice_get (change_at undo d s.drafts) j) (ap (holds (may_start a taken failed s.pairs)) (sym (elsewhere j (apart j d is))) ∙ may)
+  still (Made j i taken failed) is may = holds_weaker (may_open Instance i taken failed s.pairs) _ (opens d Instance i taken failed s.pairs) (slice_get (change_at undo d s.drafts) j) (ap (holds (may_open Instance i taken failed s.pairs)) (sym (elsewhere j (apart j d is))) ∙ may)
+  still (Started j a taken failed) is may = holds_weaker (may_open App a taken failed s.pairs) _ (opens d App a taken failed s.pairs) (slice_get (change_at undo d s.drafts) j) (ap (holds (may_open App a taken failed s.pairs)) (sym (elsewhere j (apart j d is))) ∙ may)
   still (Publish j n from c) is may = ap (λ (o : Option Drafted). not s.halted && (holds is_complete o && ((from == s.serial) && (n == from + 1)))) (sym (elsewhere j (apart j d is))) ∙ may
   still (Abandon j) is may = ap (holds (λ (x : Drafted). is_live x.life)) (sym (elsewhere j (apart j d is))) ∙ may
   still (Stopped j a) is may = ap (holds (may_stop a s.serial)) (sym (elsewhere j (apart j d is))) ∙ may

@@ -1,9 +1,11 @@
 -- What a history leaves: the parts of a state, what is asked of them, and how one of them changes.
-use Rattle.std.specs.Prelude.{ℕ, zero, suc, ◌==◌, Bool, true, false, ◌&&◌, ◌||◌, cond, nat_lt, List, [], ◌∷◌, slice_get, Option, Some, None, map}
+use Rattle.std.specs.Prelude.{ℕ, zero, suc, ◌+◌, ◌==◌, Bool, true, false, ◌&&◌, ◌||◌, cond, nat_lt, List, [], ◌∷◌, length, slice_get, Option, Some, None, map}
 use Rattle.cd_outside.specs.declared.key.Key.{Key}
 use Rattle.cd_outside.specs.declared.holder.Holder.{Holder}
 use Rattle.cd_tree.specs.declared.tree.Tree.{Tree}
 use Rattle.cd_legal.specs.declared.plan.Plan.{Plan}
+use Rattle.cd_legal.specs.declared.part.Part.{Part}
+use Rattle.cd_legal.specs.declared.part.Part.TheVariants.{Instance, App}
 use Rattle.cd_legal.specs.declared.state.State.{State}
 use Rattle.cd_legal.specs.declared.state.Drafted.{Drafted}
 use Rattle.cd_legal.specs.declared.state.Life.{Life}
@@ -53,6 +55,11 @@ module_keys plan = map (λ m. m.keys) plan.modules
 abbrev pub app_keys : Plan → List (List Key)
 app_keys plan = map (λ a. a.keys) plan.apps
 
+-- those of each instance, or of each app
+abbrev pub part_keys : Part → Plan → List (List Key)
+part_keys Instance = module_keys
+part_keys App = app_keys
+
 -- instance i of draft d
 abbrev pub instance_of : ℕ → ℕ → Holder
 instance_of d i = record { draft = d; app = false; place = i }
@@ -61,11 +68,41 @@ instance_of d i = record { draft = d; app = false; place = i }
 abbrev pub app_of : ℕ → ℕ → Holder
 app_of d a = record { draft = d; app = true; place = a }
 
+-- either
+abbrev pub part_of : Part → ℕ → ℕ → Holder
+part_of Instance d i = instance_of d i
+part_of App d a = app_of d a
+
 -- ---- drafts
 
 -- a draft that is live, of which nothing is made
 abbrev pub new_draft : Tree → Plan → Drafted
 new_draft tree plan = record { tree = tree; plan = plan; made = 0; started = 0; failed = None; life = Live; stopped = 0; cleaned = 0 }
+
+-- how many are opened: instances that are made, or apps that are started
+abbrev pub opened_in : Part → Drafted → ℕ
+opened_in Instance x = x.made
+opened_in App x = x.started
+
+-- how many are ended: instances that are cleaned, or apps that are stopped
+abbrev pub ended_in : Part → Drafted → ℕ
+ended_in Instance x = x.cleaned
+ended_in App x = x.stopped
+
+-- one more is opened, and this key has failed
+abbrev pub one_opened : Part → Option Key → Drafted → Drafted
+one_opened Instance failed = λ x. record x { made = x.made + 1; failed = failed }
+one_opened App failed = λ x. record x { started = x.started + 1; failed = failed }
+
+-- one more is ended
+abbrev pub one_ended : Part → Drafted → Drafted
+one_ended Instance = λ x. record x { cleaned = x.cleaned + 1 }
+one_ended App = λ x. record x { stopped = x.stopped + 1 }
+
+-- the instances that it waits for are made: an app waits for all of them
+abbrev pub instances_ready : Part → Drafted → Bool
+instances_ready Instance x = true
+instances_ready App x = x.made == length x.plan.modules
 
 -- neither published nor abandoned
 abbrev pub is_live : Life → Bool

@@ -1,8 +1,9 @@
 ghost use Rattle.std.specs.Prelude.{◌≡◌};
 ghost use Rattle.cd_legal.specs.State.{may_stop_apps, may_clean_instances, all_stopped, has_number};
-ghost use Rattle.cd_legal.specs.Legal.{is_open, may_make, may_start, is_complete, may_stop, may_clean};
+ghost use Rattle.cd_legal.specs.Legal.{is_open, may_open, is_complete, may_stop, may_clean};
 
 use crate::keys::keys_fit;
+use crate::part::Part;
 use crate::{Drafted, Life};
 use cd_outside::{Key, Pair};
 
@@ -17,43 +18,25 @@ fn is_open(drafted: &Drafted) -> bool
     }
 }
 
-/// Whether the instance is the next one, and its keys fit.
-pub(crate) fn may_make(
+/// Whether it is the next of its kind, the instances that it waits for are made, and its keys fit.
+pub(crate) fn may_open(
+    part: Part,
     drafted: &Drafted,
     place: u32,
     taken: u32,
     failed: &Option<Key>,
     pairs: &[Pair],
 ) -> bool
-    ensures { result ≡ may_make place taken failed.now pairs.now drafted.now }
+    ensures { result ≡ may_open part place taken failed.now pairs.now drafted.now }
 {
-    if !is_open(drafted) || u64::from(place) != drafted.made {
+    if !is_open(drafted) || !part.instances_ready(drafted) {
         return false;
     }
-    match drafted.plan.modules.get(place as usize) {
-        Some(module) => keys_fit(pairs, module.keys.as_slice(), taken, failed),
-        None => false,
-    }
-}
-
-/// Whether the app is the next one, after all instances, and its keys fit.
-pub(crate) fn may_start(
-    drafted: &Drafted,
-    place: u32,
-    taken: u32,
-    failed: &Option<Key>,
-    pairs: &[Pair],
-) -> bool
-    ensures { result ≡ may_start place taken failed.now pairs.now drafted.now }
-{
-    if !is_open(drafted) || drafted.made != drafted.plan.modules.len() as u64 {
+    if u64::from(place) != part.opened_in(drafted) {
         return false;
     }
-    if u64::from(place) != drafted.started {
-        return false;
-    }
-    match drafted.plan.apps.get(place as usize) {
-        Some(app) => keys_fit(pairs, app.keys.as_slice(), taken, failed),
+    match part.keys_at(&drafted.plan, place) {
+        Some(keys) => keys_fit(pairs, keys, taken, failed),
         None => false,
     }
 }

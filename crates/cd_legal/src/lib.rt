@@ -26,6 +26,7 @@ mod keys;
 mod laws;
 mod limits;
 mod making;
+mod part;
 mod plan;
 mod replaying;
 mod stands;
