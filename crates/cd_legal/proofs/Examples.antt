@@ -15,7 +15,7 @@ use Rattle.cd_legal.specs.declared.state.Drafted.{Drafted}
 use Rattle.cd_legal.specs.declared.state.Life.TheVariants.{Live, Published, Abandoned}
 use Rattle.cd_legal.specs.declared.state.OpenTicket.{OpenTicket}
 use Rattle.cd_legal.specs.Entry.{signed, mine}
-use Rattle.cd_legal.specs.State.{opening_state, holds, holds_if_there, has_number, is_live, may_stop_apps, may_clean_instances, all_stopped, all_cleaned, of_draft, apps_stopped, has_ticket, is_ticketed, ticket_of, open_by, open_at, new_draft, Conf, conf_of}
+use Rattle.cd_legal.specs.State.{opening_state, holds, holds_if_there, has_number, instances_ready, is_live, may_stop_apps, may_clean_instances, all_stopped, all_cleaned, of_draft, apps_stopped, has_ticket, is_ticketed, ticket_of, open_by, open_at, new_draft, Conf, conf_of}
 use Rattle.cd_legal.specs.Legal.{keys_fit, is_open, may_open, is_complete, may_stop, may_clean, may_retire, allowed, legal}
 use Rattle.cd_legal.specs.Laws.{core, core_at, is_core, bare, tickets_allow, tickets_fit}
 use Rattle.cd_legal.specs.Calls.{is_shut, failures}
@@ -88,6 +88,9 @@ module _ (t : Tree) (c : Change) where
 
   opens : (is_open fresh ≡ true) × (is_open (record fresh { failed = Some x_key }) ≡ false) × (is_open (record fresh { life = Abandoned }) ≡ false)
   opens = (refl, refl, refl)
+
+  waits : (instances_ready App made ≡ true) × (instances_ready App fresh ≡ false) × (instances_ready Instance fresh ≡ true)
+  waits = (refl, refl, refl)
 
   makes : (may_open Instance 0 1 None [] fresh ≡ true) × (may_open Instance 1 1 None [] made ≡ false) × (may_open Instance 0 0 None [] fresh ≡ false) × (may_open Instance 0 1 None [] ran ≡ false)
   makes = (refl, refl, refl, refl)

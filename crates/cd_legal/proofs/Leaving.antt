@@ -109,7 +109,7 @@ drafted : (s : State) (j : ℕ) (tree : Tree) (plan : Plan) → allowed s (Draft
 drafted s j tree plan may all =
     subst (λ z. Leaves z s (after s (Draft j tree plan))) (sym (eqb-true j (length s.drafts) (first (j == length s.drafts) _ may))) (new_one s (new_draft tree plan) all)
 
--- an entry of the draft, which is abandoned behind it
+-- an entry of the draft, which is abandoned after it
 one : (d : ℕ) (s : State) (e : Entry) (es : List Entry) → are_there s ≡ true → legal_from s (e ∷ es) ≡ true → is_abandoned_in (state_from (after s e) es) d ≡ true → is_entry_of d e ≡ true → Leaves d s (after s e)
 one d s (Draft j tree plan) es all legal gone is = own s (Draft j tree plan) d j is (drafted s j tree plan (first (allowed s (Draft j tree plan)) _ legal) all)
 one d s (Made j i taken failed) es all legal gone is = own s (Made j i taken failed) d j is (changes j s _ _ (λ x. refl) (taking j (instance_of j i) s.pairs (take taken (keys_for module_keys i (slice_get s.drafts j))) (eq-eqb j j refl)))

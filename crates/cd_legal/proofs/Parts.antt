@@ -1,4 +1,4 @@
--- What the code finds of an instance or an app: its keys, and that it is the next one or the last one.
+-- What the code finds of an instance or an app: its keys, and whether it may be opened.
 use Rattle.std.proofs.Common.{◌≡◌, ℕ, zero, suc, ◌==◌, Bool, true, false, ◌&&◌, List, [], ◌∷◌, refl, slice_get, Some, None, eq-eqb}
 use Rattle.cd_outside.specs.declared.key.Key.{Key}
 use Rattle.cd_legal.specs.State.{keys_at}

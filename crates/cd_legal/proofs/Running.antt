@@ -55,7 +55,7 @@ own_run : (h : Holder) (ys : List Drafted) → runs_in h ys ≡ true → (ks : L
 own_run h ys here [] = refl
 own_run h ys here (k ∷ ks) = both (runs_in h ys) _ here (own_run h ys here ks)
 
--- so behind pairs that are there
+-- so after pairs that are there
 taken_run : (h : Holder) (ys : List Drafted) (ps : List Pair) (ks : List Key) → all_run ys ps ≡ true → runs_in h ys ≡ true → all_run ys (ps ++ pairs_for h ks) ≡ true
 taken_run h ys ps ks all here = list_all-append (λ (p : Pair). runs_in p.holder ys) ps (pairs_for h ks) ∙ both (all_run ys ps) _ all (own_run h ys here ks)
 

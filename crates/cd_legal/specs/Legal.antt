@@ -28,7 +28,8 @@ keys_fit had keys taken (Some key) = holds (key_eq key) (slice_get keys taken) &
 abbrev pub is_open : Drafted → Bool
 is_open x = is_live x.life && is_none x.failed
 
--- of a draft that is live and without a failed key it is the next of its kind, it is in the plan, and its keys fit
+-- the draft is live and without a failed key, place i is the next of this kind, after the instances that it waits for, and
+-- the plan has it, with keys that fit
 abbrev pub may_open : Part → ℕ → ℕ → Option Key → List Pair → Drafted → Bool
 may_open part i taken failed pairs x =
     is_open x && (instances_ready part x && ((i == opened_in part x)
@@ -68,14 +69,14 @@ allowed s (Halt n) = not s.halted && (n == s.serial + 1)
 
 -- ---- what an entry leaves
 
--- one more is opened, and has its first keys
+-- place i is opened: it counts, and has its first keys
 abbrev pub part_opened : Part → ℕ → ℕ → ℕ → Option Key → State → State
 part_opened part d i taken failed s = record s {
   drafts = change_at (one_opened part failed) d s.drafts;
   pairs = s.pairs ++ pairs_for (part_of part d i) (take taken (keys_for (part_keys part) i (slice_get s.drafts d)));
 }
 
--- one more is ended, and gives its keys back
+-- it is ended: it counts, and gives its keys back
 abbrev pub part_ended : Part → ℕ → ℕ → State → State
 part_ended part d i s = record s {
   drafts = change_at (one_ended part) d s.drafts;

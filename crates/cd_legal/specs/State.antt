@@ -55,7 +55,7 @@ module_keys plan = map (λ m. m.keys) plan.modules
 abbrev pub app_keys : Plan → List (List Key)
 app_keys plan = map (λ a. a.keys) plan.apps
 
--- those of each instance, or of each app
+-- either, by the kind
 abbrev pub part_keys : Part → Plan → List (List Key)
 part_keys Instance = module_keys
 part_keys App = app_keys
@@ -68,7 +68,7 @@ instance_of d i = record { draft = d; app = false; place = i }
 abbrev pub app_of : ℕ → ℕ → Holder
 app_of d a = record { draft = d; app = true; place = a }
 
--- either
+-- either, by the kind
 abbrev pub part_of : Part → ℕ → ℕ → Holder
 part_of Instance d i = instance_of d i
 part_of App d a = app_of d a

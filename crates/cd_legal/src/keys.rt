@@ -30,7 +30,8 @@ fn is_held(key: &Key, pairs: &[Pair]) -> bool
     false
 }
 
-fn front(keys: &[Key], taken: u32) -> &[Key]
+// The first `taken` keys, or all where there are fewer.
+fn prefix(keys: &[Key], taken: u32) -> &[Key]
     ensures { result.now ≡ take taken keys.now }
 {
     let taken = taken as usize;
@@ -62,7 +63,7 @@ pub(crate) fn keys_fit(pairs: &[Pair], keys: &[Key], taken: u32, failed: &Option
 {
     match failed {
         None => taken as usize == keys.len(),
-        Some(key) => is_key_at(key, keys, taken) && is_free(key, pairs, front(keys, taken)),
+        Some(key) => is_key_at(key, keys, taken) && is_free(key, pairs, prefix(keys, taken)),
     }
 }
 
@@ -76,7 +77,7 @@ pub(crate) fn take_keys(
 ) -> Result<(), NoMemory>
     ensures { OnOk result (pairs.new ≡ pairs.old ++ pairs_for holder (take taken keys.now)) }
 {
-    for key in front(keys, taken) {
+    for key in prefix(keys, taken) {
         let key = key.copy(alloc)?;
         pairs.push(Pair { key, holder })?;
     }
