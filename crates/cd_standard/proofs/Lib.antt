@@ -1,4 +1,6 @@
 pub mod Adding
+pub mod Counts
+pub mod Errors
 pub mod Levels
-pub mod Keys
+pub mod Wholes
 pub mod Examples
