@@ -1,0 +1,10 @@
+pub mod Numbers
+pub mod Retiring
+pub mod Longer
+pub mod Views
+pub mod Turns
+pub mod Notes
+pub mod Seats
+pub mod Telling
+pub mod Known
+mod Examples

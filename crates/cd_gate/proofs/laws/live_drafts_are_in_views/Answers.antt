@@ -1,0 +1,11 @@
+use Rattle.cd_gate.proofs.Known.{draft_live, draft_one, draft_there}
+use Rattle.cd_gate.proofs.laws.live_drafts_are_in_views.Goals as goal
+
+pub returns-clause-live : goal.returns-clause-live
+returns-clause-live g c o log m seat v draft r at live is = draft_live g.T.Stands.stands o log m r seat v draft at live is
+
+pub returns-clause-one : goal.returns-clause-one
+returns-clause-one g c o log m i j draft v w r ev ew lv lw is also = draft_one g.T.Stands.stands o log m r i j draft v w ev ew lv lw is also
+
+pub returns-clause-there : goal.returns-clause-there
+returns-clause-there g c o log m draft r is = draft_there g.T.Stands.stands o log m r draft is

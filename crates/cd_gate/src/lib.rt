@@ -1,0 +1,22 @@
+//! One turn over a guarded board, and one history over all passes.
+//!
+//! A pass is what a caller holds: it has a number, and signs the entries that its calls make. One pass at a time has the turn,
+//! and with it the board; each change of the board is one entry of the history. What the words of the turn and of the history
+//! say, where the board is, and what each pass knows of it all is plain data (`Moment` of specs/Words.antt, `View`). The rule
+//! `IsKept` of specs/Rule.antt says how these agree with one history, which no value holds.
+//!
+//! The kinds of steps stand in specs/Steps.antt, and the laws (laws.rt) say of each that it keeps the rule. No word of memory is
+//! touched here yet.
+#![tactic(auto)]
+
+mod laws;
+mod view;
+
+pub use laws::{
+    a_gate_begins_by_the_rule, acquiring_keeps_the_rule, comparing_keeps_the_rule,
+    copying_keeps_the_rule, handing_over_keeps_the_rule, joining_keeps_the_rule,
+    live_drafts_are_in_views, missing_keeps_the_rule, moving_the_board_keeps_the_rule,
+    noting_keeps_the_rule, one_pass_has_the_turn, passes_sign_the_history,
+    releasing_keeps_the_rule, splitting_keeps_the_rule, tickets_are_in_views,
+};
+pub use view::{Gone, View};
