@@ -16,7 +16,7 @@ use Rattle.cd_legal.specs.Legal.{allowed, after, legal, legal_from, state_from, 
 use Rattle.cd_legal.specs.Calls.{failing, key_calls, last_of, is_shut, shutting, entry_calls, calls_from, fixture_calls, shuts, not_opened, failures}
 use Rattle.cd_legal.specs.Serials.{has_serial, has_serial_in}
 use Rattle.cd_legal.proofs.Histories.{both, first, second}
-use Rattle.cd_legal.proofs.Facts.{starts, can}
+use Rattle.cd_legal.proofs.Facts.{opens, can}
 use Rattle.cd_legal.proofs.Serials.{Agree, agree, opening_agrees, live_none}
 
 -- ---- the draft that was published last
@@ -91,7 +91,7 @@ pub shut_kept : (s : State) (e : Entry) → allowed s e ≡ true → Agree s →
 shut_kept s (Draft d tree plan) may a is = still s (s.drafts ++ new_draft tree plan ∷ []) (of_last s (s.drafts ++ new_draft tree plan ∷ []) a (λ n j r. pushed (λ x. has_serial n x.life) (new_draft tree plan) s.drafts j r) (last_of s.published) refl)
 shut_kept s (Made d i taken failed) may a is = changed s d (may_open Instance i taken failed s.pairs) _ a may (λ n x m r. refl)
 shut_kept s (Started d i taken failed) may a is =
-    changed s d (may_open App i taken failed s.pairs) _ a may (λ n x m r. equal _ _ (λ z. differ x n z (ap is_live (starts i taken failed s.pairs x m).opened.live) r))
+    changed s d (may_open App i taken failed s.pairs) _ a may (λ n x m r. equal _ _ (λ z. differ x n z (ap is_live (opens App i taken failed s.pairs x m).opened.live) r))
 shut_kept s (Publish d n from c) may a is = before_halt s.halted _ _ (can s (Publish d n from c) may).running
 shut_kept s (Abandon d) may a is = changed s d (λ x. is_live x.life) _ a may (λ n x m r. refl)
 shut_kept s (Stopped d i) may a is = cc

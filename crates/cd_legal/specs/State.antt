@@ -68,10 +68,14 @@ instance_of d i = record { draft = d; app = false; place = i }
 abbrev pub app_of : ℕ → ℕ → Holder
 app_of d a = record { draft = d; app = true; place = a }
 
--- either, by the kind
+-- whether it is an app
+abbrev pub is_app : Part → Bool
+is_app Instance = false
+is_app App = true
+
+-- place i of draft d, of this kind
 abbrev pub part_of : Part → ℕ → ℕ → Holder
-part_of Instance d i = instance_of d i
-part_of App d a = app_of d a
+part_of part d i = record { draft = d; app = is_app part; place = i }
 
 -- ---- drafts
 
