@@ -12,7 +12,7 @@ use Rattle.cd_legal.specs.declared.entry.Entry.{Entry}
 use Rattle.cd_legal.specs.declared.entry.Entry.TheVariants.{Draft, Made, Started, Publish, Abandon, Stopped, Cleaned}
 use Rattle.cd_legal.specs.declared.state.State.{State}
 use Rattle.cd_legal.specs.declared.state.Drafted.{Drafted}
-use Rattle.cd_legal.specs.State.{opening_state, holds, change_at, is_live, instance_of, app_of, part_of, is_app, new_draft, opened_in, one_opened}
+use Rattle.cd_legal.specs.State.{opening_state, holds, change_at, is_live, part_of, is_app, new_draft, opened_in, one_opened}
 use Rattle.cd_legal.specs.Legal.{allowed, after, legal_from, legal, state_from, state_of, part_opened, may_open, may_stop, may_clean, is_complete}
 use Rattle.cd_legal.specs.Whole.{begun}
 use Rattle.cd_legal.proofs.Histories.{first, second}
@@ -109,8 +109,8 @@ module _ (h : Holder) where
   step s e may = plus_none _ _ refl
 
   begun-cons : (e : Entry) (es : List Entry) → begun h (e ∷ es) ≡ begun h (e ∷ []) + begun h es
-  begun-cons (Made d i taken failed) es = counted (holder_eq h (instance_of d i)) (begun h es)
-  begun-cons (Started d a taken failed) es = counted (holder_eq h (app_of d a)) (begun h es)
+  begun-cons (Made d i taken failed) es = counted (holder_eq h (part_of Instance d i)) (begun h es)
+  begun-cons (Started d a taken failed) es = counted (holder_eq h (part_of App d a)) (begun h es)
   begun-cons e es = plus_none _ _ refl
 
   begun_from : (s : State) (log : List Entry) → legal_from s log ≡ true → begun_in h s + begun h log ≡ begun_in h (state_from s log)

@@ -13,7 +13,7 @@ use Rattle.cd_legal.specs.declared.entry.Entry.{Entry}
 use Rattle.cd_legal.specs.declared.entry.Entry.TheVariants.{Draft, Made, Started, Publish, Abandon, Stopped, Cleaned}
 use Rattle.cd_legal.specs.declared.state.State.{State}
 use Rattle.cd_legal.specs.declared.state.Drafted.{Drafted}
-use Rattle.cd_legal.specs.State.{opening_state, holds, is_live, instance_of, app_of, is_app, new_draft, one_opened, one_ended}
+use Rattle.cd_legal.specs.State.{opening_state, holds, is_live, part_of, is_app, new_draft, one_opened, one_ended}
 use Rattle.cd_legal.specs.Legal.{allowed, after, legal_from, legal, state_from, state_of, part_opened, may_open, may_stop, may_clean, is_complete}
 use Rattle.cd_legal.specs.Steps.{may_end}
 use Rattle.cd_legal.specs.Whole.{ended}
@@ -88,13 +88,13 @@ step h s (Made d i taken failed) all may = opened h s Instance d i taken failed 
 step h s (Started d a taken failed) all may = opened h s App d a taken failed all may
 step h s (Publish d n from c) all may = plus_none _ _ (kept (ended_by h.app h.place) is_complete _ (λ x m. refl) s.drafts d h.draft (can s (Publish d n from c) may).complete)
 step h s (Abandon d) all may = plus_none _ _ (kept (ended_by h.app h.place) (λ x. is_live x.life) _ (λ x m. refl) s.drafts d h.draft may)
-step h s (Stopped d a) all may = one_more (ended_by h.app h.place) h (app_of d a) (may_stop a s.serial) _ (ended_one App a s h.app h.place) s.drafts may
-step h s (Cleaned d i) all may = one_more (ended_by h.app h.place) h (instance_of d i) (may_clean i s.retired) _ (ended_one Instance i s h.app h.place) s.drafts may
+step h s (Stopped d a) all may = one_more (ended_by h.app h.place) h (part_of App d a) (may_stop a s.serial) _ (ended_one App a s h.app h.place) s.drafts may
+step h s (Cleaned d i) all may = one_more (ended_by h.app h.place) h (part_of Instance d i) (may_clean i s.retired) _ (ended_one Instance i s h.app h.place) s.drafts may
 step h s e all may = plus_none _ _ refl
 
 ended-cons : (h : Holder) (e : Entry) (es : List Entry) → ended h (e ∷ es) ≡ ended h (e ∷ []) + ended h es
-ended-cons h (Stopped d a) es = counted (holder_eq h (app_of d a)) (ended h es)
-ended-cons h (Cleaned d i) es = counted (holder_eq h (instance_of d i)) (ended h es)
+ended-cons h (Stopped d a) es = counted (holder_eq h (part_of App d a)) (ended h es)
+ended-cons h (Cleaned d i) es = counted (holder_eq h (part_of Instance d i)) (ended h es)
 ended-cons h e es = plus_none _ _ refl
 
 ended_from : (h : Holder) (s : State) (log : List Entry) → are_sound s ≡ true → legal_from s log ≡ true → ended_at h s + ended h log ≡ ended_at h (state_from s log)

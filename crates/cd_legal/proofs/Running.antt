@@ -14,7 +14,7 @@ use Rattle.cd_legal.specs.declared.entry.Entry.{Entry}
 use Rattle.cd_legal.specs.declared.entry.Entry.TheVariants.{Draft, Made, Started, Publish, Abandon, Stopped, Cleaned}
 use Rattle.cd_legal.specs.declared.state.State.{State}
 use Rattle.cd_legal.specs.declared.state.Drafted.{Drafted}
-use Rattle.cd_legal.specs.State.{holds, change_at, is_live, part_of, is_app, part_keys, keys_for, one_opened, one_ended}
+use Rattle.cd_legal.specs.State.{holds, change_at, is_live, part_of, is_app, keys_for, one_opened, one_ended}
 use Rattle.cd_legal.specs.Legal.{allowed, after, legal_from, state_from, part_opened, part_ended, may_open, is_complete}
 use Rattle.cd_legal.specs.Steps.{may_end}
 use Rattle.cd_legal.proofs.Histories.{both, first, second}
@@ -113,7 +113,7 @@ unchanged s d may f keeps m all = still_run s.drafts (change_at f d s.drafts) (�
 -- one is opened, or ended
 opened_run : (s : State) (part : Part) (d i taken : ℕ) (failed : Option Key) → are_sound s ≡ true → holds (may_open part i taken failed s.pairs) (slice_get s.drafts d) ≡ true → all_run s.drafts s.pairs ≡ true → all_run (part_opened part d i taken failed s).drafts (part_opened part d i taken failed s).pairs ≡ true
 opened_run s part d i taken failed fine may all =
-    taken_run (part_of part d i) _ s.pairs (take taken (keys_for (part_keys part) i (slice_get s.drafts d))) (unchanged s d (may_open part i taken failed s.pairs) _ (λ app p x t. opened_keeps part app p failed x t) may all)
+    taken_run (part_of part d i) _ s.pairs (take taken (keys_for part i (slice_get s.drafts d))) (unchanged s d (may_open part i taken failed s.pairs) _ (λ app p x t. opened_keeps part app p failed x t) may all)
     (holds_made (runs (is_app part) i) (λ x. is_sound (bound_of s) x && may_open part i taken failed s.pairs x) _ (opened_runs (bound_of s) part i taken failed s.pairs) s.drafts d (sound_at s d (may_open part i taken failed s.pairs) fine may))
 
 ended_run : (s : State) (part : Part) (d i : ℕ) → holds (may_end part i s) (slice_get s.drafts d) ≡ true → all_run s.drafts s.pairs ≡ true → all_run (part_ended part d i s).drafts (part_ended part d i s).pairs ≡ true
