@@ -77,7 +77,7 @@ abbrev pub ended_in : Part → Drafted → ℕ
 ended_in Instance x = x.cleaned
 ended_in App x = x.stopped
 
--- one more is opened, and this key has failed
+-- one more is opened, with the key that could not be, where there is one
 abbrev pub one_opened : Part → Option Key → Drafted → Drafted
 one_opened Instance failed = λ x. record x { made = x.made + 1; failed = failed }
 one_opened App failed = λ x. record x { started = x.started + 1; failed = failed }
