@@ -13,7 +13,7 @@ use Rattle.cd_legal.specs.Legal.{allowed, may_open, may_stop, may_clean, is_comp
 use Rattle.cd_legal.specs.Whole.{is_closed, is_closed_in}
 use Rattle.cd_legal.specs.Abandoned.{is_entry_of}
 use Rattle.cd_legal.proofs.Histories.{first, second}
-use Rattle.cd_legal.proofs.Facts.{makes, starts, completes, stops, cleans, can}
+use Rattle.cd_legal.proofs.Facts.{opens, completes, stops, cleans, can}
 use Rattle.cd_legal.proofs.Places.{holds_within}
 
 -- a draft that passes a test passes none that excludes it
@@ -49,9 +49,9 @@ pub closed-ends : (s : State) (d : ℕ) (e : Entry) → is_closed_in s d ≡ tru
 closed-ends s d (Draft j tree plan) closed is may =
     past_end d (length s.drafts) (sym (eqb-true j d is) ∙ (can s (Draft j tree plan) may).next) (holds_within (is_closed s.retired) s.drafts d closed)
 closed-ends s d (Made j i taken failed) closed is may =
-    clash (may_open Instance i taken failed s.pairs) (is_closed s.retired) (λ x m c. live_none s.retired x (ap is_live (makes i taken failed s.pairs x m).opened.live) c) (slice_get s.drafts d) (ap (λ (z : ℕ). holds (may_open Instance i taken failed s.pairs) (slice_get s.drafts z)) (sym (eqb-true j d is)) ∙ may) closed
+    clash (may_open Instance i taken failed s.pairs) (is_closed s.retired) (λ x m c. live_none s.retired x (ap is_live (opens Instance i taken failed s.pairs x m).opened.live) c) (slice_get s.drafts d) (ap (λ (z : ℕ). holds (may_open Instance i taken failed s.pairs) (slice_get s.drafts z)) (sym (eqb-true j d is)) ∙ may) closed
 closed-ends s d (Started j a taken failed) closed is may =
-    clash (may_open App a taken failed s.pairs) (is_closed s.retired) (λ x m c. live_none s.retired x (ap is_live (starts a taken failed s.pairs x m).opened.live) c) (slice_get s.drafts d) (ap (λ (z : ℕ). holds (may_open App a taken failed s.pairs) (slice_get s.drafts z)) (sym (eqb-true j d is)) ∙ may) closed
+    clash (may_open App a taken failed s.pairs) (is_closed s.retired) (λ x m c. live_none s.retired x (ap is_live (opens App a taken failed s.pairs x m).opened.live) c) (slice_get s.drafts d) (ap (λ (z : ℕ). holds (may_open App a taken failed s.pairs) (slice_get s.drafts z)) (sym (eqb-true j d is)) ∙ may) closed
 closed-ends s d (Publish j n from c) closed is may =
     clash is_complete (is_closed s.retired) (λ x m c. live_none s.retired x (ap is_live (completes x m).opened.live) c) (slice_get s.drafts d) (ap (λ (z : ℕ). holds is_complete (slice_get s.drafts z)) (sym (eqb-true j d is)) ∙ (can s (Publish j n from c) may).complete) closed
 closed-ends s d (Abandon j) closed is may = clash (λ x. is_live x.life) (is_closed s.retired) (λ x m c. live_none s.retired x m c) (slice_get s.drafts d) (ap (λ (z : ℕ). holds (λ (x : Drafted). is_live x.life) (slice_get s.drafts z)) (sym (eqb-true j d is)) ∙ may) closed

@@ -15,7 +15,8 @@ use Rattle.cd_legal.specs.declared.state.Drafted.{Drafted}
 use Rattle.cd_legal.specs.declared.state.Life.TheVariants.{Live, Published, Abandoned}
 use Rattle.cd_legal.specs.declared.state.OpenTicket.{OpenTicket}
 use Rattle.cd_legal.specs.Entry.{signed, mine}
-use Rattle.cd_legal.specs.State.{opening_state, holds, holds_if_there, has_number, instances_ready, is_live, may_stop_apps, may_clean_instances, all_stopped, all_cleaned, of_draft, apps_stopped, has_ticket, is_ticketed, ticket_of, open_by, open_at, new_draft, Conf, conf_of}
+use Rattle.cd_legal.specs.State.{opening_state, holds, holds_if_there, has_number, is_app, instances_ready, is_live, may_stop_apps, may_clean_instances, all_stopped, all_cleaned, of_draft, apps_stopped, has_ticket, is_ticketed, ticket_of, open_by, open_at, new_draft, Conf, conf_of}
+use Rattle.cd_legal.specs.Steps.{may_end}
 use Rattle.cd_legal.specs.Legal.{keys_fit, is_open, may_open, is_complete, may_stop, may_clean, may_retire, allowed, legal}
 use Rattle.cd_legal.specs.Laws.{core, core_at, is_core, bare, tickets_allow, tickets_fit}
 use Rattle.cd_legal.specs.Calls.{is_shut, failures}
@@ -89,8 +90,8 @@ module _ (t : Tree) (c : Change) where
   opens : (is_open fresh ≡ true) × (is_open (record fresh { failed = Some x_key }) ≡ false) × (is_open (record fresh { life = Abandoned }) ≡ false)
   opens = (refl, refl, refl)
 
-  waits : (instances_ready App made ≡ true) × (instances_ready App fresh ≡ false) × (instances_ready Instance fresh ≡ true)
-  waits = (refl, refl, refl)
+  parts : (is_app App ≡ true) × (is_app Instance ≡ false) × (instances_ready App made ≡ true) × (instances_ready App fresh ≡ false) × (instances_ready Instance fresh ≡ true)
+  parts = (refl, refl, refl, refl, refl)
 
   makes : (may_open Instance 0 1 None [] fresh ≡ true) × (may_open Instance 1 1 None [] made ≡ false) × (may_open Instance 0 0 None [] fresh ≡ false) × (may_open Instance 0 1 None [] ran ≡ false)
   makes = (refl, refl, refl, refl)
@@ -106,6 +107,10 @@ module _ (t : Tree) (c : Change) where
 
   cleans : (may_clean 0 (1 ∷ []) (record ran { stopped = 1 }) ≡ true) × (may_clean 0 (1 ∷ []) ran ≡ false) × (may_clean 0 [] (record ran { stopped = 1 }) ≡ false) × (all_cleaned ran ≡ false) × (all_cleaned (record ran { cleaned = 1 }) ≡ true)
   cleans = (refl, refl, refl, refl, refl)
+
+  ends_parts : (may_end App 0 (record opening_state { serial = 2 }) ran ≡ true) × (may_end App 0 opening_state ran ≡ false)
+      × (may_end Instance 0 (record opening_state { retired = 1 ∷ [] }) (record ran { stopped = 1 }) ≡ true) × (may_end Instance 0 opening_state (record ran { stopped = 1 }) ≡ false)
+  ends_parts = (refl, refl, refl, refl)
 
   finishes : (nothing_left_of [] whole ≡ true) × (nothing_left_of (1 ∷ []) ran ≡ false) × (nothing_left_of (1 ∷ []) (record ran { stopped = 1; cleaned = 1 }) ≡ true) × (nothing_left_of [] (record whole { life = Abandoned; stopped = 1 }) ≡ false)
   finishes = (refl, refl, refl, refl)

@@ -1,22 +1,21 @@
 -- What each entry asks, fact by fact: these follow from `allowed`, and `allowed` from these.
-use Rattle.std.proofs.Common.{◌≡◌, ◌<◌, ℕ, zero, suc, ◌+◌, ◌==◌, Bool, true, false, not, nat_lt, List, [], ◌∷◌, length, map, slice_get, Option, Some, None, refl, ap, ◌∙◌, arith, eq-eqb}
+use Rattle.std.proofs.Common.{◌≡◌, ◌<◌, ℕ, ◌+◌, ◌==◌, Bool, true, false, not, nat_lt, List, length, slice_get, Option, Some, None, refl, ap, ◌∙◌, arith, eq-eqb}
 use Rattle.std.specs.Prelude.{is_none}
 use Rattle.std.proofs.lemmas.Bool.{eqb-true}
 use Rattle.std.proofs.lemmas.Bool.Decides.{nat_tests}
 use Rattle.cd_outside.specs.declared.key.Key.{Key}
 use Rattle.cd_outside.specs.declared.holder.Pair.{Pair}
 use Rattle.cd_outside.specs.Keys.{keys_in}
+use Rattle.cd_legal.specs.declared.part.Part.{Part}
 use Rattle.cd_legal.specs.declared.part.Part.TheVariants.{Instance, App}
 use Rattle.cd_legal.specs.declared.limits.TheConstants.{MAX_DRAFTS}
 use Rattle.cd_legal.specs.declared.entry.Entry.{Entry}
 use Rattle.cd_legal.specs.declared.entry.Entry.TheVariants.{Draft, Made, Started, Publish, Abandon, Stopped, Begin, Finish, Retire, Cleaned, Halt}
-use Rattle.cd_legal.specs.declared.plan.PlanModule.{PlanModule}
-use Rattle.cd_legal.specs.declared.plan.PlanApp.{PlanApp}
 use Rattle.cd_legal.specs.declared.state.State.{State}
 use Rattle.cd_legal.specs.declared.state.Drafted.{Drafted}
 use Rattle.cd_legal.specs.declared.state.Life.{Life}
 use Rattle.cd_legal.specs.declared.state.Life.TheVariants.{Live, Published, Abandoned}
-use Rattle.cd_legal.specs.State.{holds, has_number, keys_at, module_keys, app_keys, is_live, may_stop_apps, may_clean_instances, all_stopped, apps_stopped, has_ticket, is_ticketed}
+use Rattle.cd_legal.specs.State.{holds, has_number, part_keys, opened_in, instances_ready, is_live, may_stop_apps, may_clean_instances, all_stopped, apps_stopped, has_ticket, is_ticketed}
 use Rattle.cd_legal.specs.Legal.{keys_fit, is_open, may_open, is_complete, may_stop, may_clean, allowed}
 use Rattle.cd_legal.proofs.Histories.{both, first, second}
 
@@ -45,17 +44,6 @@ none-is : (o : Option Key) → is_none o ≡ true → o ≡ None
 none-is None e = refl
 none-is (Some key) e = cc
 
--- what holds of the keys at a place, which is there
-in_place : {A : Type 0} (f : A → List Key) (test : List Key → Bool) (xs : List A) (i : ℕ) → holds test (slice_get (map f xs) i) ≡ true → (i < length xs) × (test (keys_at (map f xs) i) ≡ true)
-in_place f test [] i h = absurd (let e : false ≡ true = h in cc)
-in_place f test (x ∷ xs) zero h = (omega arith, h)
-in_place f test (x ∷ xs) (suc i) h = let (within, fit) = in_place f test xs i h in (omega arith, fit)
-
-in_place-by : {A : Type 0} (f : A → List Key) (test : List Key → Bool) (xs : List A) (i : ℕ) → i < length xs → test (keys_at (map f xs) i) ≡ true → holds test (slice_get (map f xs) i) ≡ true
-in_place-by f test [] i within fit = absurd (omega arith)
-in_place-by f test (x ∷ xs) zero within fit = fit
-in_place-by f test (x ∷ xs) (suc i) within fit = in_place-by f test xs i (omega arith) fit
-
 -- ---- a draft
 
 -- it is there, and passes the test
@@ -69,20 +57,12 @@ pub record IsOpen (x : Drafted) : Type 0 where
   pub live : x.life ≡ Live
   pub unfailed : x.failed ≡ None
 
--- instance i is made
-pub record Makes (i taken : ℕ) (failed : Option Key) (pairs : List Pair) (x : Drafted) : Type 0 where
+-- place i is opened: an instance is made, or an app is started
+pub record Opens (part : Part) (i taken : ℕ) (failed : Option Key) (pairs : List Pair) (x : Drafted) : Type 0 where
   pub opened : IsOpen x
-  pub next : i ≡ x.made
-  pub within : i < length x.plan.modules
-  pub fit : keys_fit (keys_in pairs) (keys_at (module_keys x.plan) i) taken failed ≡ true
-
--- app a is started
-pub record Starts (a taken : ℕ) (failed : Option Key) (pairs : List Pair) (x : Drafted) : Type 0 where
-  pub opened : IsOpen x
-  pub made : x.made ≡ length x.plan.modules
-  pub next : a ≡ x.started
-  pub within : a < length x.plan.apps
-  pub fit : keys_fit (keys_in pairs) (keys_at (app_keys x.plan) a) taken failed ≡ true
+  pub ready : instances_ready part x ≡ true
+  pub next : i ≡ opened_in part x
+  pub fit : holds (λ keys. keys_fit (keys_in pairs) keys taken failed) (slice_get (part_keys part x.plan) i) ≡ true
 
 -- all is made and started
 pub record Completes (x : Drafted) : Type 0 where
@@ -111,49 +91,30 @@ there test xs d m = there_in test xs d (slice_get xs d) refl m
 pub holds-there : (test : Drafted → Bool) (xs : List Drafted) (d : ℕ) → There test xs d → holds test (slice_get xs d) ≡ true
 holds-there test xs d t = ap (holds test) t.is ∙ t.passes
 
-pub opens : (x : Drafted) → is_open x ≡ true → IsOpen x
-opens x m = record { live = live-is x.life (first (is_live x.life) _ m); unfailed = none-is x.failed (second (is_live x.life) _ m) }
+pub live_open : (x : Drafted) → is_open x ≡ true → IsOpen x
+live_open x m = record { live = live-is x.life (first (is_live x.life) _ m); unfailed = none-is x.failed (second (is_live x.life) _ m) }
 
 pub is_open-by : (x : Drafted) → IsOpen x → is_open x ≡ true
 is_open-by x f = both (is_live x.life) _ (ap is_live f.live) (ap is_none f.unfailed)
 
-pub makes : (i taken : ℕ) (failed : Option Key) (ps : List Pair) (x : Drafted) → may_open Instance i taken failed ps x ≡ true → Makes i taken failed ps x
-makes i taken failed ps x m =
+pub opens : (part : Part) (i taken : ℕ) (failed : Option Key) (ps : List Pair) (x : Drafted) → may_open part i taken failed ps x ≡ true → Opens part i taken failed ps x
+opens part i taken failed ps x m =
     let a = second (is_open x) _ m in
-    let b = in_place (λ (m : PlanModule). m.keys) (λ ks. keys_fit (keys_in ps) ks taken failed) x.plan.modules i (second (i == x.made) _ a) in record {
-      opened = opens x (first (is_open x) _ m);
-      next = eqb-true i x.made (first (i == x.made) _ a);
-      within = b.0;
-      fit = b.1;
+    let b = second (instances_ready part x) _ a in record {
+      opened = live_open x (first (is_open x) _ m);
+      ready = first (instances_ready part x) _ a;
+      next = eqb-true i (opened_in part x) (first (i == opened_in part x) _ b);
+      fit = second (i == opened_in part x) _ b;
     }
 
-pub makes-by : (i taken : ℕ) (failed : Option Key) (ps : List Pair) (x : Drafted) → Makes i taken failed ps x → may_open Instance i taken failed ps x ≡ true
-makes-by i taken failed ps x f =
-    both (is_open x) _ (is_open-by x f.opened)
-    (both (i == x.made) _ (eq-eqb i x.made f.next) (in_place-by (λ (m : PlanModule). m.keys) (λ ks. keys_fit (keys_in ps) ks taken failed) x.plan.modules i f.within f.fit))
-
-pub starts : (a taken : ℕ) (failed : Option Key) (ps : List Pair) (x : Drafted) → may_open App a taken failed ps x ≡ true → Starts a taken failed ps x
-starts a taken failed ps x m =
-    let p = second (is_open x) _ m in
-    let q = second (x.made == length x.plan.modules) _ p in
-    let r = in_place (λ (z : PlanApp). z.keys) (λ ks. keys_fit (keys_in ps) ks taken failed) x.plan.apps a (second (a == x.started) _ q) in record {
-      opened = opens x (first (is_open x) _ m);
-      made = eqb-true x.made (length x.plan.modules) (first (x.made == length x.plan.modules) _ p);
-      next = eqb-true a x.started (first (a == x.started) _ q);
-      within = r.0;
-      fit = r.1;
-    }
-
-pub starts-by : (a taken : ℕ) (failed : Option Key) (ps : List Pair) (x : Drafted) → Starts a taken failed ps x → may_open App a taken failed ps x ≡ true
-starts-by a taken failed ps x f =
-    both (is_open x) _ (is_open-by x f.opened)
-    (both (x.made == length x.plan.modules) _ (eq-eqb x.made (length x.plan.modules) f.made)
-    (both (a == x.started) _ (eq-eqb a x.started f.next) (in_place-by (λ (z : PlanApp). z.keys) (λ ks. keys_fit (keys_in ps) ks taken failed) x.plan.apps a f.within f.fit)))
+pub opens-by : (part : Part) (i taken : ℕ) (failed : Option Key) (ps : List Pair) (x : Drafted) → Opens part i taken failed ps x → may_open part i taken failed ps x ≡ true
+opens-by part i taken failed ps x f =
+    both (is_open x) _ (is_open-by x f.opened) (both (instances_ready part x) _ f.ready (both (i == opened_in part x) _ (eq-eqb i (opened_in part x) f.next) f.fit))
 
 pub completes : (x : Drafted) → is_complete x ≡ true → Completes x
 completes x m =
     let a = second (is_open x) _ m in record {
-      opened = opens x (first (is_open x) _ m);
+      opened = live_open x (first (is_open x) _ m);
       made = eqb-true x.made (length x.plan.modules) (first (x.made == length x.plan.modules) _ a);
       started = eqb-true x.started (length x.plan.apps) (second (x.made == length x.plan.modules) _ a);
     }

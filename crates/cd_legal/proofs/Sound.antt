@@ -1,10 +1,13 @@
 -- What each state of a legal history has: of a live draft nothing is ended, and no draft has a serial that is not there yet.
-use Rattle.std.proofs.Common.{◌≡◌, ◌≤◌, ℕ, ◌+◌, ◌==◌, zero, suc, Bool, true, false, ◌&&◌, not, cond, nat_lt, List, [], ◌∷◌, slice_get, refl, ◌∙◌, arith}
+use Rattle.std.proofs.Common.{◌≡◌, ◌≤◌, ℕ, ◌+◌, ◌==◌, zero, suc, Bool, true, false, ◌&&◌, not, cond, nat_lt, List, [], ◌∷◌, slice_get, refl, ◌∙◌, arith, Option}
 use Rattle.std.specs.Prelude.{◌||◌}
 use Rattle.std.specs.List.{list_all}
 use Rattle.std.proofs.lemmas.Bool.Decides.{nat_tests}
 use Rattle.std.proofs.lemmas.Bool.{eqb-true}
 use Rattle.std.proofs.lemmas.List.Folds.{list_all-append}
+use Rattle.cd_outside.specs.declared.key.Key.{Key}
+use Rattle.cd_outside.specs.declared.holder.Pair.{Pair}
+use Rattle.cd_legal.specs.declared.part.Part.{Part}
 use Rattle.cd_legal.specs.declared.part.Part.TheVariants.{Instance, App}
 use Rattle.cd_legal.specs.declared.entry.Change.{Change}
 use Rattle.cd_legal.specs.declared.entry.Entry.{Entry}
@@ -16,7 +19,7 @@ use Rattle.cd_legal.specs.declared.state.Life.TheVariants.{Live, Published, Aban
 use Rattle.cd_legal.specs.State.{holds, change_at, is_live, may_stop_apps, may_clean_instances}
 use Rattle.cd_legal.specs.Legal.{allowed, after, legal_from, legal, state_from, may_open, may_stop, may_clean, is_complete}
 use Rattle.cd_legal.proofs.Histories.{both, first, second, along}
-use Rattle.cd_legal.proofs.Facts.{Publishes, Halts, stops, cleans, can}
+use Rattle.cd_legal.proofs.Facts.{Publishes, Halts, opens, stops, cleans, can}
 
 -- ---- drafts
 
@@ -135,3 +138,7 @@ nothing_ended Abandoned b st cl live e = cc
 -- so of a live one nothing is ended
 pub live_whole : (bound : ℕ) (x : Drafted) → x.life ≡ Live → is_sound bound x ≡ true → (x.stopped ≡ 0) × (x.cleaned ≡ 0)
 live_whole bound x live e = nothing_ended x.life bound x.stopped x.cleaned live e
+
+-- so where one more may be opened
+pub open_whole : (bound : ℕ) (part : Part) (i taken : ℕ) (failed : Option Key) (ps : List Pair) (x : Drafted) → (is_sound bound x && may_open part i taken failed ps x) ≡ true → (x.stopped ≡ 0) × (x.cleaned ≡ 0)
+open_whole bound part i taken failed ps x m = live_whole bound x (opens part i taken failed ps x (second (is_sound bound x) _ m)).opened.live (first (is_sound bound x) _ m)

@@ -73,7 +73,7 @@ allowed s (Halt n) = not s.halted && (n == s.serial + 1)
 abbrev pub part_opened : Part → ℕ → ℕ → ℕ → Option Key → State → State
 part_opened part d i taken failed s = record s {
   drafts = change_at (one_opened part failed) d s.drafts;
-  pairs = s.pairs ++ pairs_for (part_of part d i) (take taken (keys_for (part_keys part) i (slice_get s.drafts d)));
+  pairs = s.pairs ++ pairs_for (part_of part d i) (take taken (keys_for part i (slice_get s.drafts d)));
 }
 
 -- it is ended: it counts, and gives its keys back

@@ -47,31 +47,19 @@ keys_at [] i = []
 keys_at (keys ∷ rest) zero = keys
 keys_at (keys ∷ rest) (suc i) = keys_at rest i
 
--- the keys of each module of the plan
-abbrev pub module_keys : Plan → List (List Key)
-module_keys plan = map (λ m. m.keys) plan.modules
-
--- the keys of each app of the plan
-abbrev pub app_keys : Plan → List (List Key)
-app_keys plan = map (λ a. a.keys) plan.apps
-
--- either, by the kind
+-- the keys of each module of the plan, or of each app
 abbrev pub part_keys : Part → Plan → List (List Key)
-part_keys Instance = module_keys
-part_keys App = app_keys
+part_keys Instance plan = map (λ m. m.keys) plan.modules
+part_keys App plan = map (λ a. a.keys) plan.apps
 
--- instance i of draft d
-abbrev pub instance_of : ℕ → ℕ → Holder
-instance_of d i = record { draft = d; app = false; place = i }
+-- whether it is an app
+abbrev pub is_app : Part → Bool
+is_app Instance = false
+is_app App = true
 
--- app a of draft d
-abbrev pub app_of : ℕ → ℕ → Holder
-app_of d a = record { draft = d; app = true; place = a }
-
--- either, by the kind
+-- instance i of draft d, or app i
 abbrev pub part_of : Part → ℕ → ℕ → Holder
-part_of Instance d i = instance_of d i
-part_of App d a = app_of d a
+part_of part d i = record { draft = d; app = is_app part; place = i }
 
 -- ---- drafts
 
@@ -89,7 +77,7 @@ abbrev pub ended_in : Part → Drafted → ℕ
 ended_in Instance x = x.cleaned
 ended_in App x = x.stopped
 
--- one more is opened, and this key has failed
+-- one more is opened, with the key that could not be, where there is one
 abbrev pub one_opened : Part → Option Key → Drafted → Drafted
 one_opened Instance failed = λ x. record x { made = x.made + 1; failed = failed }
 one_opened App failed = λ x. record x { started = x.started + 1; failed = failed }
@@ -131,9 +119,9 @@ abbrev pub all_cleaned : Drafted → Bool
 all_cleaned x = x.cleaned == x.made
 
 -- the keys that an entry for place i may take of a draft
-abbrev pub keys_for : (Plan → List (List Key)) → ℕ → Option Drafted → List Key
-keys_for keys i None = []
-keys_for keys i (Some x) = keys_at (keys x.plan) i
+abbrev pub keys_for : Part → ℕ → Option Drafted → List Key
+keys_for part i None = []
+keys_for part i (Some x) = keys_at (part_keys part x.plan) i
 
 -- ---- serials
 

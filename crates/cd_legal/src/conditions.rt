@@ -1,10 +1,11 @@
-ghost use Rattle.std.specs.Prelude.{◌≡◌};
-ghost use Rattle.cd_legal.specs.State.{may_stop_apps, may_clean_instances, all_stopped, has_number};
-ghost use Rattle.cd_legal.specs.Legal.{is_open, may_open, is_complete, may_stop, may_clean};
+ghost use Rattle.std.specs.Prelude.{◌≡◌, slice_get};
+ghost use Rattle.cd_outside.specs.Keys.{keys_in};
+ghost use Rattle.cd_legal.specs.State.{holds, part_keys, may_stop_apps, may_clean_instances, all_stopped, has_number};
+ghost use Rattle.cd_legal.specs.Legal.{keys_fit, is_open, may_open, is_complete, may_stop, may_clean};
 
 use crate::keys::keys_fit;
 use crate::part::Part;
-use crate::{Drafted, Life};
+use crate::{Drafted, Life, Plan};
 use cd_outside::{Key, Pair};
 
 /// Whether the draft is live and has no failed key.
@@ -29,13 +30,24 @@ pub(crate) fn may_open(
 ) -> bool
     ensures { result ≡ may_open part place taken failed.now pairs.now drafted.now }
 {
-    if !is_open(drafted) || !part.instances_ready(drafted) {
-        return false;
-    }
-    if u64::from(place) != part.opened_in(drafted) {
-        return false;
-    }
-    match part.keys_at(&drafted.plan, place) {
+    is_open(drafted)
+        && part.instances_ready(drafted)
+        && u64::from(place) == part.opened_in(drafted)
+        && keys_fit_at(part, &drafted.plan, place, taken, failed, pairs)
+}
+
+// Whether the plan has it, with keys that fit.
+fn keys_fit_at(
+    part: Part,
+    plan: &Plan,
+    place: u32,
+    taken: u32,
+    failed: &Option<Key>,
+    pairs: &[Pair],
+) -> bool
+    ensures { result ≡ holds (λ keys. keys_fit (keys_in pairs.now) keys taken failed.now) (slice_get (part_keys part plan.now) place) }
+{
+    match part.keys_at(plan, place) {
         Some(keys) => keys_fit(pairs, keys, taken, failed),
         None => false,
     }

@@ -54,7 +54,7 @@ fn may_open_of(
 
 // The keys of the one at this place in the plan of a draft.
 fn keys_to_open(part: Part, drafts: &List<Drafted>, at: usize, place: u32) -> &[Key]
-    ensures { result.now ≡ keys_for (part_keys part) place (slice_get drafts.now at) }
+    ensures { result.now ≡ keys_for part place (slice_get drafts.now at) }
 {
     let Some(drafted) = drafts.get(at) else {
         return &[];
