@@ -2,7 +2,7 @@
 ghost use Rattle.std.specs.Prelude.{◌≡◌, [], IfOk};
 ghost use Rattle.cd_text.specs.Gives.{Gives};
 ghost use Rattle.cd_ids.specs.Ids.{id_fault};
-ghost use Rattle.cd_standard.specs.Loading.{accepted, all_distinct, loaded, nothing_said, of_ids, of_object, planned as planned_of};
+ghost use Rattle.cd_standard.specs.Loading.{accepted, all_distinct, loaded, nothing_said, of_ids, of_object, of_settings, planned as planned_of};
 ghost use Rattle.cd_standard.specs.Plans.{addresses_of, plan_of};
 
 use crate::admin::Admin;
@@ -54,6 +54,12 @@ fn load_object(alloc: Global, tree: &Tree) -> Result<Loaded, LoadFault>
     ensures { Gives LoadFault.NoMemory result (of_object tree.now) }
 {
     check_ids(alloc, tree)?;
+    load_settings(alloc, tree)
+}
+
+fn load_settings(alloc: Global, tree: &Tree) -> Result<Loaded, LoadFault>
+    ensures { Gives LoadFault.NoMemory result (of_settings tree.now) }
+{
     let configuration = Configuration::read(alloc, tree, &Path::root(alloc))?;
     accept(alloc, configuration)
 }
