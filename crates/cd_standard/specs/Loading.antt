@@ -74,15 +74,17 @@ all_distinct before (one ∷ others) =
 
 -- ---- the whole
 
+-- what is said of the whole: limits come before addresses
+abbrev pub judged : Configuration → Result (Unit {0}) LoadFault
+judged c =
+    limits c ▷ λ _.
+    all_distinct [] (addresses_of c)
+
 abbrev pub planned : Configuration → Loaded
 planned c = record { configuration = c; plan = plan_of c }
 
--- limits come before addresses
 abbrev pub accepted : Configuration → Result Loaded LoadFault
-accepted c =
-    limits c ▷ λ _.
-    all_distinct [] (addresses_of c) ▷ λ _.
-    Ok (planned c)
+accepted c = judged c ▷ λ _. Ok (planned c)
 
 -- settings come before all that is said of the whole
 abbrev pub of_settings : Tree → Result Loaded LoadFault
