@@ -2,5 +2,4 @@ pub mod Adding
 pub mod Counts
 pub mod Errors
 pub mod Levels
-pub mod Wholes
 pub mod Examples

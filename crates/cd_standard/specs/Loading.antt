@@ -74,22 +74,25 @@ all_distinct before (one ∷ others) =
 
 -- ---- the whole
 
+-- what is said of the whole: limits come before addresses
+abbrev pub judged : Configuration → Result (Unit {0}) LoadFault
+judged c =
+    limits c ▷ λ _.
+    all_distinct [] (addresses_of c)
+
 abbrev pub planned : Configuration → Loaded
 planned c = record { configuration = c; plan = plan_of c }
 
--- limits come before addresses
 abbrev pub accepted : Configuration → Result Loaded LoadFault
-accepted c =
-    limits c ▷ λ _.
-    all_distinct [] (addresses_of c) ▷ λ _.
-    Ok (planned c)
+accepted c = judged c ▷ λ _. Ok (planned c)
 
--- an object: its ids come before its settings, and these before all that is said of the whole
+-- settings come before all that is said of the whole
+abbrev pub of_settings : Tree → Result Loaded LoadFault
+of_settings t = configuration t root ▷ λ c. accepted c
+
+-- ids come before settings
 abbrev pub of_object : Tree → Result Loaded LoadFault
-of_object t =
-    of_ids (id_fault t) ▷ λ _.
-    configuration t root ▷ λ c.
-    accepted c
+of_object t = of_ids (id_fault t) ▷ λ _. of_settings t
 
 -- what null says: nothing
 abbrev pub nothing_said : Configuration

@@ -5,36 +5,42 @@ ghost use Rattle.cd_text.specs.Gives.{Gives};
 ghost use Rattle.cd_addr.specs.Addresses.{written};
 ghost use Rattle.cd_module.specs.Faults.{repeated_address, within};
 ghost use Rattle.cd_routes.specs.Catching.{error_subroutes};
-ghost use Rattle.cd_standard.specs.Loading.{all_distinct, app_servers, few_errors, is_address, is_among, limits, servers_of};
+ghost use Rattle.cd_standard.specs.Loading.{all_distinct, app_servers, few_errors, is_address, is_among, judged, limits, servers_of};
 ghost use Rattle.cd_standard.specs.Plans.{addresses_of, modules_of};
 
 use crate::app::App;
 use crate::configuration::Configuration;
 use crate::counting::{count_addresses, count_servers};
-use crate::listening::Listened;
-use crate::planning::modules_of;
+use crate::listening::{Listened, addresses_of};
 use cd_addr::write;
 use cd_module::{Limit, LoadFault};
 use cd_outside::Address;
 use cd_routes::Server;
 use std::alloc::Global;
 
+/// The first fault of the whole of a configuration, which has so many modules.
+pub fn judge(alloc: Global, configuration: &Configuration, modules: usize) -> Result<(), LoadFault>
+    requires { modules ≡ length (modules_of configuration.now) }
+    ensures { Gives LoadFault.NoMemory result (judged configuration.now) }
+{
+    check_limits(alloc, configuration, modules)?;
+    check_addresses(alloc, configuration)
+}
+
 // ---- limits
 
-pub fn check_limits(alloc: Global, configuration: &Configuration) -> Result<(), LoadFault>
+fn check_limits(
+    alloc: Global,
+    configuration: &Configuration,
+    modules: usize,
+) -> Result<(), LoadFault>
+    requires { modules ≡ length (modules_of configuration.now) }
     ensures { Gives LoadFault.NoMemory result (limits configuration.now) }
 {
-    check_modules(alloc, configuration)?;
+    Limit::Modules.allows(alloc, modules)?;
     check_count_of_addresses(alloc, configuration)?;
     check_count_of_servers(alloc, configuration)?;
     check_errors(alloc, configuration.apps.as_slice())
-}
-
-fn check_modules(alloc: Global, configuration: &Configuration) -> Result<(), LoadFault>
-    ensures { Gives LoadFault.NoMemory result (within Limit.Modules (length (modules_of configuration.now))) }
-{
-    let modules = modules_of(alloc, configuration)?;
-    Limit::Modules.allows(alloc, modules.len())
 }
 
 #[tactic(auto, using(crate::proofs::Counts::within_counted))]
@@ -87,7 +93,14 @@ fn check_errors_of(alloc: Global, server: &Server) -> Result<(), LoadFault>
 
 // ---- addresses
 
-pub fn check_distinct(alloc: Global, listened: &[Listened]) -> Result<(), LoadFault>
+fn check_addresses(alloc: Global, configuration: &Configuration) -> Result<(), LoadFault>
+    ensures { Gives LoadFault.NoMemory result (all_distinct [] (addresses_of configuration.now)) }
+{
+    let listened = addresses_of(alloc, configuration)?;
+    check_distinct(alloc, listened.as_slice())
+}
+
+fn check_distinct(alloc: Global, listened: &[Listened]) -> Result<(), LoadFault>
     ensures { Gives LoadFault.NoMemory result (all_distinct [] listened.now) }
 {
     for (place, one) in listened.iter().enumerate() {

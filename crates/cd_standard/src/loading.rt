@@ -1,15 +1,15 @@
 //! What a tree comes to as a configuration.
-ghost use Rattle.std.specs.Prelude.{◌≡◌, [], IfOk};
+ghost use Rattle.std.specs.Prelude.{◌≡◌, IfOk};
 ghost use Rattle.cd_text.specs.Gives.{Gives};
 ghost use Rattle.cd_ids.specs.Ids.{id_fault};
-ghost use Rattle.cd_standard.specs.Loading.{accepted, all_distinct, loaded, nothing_said, of_ids, of_object, planned as planned_of};
-ghost use Rattle.cd_standard.specs.Plans.{addresses_of, plan_of};
+ghost use Rattle.cd_standard.specs.Loading.{accepted, loaded, nothing_said, of_ids, of_object, of_settings, planned};
+ghost use Rattle.cd_standard.specs.Plans.{modules_of};
 
 use crate::admin::Admin;
 use crate::configuration::Configuration;
-use crate::judging::{check_distinct, check_limits};
-use crate::listening::{addresses_of, apps_of};
-use crate::plan::Plan;
+use crate::judging::judge;
+use crate::listening::apps_of;
+use crate::plan::{Plan, Planned};
 use crate::planning::modules_of;
 use cd_ids::{IdFault, Index};
 use cd_module::{LoadFault, LoadKind, Settings};
@@ -41,19 +41,26 @@ pub fn load(alloc: Global, tree: &Tree) -> Result<Loaded, LoadFault>
 }
 
 fn load_nothing(alloc: Global) -> Result<Loaded, NoMemory>
-    ensures { IfOk result (λ made. made ≡ planned_of nothing_said) }
+    ensures { IfOk result (λ made. made ≡ planned nothing_said) }
 {
     let configuration = Configuration {
         admin: Admin::usual(alloc)?,
         apps: List::new(alloc),
     };
-    planned(alloc, configuration)
+    let modules = modules_of(alloc, &configuration)?;
+    with_plan(alloc, configuration, modules)
 }
 
 fn load_object(alloc: Global, tree: &Tree) -> Result<Loaded, LoadFault>
     ensures { Gives LoadFault.NoMemory result (of_object tree.now) }
 {
     check_ids(alloc, tree)?;
+    load_settings(alloc, tree)
+}
+
+fn load_settings(alloc: Global, tree: &Tree) -> Result<Loaded, LoadFault>
+    ensures { Gives LoadFault.NoMemory result (of_settings tree.now) }
+{
     let configuration = Configuration::read(alloc, tree, &Path::root(alloc))?;
     accept(alloc, configuration)
 }
@@ -71,36 +78,26 @@ fn check_ids(alloc: Global, tree: &Tree) -> Result<(), LoadFault>
     }
 }
 
+// The modules are made once, and counted as they are.
 fn accept(alloc: Global, configuration: Configuration) -> Result<Loaded, LoadFault>
     ensures { Gives LoadFault.NoMemory result (accepted configuration) }
 {
-    check_limits(alloc, &configuration)?;
-    check_addresses(alloc, &configuration)?;
-    Ok(planned(alloc, configuration)?)
+    let modules = modules_of(alloc, &configuration)?;
+    judge(alloc, &configuration, modules.len())?;
+    Ok(with_plan(alloc, configuration, modules)?)
 }
 
-fn check_addresses(alloc: Global, configuration: &Configuration) -> Result<(), LoadFault>
-    ensures { Gives LoadFault.NoMemory result (all_distinct [] (addresses_of configuration.now)) }
+fn with_plan(
+    alloc: Global,
+    configuration: Configuration,
+    modules: List<Planned>,
+) -> Result<Loaded, NoMemory>
+    requires { modules ≡ modules_of configuration }
+    ensures { IfOk result (λ made. made ≡ planned configuration) }
 {
-    let listened = addresses_of(alloc, configuration)?;
-    check_distinct(alloc, listened.as_slice())
-}
-
-fn planned(alloc: Global, configuration: Configuration) -> Result<Loaded, NoMemory>
-    ensures { IfOk result (λ made. made ≡ planned_of configuration) }
-{
-    let plan = plan_of(alloc, &configuration)?;
+    let apps = apps_of(alloc, &configuration)?;
     Ok(Loaded {
         configuration,
-        plan,
-    })
-}
-
-fn plan_of(alloc: Global, configuration: &Configuration) -> Result<Plan, NoMemory>
-    ensures { IfOk result (λ made. made ≡ plan_of configuration.now) }
-{
-    Ok(Plan {
-        modules: modules_of(alloc, configuration)?,
-        apps: apps_of(alloc, configuration)?,
+        plan: Plan { modules, apps },
     })
 }
