@@ -20,7 +20,7 @@ module _ {T : Type 0} where
 
   -- a view that has seen and made nothing, and owes nothing
   abbrev NewView : View T → Type 0
-  NewView v = (v.seen ≡ []) × (v.mine ≡ []) × (v.older ≡ []) × ((owed v ≡ owes_nothing) × (v.duties ≡ []))
+  NewView v = (v.seen ≡ []) × (v.mine ≡ []) × ((owed v ≡ owes_nothing) × (v.duties ≡ []))
 
   pub row_one : (z : TableId) (o : T) (p : Pass T) → IsIdle z o p → view p ≡ first_view o → IsRow z o (p ∷ []) × AreNew (p ∷ [])
   row_one z o p idle is = (
@@ -29,7 +29,7 @@ module _ {T : Type 0} where
       each = λ i q e. let h = only_one p q i e in subst (λ (t : ℕ × Pass T). IsIdle z o t.1 × ((view t.1).number ≡ t.0)) (λ k. (sym h.0 k, h.1 k)) (idle, ap (λ (v : View T). v.number) is);
       root = λ q e. let h = only_one p q 0 e in subst (λ (t : Pass T). ((view t).made ≡ 1) × ((view t).joined ≡ [])) h.1 (ap (λ (v : View T). v.made) is, ap (λ (v : View T). v.joined) is);
     },
-    record { each = λ i q e. let h = only_one p q i e in subst (λ (t : Pass T). NewView (view t)) h.1 (subst NewView (sym is) (refl, refl, refl, (refl, refl))) },
+    record { each = λ i q e. let h = only_one p q i e in subst (λ (t : Pass T). NewView (view t)) h.1 (subst NewView (sym is) (refl, refl, (refl, refl))) },
   )
 
   -- one pass more
@@ -46,7 +46,7 @@ module _ {T : Type 0} where
       let good_p : Good (length now) p = (idle', ap (λ (v : View T). v.number) is' ∙ (root.0 ∙ sym (length-set passes 0 f'))) in
       let fresh = new.each 0 f at in
       let fresh_f : Fresh f' = subst NewView (sym is) fresh in
-      let fresh_p : Fresh p = subst NewView (sym is') (fresh.0, refl, refl, (refl, refl)) in (
+      let fresh_p : Fresh p = subst NewView (sym is') (fresh.0, refl, (refl, refl)) in (
         record {
           some_pass = let a = row.some_pass in omega arith;
           each = λ i q e. ⊎_elim

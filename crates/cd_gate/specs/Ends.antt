@@ -33,7 +33,7 @@ module _ {T : Type 0} where
 
   -- the passes have seen nothing and made nothing
   pub record AreNew (passes : List (Pass T)) : Type 0 where
-    pub each : (i : ℕ) (p : Pass T) → get_elem? passes i ≡ some p → ((view p).seen ≡ []) × ((view p).mine ≡ []) × ((view p).older ≡ []) × IsFree p
+    pub each : (i : ℕ) (p : Pass T) → get_elem? passes i ≡ some p → ((view p).seen ≡ []) × ((view p).mine ≡ []) × IsFree p
 
   -- what is known of a board when its passes have come together
   pub record Closes (stands : T → T → List Signed → Type 0) (o : T) (passes : List (Pass T)) (b : T) : Type 0 where

@@ -9,9 +9,9 @@ module _ {T : Type 0} where
   abbrev pub view : Pass T → View T
   view p = p.seat.me.0
 
-  -- a pass of the gate with this table, which began with the value o
+  -- a pass of the gate with this table, which began with the value o; it has no list to compare
   abbrev pub IsOf : TableId → T → Pass T → Type 0
-  IsOf z o p = (p.seat.table_id ≡ z) × (p.seat.me.0.live ≡ true) × (p.number ≡ p.seat.me.0.number) × (p.seat.me.0.opening ≡ Some o)
+  IsOf z o p = (p.seat.table_id ≡ z) × (p.seat.me.0.live ≡ true) × (p.number ≡ p.seat.me.0.number) × (p.seat.me.0.opening ≡ Some o) × (p.seat.me.0.older ≡ [])
 
   -- a pass of this table that has no turn
   abbrev pub IsIdle : TableId → T → Pass T → Type 0

@@ -117,7 +117,7 @@ impl<T: Stands> Gate<T> {
     /// Afterwards `to` has seen all that `from` had seen.
     pub fn tell(&self, from: &mut Pass<T>, to: &mut Pass<T>)
         requires from { from.old.seat.table_id ≡ self.now.table.shared.table_id }
-        requires to { IsIdle self.now.table.shared.table_id self.now.table.shared.key.value to.old × ((view to.old).older ≡ []) }
+        requires to { IsIdle self.now.table.shared.table_id self.now.table.shared.key.value to.old }
         ensures from { from.new ≡ from.old }
         ensures to { IsIdle self.now.table.shared.table_id self.now.table.shared.key.value to.new × (view to.new ≡ record (view to.old) { seen = longer (view to.old).seen (view from.old).seen }) }
         ensures seen { IsPrefix (view to.old).seen (view to.new).seen × IsPrefix (view from.old).seen (view to.new).seen }
