@@ -7,4 +7,7 @@ pub mod Notes
 pub mod Seats
 pub mod Telling
 pub mod Known
+pub mod Tables
+pub mod Rows
+pub mod Closing
 mod Examples

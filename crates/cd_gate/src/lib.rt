@@ -5,13 +5,22 @@
 //! say, where the board is, and what each pass knows of it all is plain data (`Moment` of specs/Words.antt, `View`). The rule
 //! `IsKept` of specs/Rule.antt says how these agree with one history, which no value holds.
 //!
-//! The kinds of steps stand in specs/Steps.antt, and the laws (laws.rt) say of each that it keeps the rule. No word of memory is
-//! touched here yet.
+//! The kinds of steps stand in specs/Steps.antt, and the laws (laws.rt) say of each that it keeps the rule. `Gate` (gate.rt, and
+//! ends.rt for its beginning and end) makes them on a table of two words and one slot (table.rt, plays.rt): specs/Tables.antt
+//! says how such a table shows a moment, specs/Passes.antt and specs/Ends.antt what callers see. Of all calls only `enter` waits,
+//! and only `new` takes memory.
 #![tactic(auto)]
 
+mod ends;
+mod gate;
 mod laws;
+mod pass;
+mod plays;
+mod table;
 mod view;
 
+pub use ends::NoGate;
+pub use gate::Gate;
 pub use laws::{
     a_gate_begins_by_the_rule, acquiring_keeps_the_rule, comparing_keeps_the_rule,
     copying_keeps_the_rule, handing_over_keeps_the_rule, joining_keeps_the_rule,
@@ -19,4 +28,6 @@ pub use laws::{
     noting_keeps_the_rule, one_pass_has_the_turn, passes_sign_the_history,
     releasing_keeps_the_rule, splitting_keeps_the_rule, tickets_are_in_views,
 };
+pub use pass::{Pass, Turn};
+pub use plays::{Names, Says};
 pub use view::{Gone, View};

@@ -1,0 +1,22 @@
+-- What callers see of a pass.
+use Rattle.std.specs.Prelude.{◌≡◌, true, false, [], ◌∷◌, Some, None}
+use Rattle.atomic_table.specs.Seated.{TableId}
+use Rattle.cd_gate.specs.declared.view.View.{View}
+use Rattle.cd_gate.specs.declared.pass.Pass.{Pass}
+
+module _ {T : Type 0} where
+  -- what a pass knows
+  abbrev pub view : Pass T → View T
+  view p = p.seat.me.0
+
+  -- a pass of the gate with this table, which began with the value o; it has no list to compare
+  abbrev pub IsOf : TableId → T → Pass T → Type 0
+  IsOf z o p = (p.seat.table_id ≡ z) × (p.seat.me.0.live ≡ true) × (p.number ≡ p.seat.me.0.number) × (p.seat.me.0.opening ≡ Some o) × (p.seat.me.0.older ≡ [])
+
+  -- a pass of this table that has no turn
+  abbrev pub IsIdle : TableId → T → Pass T → Type 0
+  IsIdle z o p = IsOf z o p × (p.seat.me.0.turn ≡ false) × (p.seat.me.1 ≡ [])
+
+  -- a pass of this table that has the turn, with the board taken out of the slot
+  abbrev pub HasTurn : TableId → T → Pass T → Type 0
+  HasTurn z o p = IsOf z o p × (p.seat.me.0.turn ≡ true) × (p.seat.me.1 ≡ (0, None) ∷ [])

@@ -1,0 +1,100 @@
+// How a gate is made and closed.
+ghost use Rattle.std.specs.Prelude.{◌≡◌, ◌<◌, ◌≤◌, ◌∷◌, [], length, IfOk, IfErr, Some};
+ghost use Rattle.std.specs.Vec.{vec_capacity};
+ghost use Rattle.cd_legal.specs.declared.limits.TheConstants.{MAX_SEATS};
+ghost use Rattle.cd_gate.specs.Ends.{IsRow, AreFree, AreNew, Closes, Gathers};
+
+use crate::gate::Gate;
+use crate::pass::Pass;
+use atomic_table::{Refused, Table};
+use cd_legal::Stands;
+use std::alloc::Global;
+use std::snapshot::Snapshot;
+
+/// There was no memory. The value comes back.
+pub struct NoGate<T> {
+    pub value: T,
+}
+
+// The only slot's value.
+fn only<T>(mut slots: Vec<Option<T>>) -> T
+    requires { (v : T) × (slots.items ≡ Some v ∷ []) }
+    ensures { slots.items ≡ Some result ∷ [] }
+{
+    let last = slots.pop();
+    slots.destroy_empty();
+    last.unwrap().unwrap()
+}
+
+impl<T: Stands> Gate<T> {
+    /// A gate over the board, and its passes. The pass at place i has the number i.
+    pub fn new(alloc: Global, value: T, seats: u32) -> Result<(Gate<T>, Vec<Pass<T>>), NoGate<T>>
+        requires seats { (0 < seats) × (seats ≤ MAX_SEATS) }
+        requires value { T.stands value value [] }
+        ensures gate { IfOk result (λ r. r.0.table.shared.key.value ≡ value) }
+        ensures passes { IfOk result (λ r. IsRow r.0.table.shared.table_id value r.1.items × AreNew r.1.items × (length r.1.items ≡ seats)) }
+        ensures err { IfErr result (λ r. r.value ≡ value) }
+    {
+        let Ok(mut passes) = Vec::with_capacity(alloc, seats as usize) else {
+            return Err(NoGate { value });
+        };
+        let Ok(mut slots) = Vec::with_capacity(alloc, 1) else {
+            passes.destroy_empty();
+            return Err(NoGate { value });
+        };
+        let opening = Snapshot::of(&value);
+        slots.push_reserved(Some(value));
+        match Table::new(alloc, &[0, 0], slots, &opening) {
+            Ok((table, seat)) => {
+                let gate = Gate { table };
+                passes.push_reserved(Pass { number: 0, seat });
+                gate.fill(&mut passes, seats);
+                Ok((gate, passes))
+            }
+            Err(Refused { slots }) => {
+                passes.destroy_empty();
+                Err(NoGate { value: only(slots) })
+            }
+        }
+    }
+
+    // Hands out the passes of the numbers from 1 on.
+    fn fill(&self, passes: &mut Vec<Pass<T>>, seats: u32)
+        requires seats { (0 < seats) × (seats ≤ MAX_SEATS) × (seats ≤ vec_capacity passes.old) }
+        requires first { (length passes.old.items ≡ 1) × IsRow self.now.table.shared.table_id self.now.table.shared.key.value passes.old.items × AreNew passes.old.items }
+        ensures { (length passes.new.items ≡ seats) × IsRow self.now.table.shared.table_id self.now.table.shared.key.value passes.new.items × AreNew passes.new.items }
+    {
+        for number in 1..seats {
+            let other = self.hand_out(&mut passes[0], number);
+            passes.push_reserved(other);
+        }
+    }
+
+    // The pass of number 0, which has taken in all others.
+    fn gather(&self, mut passes: Vec<Pass<T>>) -> Pass<T>
+        requires row { IsRow self.now.table.shared.table_id self.now.table.shared.key.value passes.items }
+        requires free { AreFree passes.items }
+        ensures { Gathers self.now.table.shared.table_id self.now.table.shared.key.value passes.items result [] }
+    {
+        let mut first = passes.remove(0);
+        while let Some(other) = passes.pop() {
+            self.take_in(&mut first, other);
+        }
+        passes.destroy_empty();
+        first
+    }
+
+    /// The board, which stands for one history of all passes.
+    pub fn close(self, passes: Vec<Pass<T>>) -> T
+        requires row { IsRow self.table.shared.table_id self.table.shared.key.value passes.items }
+        requires free { AreFree passes.items }
+        ensures { Closes T.stands self.table.shared.key.value passes.items result }
+    {
+        let Pass { number: _, seat } = self.gather(passes);
+        let Gate { table } = self;
+        let mut closed = table.close_with(seat);
+        let held = closed.take(0);
+        closed.free();
+        held.unwrap()
+    }
+}
