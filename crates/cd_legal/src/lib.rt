@@ -49,6 +49,7 @@ pub use laws::{
 pub use limits::{
     LAST_SERIAL, MAX_BEGINS, MAX_DRAFTS, MAX_PASSES, MAX_SEATS, MAX_UNRETIRED, limits_are_these,
 };
+pub use part::Part;
 pub use plan::{Plan, PlanApp, PlanModule};
 pub use replaying::replay;
 pub use stands::Stands;

@@ -5,9 +5,10 @@ ghost use Rattle.cd_legal.specs.State.{part_of, part_keys, opened_in, instances_
 use crate::{Drafted, Plan};
 use cd_outside::{Holder, Key};
 
-/// The two kinds of what a draft consists of.
+/// The two kinds of what a draft consists of. Entries name neither: what is made and cleaned is an instance, what is started and
+/// stopped an app.
 #[derive(Clone, Copy)]
-pub(crate) enum Part {
+pub enum Part {
     /// An instance of a module: it is made and cleaned.
     Instance,
     /// An app: it is started and stopped.
