@@ -7,13 +7,14 @@ use Rattle.std.proofs.lemmas.List.Folds.{list_all-append}
 use Rattle.cd_legal.specs.declared.entry.Entry.{Entry}
 use Rattle.cd_legal.specs.declared.entry.Entry.TheVariants.{Draft, Made, Started, Publish, Abandon, Stopped, Cleaned}
 use Rattle.cd_legal.specs.declared.entry.Signed.{Signed}
+use Rattle.cd_legal.specs.declared.part.Part.TheVariants.{Instance, App}
 use Rattle.cd_legal.specs.declared.state.State.{State}
 use Rattle.cd_legal.specs.declared.state.Drafted.{Drafted}
 use Rattle.cd_legal.specs.declared.state.Life.{Life}
 use Rattle.cd_legal.specs.declared.state.Life.TheVariants.{Live, Published, Abandoned}
 use Rattle.cd_legal.specs.Abandoned.{is_entry_of}
 use Rattle.cd_legal.specs.State.{holds, is_live, may_stop_apps, may_clean_instances, new_draft}
-use Rattle.cd_legal.specs.Legal.{allowed, after, state_at, may_make, may_start, may_stop, may_clean, is_complete}
+use Rattle.cd_legal.specs.Legal.{allowed, after, state_at, may_open, may_stop, may_clean, is_complete}
 use Rattle.cd_legal.specs.Owing.{Owes, owes_by, owes_of}
 use Rattle.cd_legal.specs.Signing.{owes_draft, may_sign, is_live_in, IsHistory}
 use Rattle.cd_legal.proofs.Histories.{both, first, second}
@@ -42,8 +43,8 @@ entry_there s (Draft j tree plan) d may is =
     let next = (can s (Draft j tree plan) may).next in
     let more = length-append s.drafts (new_draft tree plan ∷ []) in
     let same = eqb-true j d is in omega arith
-entry_there s (Made j i taken failed) d may is = is_there s (Made j i taken failed) j d may is (holds_within (may_make i taken failed s.pairs) s.drafts j may)
-entry_there s (Started j a taken failed) d may is = is_there s (Started j a taken failed) j d may is (holds_within (may_start a taken failed s.pairs) s.drafts j may)
+entry_there s (Made j i taken failed) d may is = is_there s (Made j i taken failed) j d may is (holds_within (may_open Instance i taken failed s.pairs) s.drafts j may)
+entry_there s (Started j a taken failed) d may is = is_there s (Started j a taken failed) j d may is (holds_within (may_open App a taken failed s.pairs) s.drafts j may)
 entry_there s (Publish j n from c) d may is = is_there s (Publish j n from c) j d may is (holds_within is_complete s.drafts j (can s (Publish j n from c) may).complete)
 entry_there s (Abandon j) d may is = is_there s (Abandon j) j d may is (holds_within (λ x. is_live x.life) s.drafts j may)
 entry_there s (Stopped j a) d may is = is_there s (Stopped j a) j d may is (holds_within (may_stop a s.serial) s.drafts j may)

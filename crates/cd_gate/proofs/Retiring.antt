@@ -4,14 +4,15 @@ use Rattle.std.specs.Prelude.{◌&&◌}
 use Rattle.std.proofs.lemmas.Bool.{eqb-true}
 use Rattle.cd_legal.specs.declared.entry.Entry.{Entry}
 use Rattle.cd_legal.specs.declared.entry.Entry.TheVariants.{Draft, Made, Started, Publish, Abandon, Stopped, Begin, Finish, Retire, Cleaned}
+use Rattle.cd_legal.specs.declared.part.Part.TheVariants.{Instance, App}
 use Rattle.cd_legal.specs.declared.state.State.{State}
 use Rattle.cd_legal.specs.declared.state.Drafted.{Drafted}
 use Rattle.cd_legal.specs.declared.state.Life.TheVariants.{Published, Abandoned}
 use Rattle.cd_legal.specs.State.{holds, holds_if_there, has_number, is_live, all_stopped, new_draft, of_draft, apps_stopped, is_ticketed, without_ticket, open_at}
-use Rattle.cd_legal.specs.Legal.{allowed, after, may_make, may_start, may_stop, may_clean, is_complete, may_retire}
+use Rattle.cd_legal.specs.Legal.{allowed, after, may_open, may_stop, may_clean, is_complete, may_retire}
 use Rattle.cd_legal.specs.Serials.{has_serial}
 use Rattle.cd_legal.proofs.Histories.{both, first, second}
-use Rattle.cd_legal.proofs.Facts.{Retires, starts, stops, completes, can, is-less, less-is, not-false}
+use Rattle.cd_legal.proofs.Facts.{Retires, opens, stops, completes, can, is-less, less-is, not-false}
 use Rattle.cd_legal.proofs.Places.{holds_kept, holds_push}
 use Rattle.cd_legal.proofs.Serials.{Agree, get_stays, live_none}
 use Rattle.cd_legal.proofs.Callers.{open_at-none, is_ticketed-none, open_at-push, open_at-without}
@@ -46,10 +47,10 @@ Stays s n d e = holds (is_stopped n) (slice_get s.drafts d) ≡ true → holds (
 stays : (s : State) (n d : ℕ) (e : Entry) → allowed s e ≡ true → Stays s n d e
 stays s n d (Draft j tree plan) may is = holds_push (is_stopped n) (new_draft tree plan) s.drafts d is
 stays s n d (Made j i taken failed) may is =
-    holds_kept (is_stopped n) (may_make i taken failed s.pairs) (λ x. record x { made = x.made + 1; failed = failed }) (λ x m t. t) s.drafts j d may is
+    holds_kept (is_stopped n) (may_open Instance i taken failed s.pairs) (λ x. record x { made = x.made + 1; failed = failed }) (λ x m t. t) s.drafts j d may is
 stays s n d (Started j a taken failed) may is =
-    holds_kept (is_stopped n) (may_start a taken failed s.pairs) (λ x. record x { started = x.started + 1; failed = failed })
-    (λ x m t. absurd (let e : false ≡ true = not_live n x (ap is_live (starts a taken failed s.pairs x m).opened.live) t in cc)) s.drafts j d may is
+    holds_kept (is_stopped n) (may_open App a taken failed s.pairs) (λ x. record x { started = x.started + 1; failed = failed })
+    (λ x m t. absurd (let e : false ≡ true = not_live n x (ap is_live (opens App a taken failed s.pairs x m).opened.live) t in cc)) s.drafts j d may is
 stays s n d (Publish j m from c) may is =
     holds_kept (is_stopped n) is_complete (λ x. record x { life = Published m })
     (λ x w t. absurd (let e : false ≡ true = not_live n x (ap is_live (completes x w).opened.live) t in cc)) s.drafts j d (can s (Publish j m from c) may).complete is

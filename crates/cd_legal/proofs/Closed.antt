@@ -1,6 +1,7 @@
 -- To a draft that is closed nothing more happens.
 use Rattle.std.proofs.Common.{◌≡◌, ◌<◌, ℕ, ◌+◌, Bool, true, false, List, length, slice_get, Option, Some, None, refl, sym, ap, ◌∙◌, arith}
 use Rattle.std.proofs.lemmas.Bool.{eqb-true}
+use Rattle.cd_legal.specs.declared.part.Part.TheVariants.{Instance, App}
 use Rattle.cd_legal.specs.declared.entry.Entry.{Entry}
 use Rattle.cd_legal.specs.declared.entry.Entry.TheVariants.{Draft, Made, Started, Publish, Abandon, Stopped, Cleaned}
 use Rattle.cd_legal.specs.declared.state.State.{State}
@@ -8,11 +9,11 @@ use Rattle.cd_legal.specs.declared.state.Drafted.{Drafted}
 use Rattle.cd_legal.specs.declared.state.Life.{Life}
 use Rattle.cd_legal.specs.declared.state.Life.TheVariants.{Live, Published, Abandoned}
 use Rattle.cd_legal.specs.State.{holds, is_live, may_clean_instances, all_stopped}
-use Rattle.cd_legal.specs.Legal.{allowed, may_make, may_start, may_stop, may_clean, is_complete}
+use Rattle.cd_legal.specs.Legal.{allowed, may_open, may_stop, may_clean, is_complete}
 use Rattle.cd_legal.specs.Whole.{is_closed, is_closed_in}
 use Rattle.cd_legal.specs.Abandoned.{is_entry_of}
 use Rattle.cd_legal.proofs.Histories.{first, second}
-use Rattle.cd_legal.proofs.Facts.{makes, starts, completes, stops, cleans, can}
+use Rattle.cd_legal.proofs.Facts.{opens, completes, stops, cleans, can}
 use Rattle.cd_legal.proofs.Places.{holds_within}
 
 -- a draft that passes a test passes none that excludes it
@@ -48,9 +49,9 @@ pub closed-ends : (s : State) (d : ℕ) (e : Entry) → is_closed_in s d ≡ tru
 closed-ends s d (Draft j tree plan) closed is may =
     past_end d (length s.drafts) (sym (eqb-true j d is) ∙ (can s (Draft j tree plan) may).next) (holds_within (is_closed s.retired) s.drafts d closed)
 closed-ends s d (Made j i taken failed) closed is may =
-    clash (may_make i taken failed s.pairs) (is_closed s.retired) (λ x m c. live_none s.retired x (ap is_live (makes i taken failed s.pairs x m).opened.live) c) (slice_get s.drafts d) (ap (λ (z : ℕ). holds (may_make i taken failed s.pairs) (slice_get s.drafts z)) (sym (eqb-true j d is)) ∙ may) closed
+    clash (may_open Instance i taken failed s.pairs) (is_closed s.retired) (λ x m c. live_none s.retired x (ap is_live (opens Instance i taken failed s.pairs x m).opened.live) c) (slice_get s.drafts d) (ap (λ (z : ℕ). holds (may_open Instance i taken failed s.pairs) (slice_get s.drafts z)) (sym (eqb-true j d is)) ∙ may) closed
 closed-ends s d (Started j a taken failed) closed is may =
-    clash (may_start a taken failed s.pairs) (is_closed s.retired) (λ x m c. live_none s.retired x (ap is_live (starts a taken failed s.pairs x m).opened.live) c) (slice_get s.drafts d) (ap (λ (z : ℕ). holds (may_start a taken failed s.pairs) (slice_get s.drafts z)) (sym (eqb-true j d is)) ∙ may) closed
+    clash (may_open App a taken failed s.pairs) (is_closed s.retired) (λ x m c. live_none s.retired x (ap is_live (opens App a taken failed s.pairs x m).opened.live) c) (slice_get s.drafts d) (ap (λ (z : ℕ). holds (may_open App a taken failed s.pairs) (slice_get s.drafts z)) (sym (eqb-true j d is)) ∙ may) closed
 closed-ends s d (Publish j n from c) closed is may =
     clash is_complete (is_closed s.retired) (λ x m c. live_none s.retired x (ap is_live (completes x m).opened.live) c) (slice_get s.drafts d) (ap (λ (z : ℕ). holds is_complete (slice_get s.drafts z)) (sym (eqb-true j d is)) ∙ (can s (Publish j n from c) may).complete) closed
 closed-ends s d (Abandon j) closed is may = clash (λ x. is_live x.life) (is_closed s.retired) (λ x m c. live_none s.retired x m c) (slice_get s.drafts d) (ap (λ (z : ℕ). holds (λ (x : Drafted). is_live x.life) (slice_get s.drafts z)) (sym (eqb-true j d is)) ∙ may) closed

@@ -5,16 +5,18 @@ use Rattle.cd_outside.specs.declared.key.Key.{Key}
 use Rattle.cd_outside.specs.declared.holder.Holder.{Holder}
 use Rattle.cd_outside.specs.Keys.{holder_eq, bool_eq}
 use Rattle.cd_tree.specs.declared.tree.Tree.{Tree}
+use Rattle.cd_legal.specs.declared.part.Part.{Part}
+use Rattle.cd_legal.specs.declared.part.Part.TheVariants.{Instance, App}
 use Rattle.cd_legal.specs.declared.plan.Plan.{Plan}
 use Rattle.cd_legal.specs.declared.entry.Entry.{Entry}
 use Rattle.cd_legal.specs.declared.entry.Entry.TheVariants.{Draft, Made, Started, Publish, Abandon, Stopped, Cleaned}
 use Rattle.cd_legal.specs.declared.state.State.{State}
 use Rattle.cd_legal.specs.declared.state.Drafted.{Drafted}
-use Rattle.cd_legal.specs.State.{opening_state, holds, change_at, is_live, instance_of, app_of, new_draft}
-use Rattle.cd_legal.specs.Legal.{allowed, after, legal_from, legal, state_from, state_of, may_make, may_start, may_stop, may_clean, is_complete}
+use Rattle.cd_legal.specs.State.{opening_state, holds, change_at, is_live, part_of, is_app, new_draft, opened_in, one_opened}
+use Rattle.cd_legal.specs.Legal.{allowed, after, legal_from, legal, state_from, state_of, part_opened, may_open, may_stop, may_clean, is_complete}
 use Rattle.cd_legal.specs.Whole.{begun}
 use Rattle.cd_legal.proofs.Histories.{first, second}
-use Rattle.cd_legal.proofs.Facts.{makes, starts, can}
+use Rattle.cd_legal.proofs.Facts.{opens, can}
 use Rattle.cd_legal.proofs.Places.{get_change_same, get_change_other}
 
 -- how many instances, or apps, were made of a draft
@@ -84,21 +86,22 @@ none_made false p tree plan = nothing p
 next_one : (p i m : ℕ) → i ≡ m → cond (nat_lt p (m + 1)) 1 0 ≡ cond (p == i) 1 0 + cond (nat_lt p m) 1 0
 next_one p i m e = grind (arith, nat_tests)
 
--- the next instance
-made_one : (app : Bool) (p i : ℕ) (failed : Option Key) (x : Drafted) → i ≡ x.made → begun_by app p (Some (record x { made = x.made + 1; failed = failed })) ≡ cond (bool_eq app false && (p == i)) 1 0 + begun_by app p (Some x)
-made_one true p i failed x e = plus_none _ _ refl
-made_one false p i failed x e = next_one p i x.made e
-
--- the next app
-started_one : (app : Bool) (p a : ℕ) (failed : Option Key) (x : Drafted) → a ≡ x.started → begun_by app p (Some (record x { started = x.started + 1; failed = failed })) ≡ cond (bool_eq app true && (p == a)) 1 0 + begun_by app p (Some x)
-started_one true p a failed x e = next_one p a x.started e
-started_one false p a failed x e = plus_none _ _ refl
+-- the next one
+opened_one : (part : Part) (app : Bool) (p i : ℕ) (failed : Option Key) (x : Drafted) → i ≡ opened_in part x → begun_by app p (Some (one_opened part failed x)) ≡ cond (bool_eq app (is_app part) && (p == i)) 1 0 + begun_by app p (Some x)
+opened_one Instance true p i failed x e = plus_none _ _ refl
+opened_one Instance false p i failed x e = next_one p i x.made e
+opened_one App true p i failed x e = next_one p i x.started e
+opened_one App false p i failed x e = plus_none _ _ refl
 
 module _ (h : Holder) where
+  opened : (s : State) (part : Part) (d i taken : ℕ) (failed : Option Key) → holds (may_open part i taken failed s.pairs) (slice_get s.drafts d) ≡ true
+      → begun_in h (part_opened part d i taken failed s) ≡ cond (holder_eq h (part_of part d i)) 1 0 + begun_in h s
+  opened s part d i taken failed may = one_more (begun_by h.app h.place) h (part_of part d i) (may_open part i taken failed s.pairs) _ (λ x m. opened_one part h.app h.place i failed x (opens part i taken failed s.pairs x m).next) s.drafts may
+
   step : (s : State) (e : Entry) → allowed s e ≡ true → begun_in h (after s e) ≡ begun h (e ∷ []) + begun_in h s
   step s (Draft d tree plan) may = plus_none _ _ (pushed (begun_by h.app h.place) (new_draft tree plan) (none_made h.app h.place tree plan) s.drafts h.draft)
-  step s (Made d i taken failed) may = one_more (begun_by h.app h.place) h (instance_of d i) (may_make i taken failed s.pairs) _ (λ x m. made_one h.app h.place i failed x (makes i taken failed s.pairs x m).next) s.drafts may
-  step s (Started d a taken failed) may = one_more (begun_by h.app h.place) h (app_of d a) (may_start a taken failed s.pairs) _ (λ x m. started_one h.app h.place a failed x (starts a taken failed s.pairs x m).next) s.drafts may
+  step s (Made d i taken failed) may = opened s Instance d i taken failed may
+  step s (Started d a taken failed) may = opened s App d a taken failed may
   step s (Publish d n from c) may = plus_none _ _ (kept (begun_by h.app h.place) is_complete _ (λ x m. refl) s.drafts d h.draft (can s (Publish d n from c) may).complete)
   step s (Abandon d) may = plus_none _ _ (kept (begun_by h.app h.place) (λ x. is_live x.life) _ (λ x m. refl) s.drafts d h.draft may)
   step s (Stopped d a) may = plus_none _ _ (kept (begun_by h.app h.place) (may_stop a s.serial) _ (λ x m. refl) s.drafts d h.draft may)
@@ -106,8 +109,8 @@ module _ (h : Holder) where
   step s e may = plus_none _ _ refl
 
   begun-cons : (e : Entry) (es : List Entry) → begun h (e ∷ es) ≡ begun h (e ∷ []) + begun h es
-  begun-cons (Made d i taken failed) es = counted (holder_eq h (instance_of d i)) (begun h es)
-  begun-cons (Started d a taken failed) es = counted (holder_eq h (app_of d a)) (begun h es)
+  begun-cons (Made d i taken failed) es = counted (holder_eq h (part_of Instance d i)) (begun h es)
+  begun-cons (Started d a taken failed) es = counted (holder_eq h (part_of App d a)) (begun h es)
   begun-cons e es = plus_none _ _ refl
 
   begun_from : (s : State) (log : List Entry) → legal_from s log ≡ true → begun_in h s + begun h log ≡ begun_in h (state_from s log)

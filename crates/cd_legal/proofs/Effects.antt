@@ -1,12 +1,13 @@
 -- How an entry changes the drafts: not at all, by a new last one, or at one place.
 use Rattle.std.proofs.Common.{◌≡◌, ◌≤◌, ◌⊎◌, inl, inr, ℕ, ◌+◌, Bool, true, false, List, [], ◌∷◌, ◌++◌, length, slice_get, refl, sym, ap, ◌∙◌, ⊎_elim, arith, length-append}
+use Rattle.cd_legal.specs.declared.part.Part.TheVariants.{Instance, App}
 use Rattle.cd_legal.specs.declared.entry.Entry.{Entry}
 use Rattle.cd_legal.specs.declared.entry.Entry.TheVariants.{Draft, Made, Started, Publish, Abandon, Stopped, Cleaned}
 use Rattle.cd_legal.specs.declared.state.State.{State}
 use Rattle.cd_legal.specs.declared.state.Drafted.{Drafted}
 use Rattle.cd_legal.specs.declared.state.Life.TheVariants.{Published, Abandoned}
 use Rattle.cd_legal.specs.State.{holds, change_at, is_live, new_draft}
-use Rattle.cd_legal.specs.Legal.{allowed, after, may_make, may_start, may_stop, may_clean, is_complete}
+use Rattle.cd_legal.specs.Legal.{allowed, after, may_open, may_stop, may_clean, is_complete}
 use Rattle.cd_legal.proofs.Facts.{completes, can}
 use Rattle.cd_legal.proofs.Places.{length_change}
 
@@ -35,8 +36,8 @@ clash x live dead = sym live ∙ dead
 
 pub effect : (s : State) (e : Entry) → allowed s e ≡ true → Effect s e
 effect s (Draft d tree plan) may = inr (inl record { draft = new_draft tree plan; drafts = refl; fresh = refl })
-effect s (Made d i taken failed) may = inr (inr record { place = d; test = may_make i taken failed s.pairs; change = λ x. record x { made = x.made + 1; failed = failed }; drafts = refl; passes = may; tree = λ x. refl; plan = λ x. refl; life = λ x m l. refl })
-effect s (Started d a taken failed) may = inr (inr record { place = d; test = may_start a taken failed s.pairs; change = λ x. record x { started = x.started + 1; failed = failed }; drafts = refl; passes = may; tree = λ x. refl; plan = λ x. refl; life = λ x m l. refl })
+effect s (Made d i taken failed) may = inr (inr record { place = d; test = may_open Instance i taken failed s.pairs; change = λ x. record x { made = x.made + 1; failed = failed }; drafts = refl; passes = may; tree = λ x. refl; plan = λ x. refl; life = λ x m l. refl })
+effect s (Started d a taken failed) may = inr (inr record { place = d; test = may_open App a taken failed s.pairs; change = λ x. record x { started = x.started + 1; failed = failed }; drafts = refl; passes = may; tree = λ x. refl; plan = λ x. refl; life = λ x m l. refl })
 effect s (Publish d n from c) may = inr (inr record { place = d; test = is_complete; change = λ x. record x { life = Published n }; drafts = refl; passes = (can s (Publish d n from c) may).complete; tree = λ x. refl; plan = λ x. refl; life = λ x m l. absurd (let h : true ≡ false = clash x (ap is_live (completes x m).opened.live) l in cc) })
 effect s (Abandon d) may = inr (inr record { place = d; test = λ x. is_live x.life; change = λ x. record x { life = Abandoned }; drafts = refl; passes = may; tree = λ x. refl; plan = λ x. refl; life = λ x m l. absurd (let h : true ≡ false = clash x m l in cc) })
 effect s (Stopped d a) may = inr (inr record { place = d; test = may_stop a s.serial; change = λ x. record x { stopped = x.stopped + 1 }; drafts = refl; passes = may; tree = λ x. refl; plan = λ x. refl; life = λ x m l. refl })

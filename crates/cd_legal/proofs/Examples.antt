@@ -4,6 +4,7 @@ use Rattle.std.specs.Prelude.{codes}
 use Rattle.cd_outside.specs.declared.key.Key.{Key}
 use Rattle.cd_outside.specs.declared.key.Key.TheVariants.{Writer}
 use Rattle.cd_tree.specs.declared.tree.Tree.{Tree}
+use Rattle.cd_legal.specs.declared.part.Part.TheVariants.{Instance, App}
 use Rattle.cd_legal.specs.declared.plan.Plan.{Plan}
 use Rattle.cd_legal.specs.declared.entry.Change.{Change}
 use Rattle.cd_legal.specs.declared.entry.Entry.{Entry}
@@ -14,8 +15,9 @@ use Rattle.cd_legal.specs.declared.state.Drafted.{Drafted}
 use Rattle.cd_legal.specs.declared.state.Life.TheVariants.{Live, Published, Abandoned}
 use Rattle.cd_legal.specs.declared.state.OpenTicket.{OpenTicket}
 use Rattle.cd_legal.specs.Entry.{signed, mine}
-use Rattle.cd_legal.specs.State.{opening_state, holds, holds_if_there, has_number, is_live, may_stop_apps, may_clean_instances, all_stopped, all_cleaned, of_draft, apps_stopped, has_ticket, is_ticketed, ticket_of, open_by, open_at, new_draft, Conf, conf_of}
-use Rattle.cd_legal.specs.Legal.{keys_fit, is_open, may_make, may_start, is_complete, may_stop, may_clean, may_retire, allowed, legal}
+use Rattle.cd_legal.specs.State.{opening_state, holds, holds_if_there, has_number, is_app, instances_ready, is_live, may_stop_apps, may_clean_instances, all_stopped, all_cleaned, of_draft, apps_stopped, has_ticket, is_ticketed, ticket_of, open_by, open_at, new_draft, Conf, conf_of}
+use Rattle.cd_legal.specs.Steps.{may_end}
+use Rattle.cd_legal.specs.Legal.{keys_fit, is_open, may_open, is_complete, may_stop, may_clean, may_retire, allowed, legal}
 use Rattle.cd_legal.specs.Laws.{core, core_at, is_core, bare, tickets_allow, tickets_fit}
 use Rattle.cd_legal.specs.Calls.{is_shut, failures}
 use Rattle.cd_legal.specs.Whole.{nothing_left_of, is_closed, is_closed_in, all_apps_stopped, nothing_left, all_retired}
@@ -88,10 +90,13 @@ module _ (t : Tree) (c : Change) where
   opens : (is_open fresh ≡ true) × (is_open (record fresh { failed = Some x_key }) ≡ false) × (is_open (record fresh { life = Abandoned }) ≡ false)
   opens = (refl, refl, refl)
 
-  makes : (may_make 0 1 None [] fresh ≡ true) × (may_make 1 1 None [] made ≡ false) × (may_make 0 0 None [] fresh ≡ false) × (may_make 0 1 None [] ran ≡ false)
+  parts : (is_app App ≡ true) × (is_app Instance ≡ false) × (instances_ready App made ≡ true) × (instances_ready App fresh ≡ false) × (instances_ready Instance fresh ≡ true)
+  parts = (refl, refl, refl, refl, refl)
+
+  makes : (may_open Instance 0 1 None [] fresh ≡ true) × (may_open Instance 1 1 None [] made ≡ false) × (may_open Instance 0 0 None [] fresh ≡ false) × (may_open Instance 0 1 None [] ran ≡ false)
   makes = (refl, refl, refl, refl)
 
-  starts : (may_start 0 1 None [] made ≡ true) × (may_start 0 1 None [] fresh ≡ false) × (may_start 1 1 None [] made ≡ false) × (may_start 0 0 None [] made ≡ false)
+  starts : (may_open App 0 1 None [] made ≡ true) × (may_open App 0 1 None [] fresh ≡ false) × (may_open App 1 1 None [] made ≡ false) × (may_open App 0 0 None [] made ≡ false)
   starts = (refl, refl, refl, refl)
 
   completes : (is_complete whole ≡ true) × (is_complete made ≡ false) × (is_complete fresh ≡ false) × (is_complete (record whole { failed = Some y_key }) ≡ false) × (is_complete ran ≡ false)
@@ -102,6 +107,10 @@ module _ (t : Tree) (c : Change) where
 
   cleans : (may_clean 0 (1 ∷ []) (record ran { stopped = 1 }) ≡ true) × (may_clean 0 (1 ∷ []) ran ≡ false) × (may_clean 0 [] (record ran { stopped = 1 }) ≡ false) × (all_cleaned ran ≡ false) × (all_cleaned (record ran { cleaned = 1 }) ≡ true)
   cleans = (refl, refl, refl, refl, refl)
+
+  ends_parts : (may_end App 0 (record opening_state { serial = 2 }) ran ≡ true) × (may_end App 0 opening_state ran ≡ false)
+      × (may_end Instance 0 (record opening_state { retired = 1 ∷ [] }) (record ran { stopped = 1 }) ≡ true) × (may_end Instance 0 opening_state (record ran { stopped = 1 }) ≡ false)
+  ends_parts = (refl, refl, refl, refl)
 
   finishes : (nothing_left_of [] whole ≡ true) × (nothing_left_of (1 ∷ []) ran ≡ false) × (nothing_left_of (1 ∷ []) (record ran { stopped = 1; cleaned = 1 }) ≡ true) × (nothing_left_of [] (record whole { life = Abandoned; stopped = 1 }) ≡ false)
   finishes = (refl, refl, refl, refl)

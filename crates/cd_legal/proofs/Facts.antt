@@ -6,6 +6,8 @@ use Rattle.std.proofs.lemmas.Bool.Decides.{nat_tests}
 use Rattle.cd_outside.specs.declared.key.Key.{Key}
 use Rattle.cd_outside.specs.declared.holder.Pair.{Pair}
 use Rattle.cd_outside.specs.Keys.{keys_in}
+use Rattle.cd_legal.specs.declared.part.Part.{Part}
+use Rattle.cd_legal.specs.declared.part.Part.TheVariants.{Instance, App}
 use Rattle.cd_legal.specs.declared.limits.TheConstants.{MAX_DRAFTS}
 use Rattle.cd_legal.specs.declared.entry.Entry.{Entry}
 use Rattle.cd_legal.specs.declared.entry.Entry.TheVariants.{Draft, Made, Started, Publish, Abandon, Stopped, Begin, Finish, Retire, Cleaned, Halt}
@@ -13,8 +15,8 @@ use Rattle.cd_legal.specs.declared.state.State.{State}
 use Rattle.cd_legal.specs.declared.state.Drafted.{Drafted}
 use Rattle.cd_legal.specs.declared.state.Life.{Life}
 use Rattle.cd_legal.specs.declared.state.Life.TheVariants.{Live, Published, Abandoned}
-use Rattle.cd_legal.specs.State.{holds, has_number, keys_at, module_keys, app_keys, is_live, may_stop_apps, may_clean_instances, all_stopped, apps_stopped, has_ticket, is_ticketed}
-use Rattle.cd_legal.specs.Legal.{keys_fit, is_open, may_make, may_start, is_complete, may_stop, may_clean, allowed}
+use Rattle.cd_legal.specs.State.{holds, has_number, part_keys, opened_in, instances_ready, is_live, may_stop_apps, may_clean_instances, all_stopped, apps_stopped, has_ticket, is_ticketed}
+use Rattle.cd_legal.specs.Legal.{keys_fit, is_open, may_open, is_complete, may_stop, may_clean, allowed}
 use Rattle.cd_legal.proofs.Histories.{both, first, second}
 
 -- ---- tests
@@ -55,20 +57,12 @@ pub record IsOpen (x : Drafted) : Type 0 where
   pub live : x.life ≡ Live
   pub unfailed : x.failed ≡ None
 
--- instance i is made
-pub record Makes (i taken : ℕ) (failed : Option Key) (pairs : List Pair) (x : Drafted) : Type 0 where
+-- place i is opened: an instance is made, or an app is started
+pub record Opens (part : Part) (i taken : ℕ) (failed : Option Key) (pairs : List Pair) (x : Drafted) : Type 0 where
   pub opened : IsOpen x
-  pub next : i ≡ x.made
-  pub within : i < length x.plan.modules
-  pub fit : keys_fit (keys_in pairs) (keys_at (module_keys x.plan) i) taken failed ≡ true
-
--- app a is started
-pub record Starts (a taken : ℕ) (failed : Option Key) (pairs : List Pair) (x : Drafted) : Type 0 where
-  pub opened : IsOpen x
-  pub made : x.made ≡ length x.plan.modules
-  pub next : a ≡ x.started
-  pub within : a < length x.plan.apps
-  pub fit : keys_fit (keys_in pairs) (keys_at (app_keys x.plan) a) taken failed ≡ true
+  pub ready : instances_ready part x ≡ true
+  pub next : i ≡ opened_in part x
+  pub fit : holds (λ keys. keys_fit (keys_in pairs) keys taken failed) (slice_get (part_keys part x.plan) i) ≡ true
 
 -- all is made and started
 pub record Completes (x : Drafted) : Type 0 where
@@ -97,48 +91,30 @@ there test xs d m = there_in test xs d (slice_get xs d) refl m
 pub holds-there : (test : Drafted → Bool) (xs : List Drafted) (d : ℕ) → There test xs d → holds test (slice_get xs d) ≡ true
 holds-there test xs d t = ap (holds test) t.is ∙ t.passes
 
-pub opens : (x : Drafted) → is_open x ≡ true → IsOpen x
-opens x m = record { live = live-is x.life (first (is_live x.life) _ m); unfailed = none-is x.failed (second (is_live x.life) _ m) }
+pub live_open : (x : Drafted) → is_open x ≡ true → IsOpen x
+live_open x m = record { live = live-is x.life (first (is_live x.life) _ m); unfailed = none-is x.failed (second (is_live x.life) _ m) }
 
 pub is_open-by : (x : Drafted) → IsOpen x → is_open x ≡ true
 is_open-by x f = both (is_live x.life) _ (ap is_live f.live) (ap is_none f.unfailed)
 
-pub makes : (i taken : ℕ) (failed : Option Key) (ps : List Pair) (x : Drafted) → may_make i taken failed ps x ≡ true → Makes i taken failed ps x
-makes i taken failed ps x m =
+pub opens : (part : Part) (i taken : ℕ) (failed : Option Key) (ps : List Pair) (x : Drafted) → may_open part i taken failed ps x ≡ true → Opens part i taken failed ps x
+opens part i taken failed ps x m =
     let a = second (is_open x) _ m in
-    let b = second (i == x.made) _ a in record {
-      opened = opens x (first (is_open x) _ m);
-      next = eqb-true i x.made (first (i == x.made) _ a);
-      within = is-less i (length x.plan.modules) (first (nat_lt i (length x.plan.modules)) _ b);
-      fit = second (nat_lt i (length x.plan.modules)) _ b;
+    let b = second (instances_ready part x) _ a in record {
+      opened = live_open x (first (is_open x) _ m);
+      ready = first (instances_ready part x) _ a;
+      next = eqb-true i (opened_in part x) (first (i == opened_in part x) _ b);
+      fit = second (i == opened_in part x) _ b;
     }
 
-pub may_make-by : (i taken : ℕ) (failed : Option Key) (ps : List Pair) (x : Drafted) → Makes i taken failed ps x → may_make i taken failed ps x ≡ true
-may_make-by i taken failed ps x f =
-    both (is_open x) _ (is_open-by x f.opened) (both (i == x.made) _ (eq-eqb i x.made f.next) (both (nat_lt i (length x.plan.modules)) _ (less-is i (length x.plan.modules) f.within) f.fit))
-
-pub starts : (a taken : ℕ) (failed : Option Key) (ps : List Pair) (x : Drafted) → may_start a taken failed ps x ≡ true → Starts a taken failed ps x
-starts a taken failed ps x m =
-    let p = second (is_open x) _ m in
-    let q = second (x.made == length x.plan.modules) _ p in
-    let r = second (a == x.started) _ q in record {
-      opened = opens x (first (is_open x) _ m);
-      made = eqb-true x.made (length x.plan.modules) (first (x.made == length x.plan.modules) _ p);
-      next = eqb-true a x.started (first (a == x.started) _ q);
-      within = is-less a (length x.plan.apps) (first (nat_lt a (length x.plan.apps)) _ r);
-      fit = second (nat_lt a (length x.plan.apps)) _ r;
-    }
-
-pub may_start-by : (a taken : ℕ) (failed : Option Key) (ps : List Pair) (x : Drafted) → Starts a taken failed ps x → may_start a taken failed ps x ≡ true
-may_start-by a taken failed ps x f =
-    both (is_open x) _ (is_open-by x f.opened)
-    (both (x.made == length x.plan.modules) _ (eq-eqb x.made (length x.plan.modules) f.made)
-    (both (a == x.started) _ (eq-eqb a x.started f.next) (both (nat_lt a (length x.plan.apps)) _ (less-is a (length x.plan.apps) f.within) f.fit)))
+pub opens-by : (part : Part) (i taken : ℕ) (failed : Option Key) (ps : List Pair) (x : Drafted) → Opens part i taken failed ps x → may_open part i taken failed ps x ≡ true
+opens-by part i taken failed ps x f =
+    both (is_open x) _ (is_open-by x f.opened) (both (instances_ready part x) _ f.ready (both (i == opened_in part x) _ (eq-eqb i (opened_in part x) f.next) f.fit))
 
 pub completes : (x : Drafted) → is_complete x ≡ true → Completes x
 completes x m =
     let a = second (is_open x) _ m in record {
-      opened = opens x (first (is_open x) _ m);
+      opened = live_open x (first (is_open x) _ m);
       made = eqb-true x.made (length x.plan.modules) (first (x.made == length x.plan.modules) _ a);
       started = eqb-true x.started (length x.plan.apps) (second (x.made == length x.plan.modules) _ a);
     }
@@ -193,8 +169,8 @@ pub record Halts (s : State) (n : ℕ) : Type 0 where
 -- by its kind
 abbrev pub Can : State → Entry → Type 0
 Can s (Draft d tree plan) = Drafts s d
-Can s (Made d i taken failed) = There (may_make i taken failed s.pairs) s.drafts d
-Can s (Started d a taken failed) = There (may_start a taken failed s.pairs) s.drafts d
+Can s (Made d i taken failed) = There (may_open Instance i taken failed s.pairs) s.drafts d
+Can s (Started d a taken failed) = There (may_open App a taken failed s.pairs) s.drafts d
 Can s (Publish d n from change) = Publishes s d n from
 Can s (Abandon d) = There (λ x. is_live x.life) s.drafts d
 Can s (Stopped d a) = There (may_stop a s.serial) s.drafts d
@@ -207,8 +183,8 @@ Can s (Halt n) = Halts s n
 -- what is allowed can be
 pub can : (s : State) (e : Entry) → allowed s e ≡ true → Can s e
 can s (Draft d tree plan) m = record { next = eqb-true d (length s.drafts) (first (d == length s.drafts) _ m); below = is-less d MAX_DRAFTS (second (d == length s.drafts) _ m) }
-can s (Made d i taken failed) m = there (may_make i taken failed s.pairs) s.drafts d m
-can s (Started d a taken failed) m = there (may_start a taken failed s.pairs) s.drafts d m
+can s (Made d i taken failed) m = there (may_open Instance i taken failed s.pairs) s.drafts d m
+can s (Started d a taken failed) m = there (may_open App a taken failed s.pairs) s.drafts d m
 can s (Publish d n from change) m =
     let a = second (not s.halted) _ m in
     let b = second (holds is_complete (slice_get s.drafts d)) _ a in record {
@@ -235,8 +211,8 @@ can s (Halt n) m = record { running = is-false s.halted (first (not s.halted) _ 
 -- what can be is allowed
 pub allowed-by : (s : State) (e : Entry) → Can s e → allowed s e ≡ true
 allowed-by s (Draft d tree plan) f = both (d == length s.drafts) _ (eq-eqb d (length s.drafts) f.next) (less-is d MAX_DRAFTS f.below)
-allowed-by s (Made d i taken failed) f = holds-there (may_make i taken failed s.pairs) s.drafts d f
-allowed-by s (Started d a taken failed) f = holds-there (may_start a taken failed s.pairs) s.drafts d f
+allowed-by s (Made d i taken failed) f = holds-there (may_open Instance i taken failed s.pairs) s.drafts d f
+allowed-by s (Started d a taken failed) f = holds-there (may_open App a taken failed s.pairs) s.drafts d f
 allowed-by s (Publish d n from change) f =
     both (not s.halted) _ (not-false s.halted f.running)
     (both (holds is_complete (slice_get s.drafts d)) _ f.complete (both (from == s.serial) _ (eq-eqb from s.serial f.current) (eq-eqb n (from + 1) f.next)))

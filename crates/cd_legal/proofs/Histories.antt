@@ -1,4 +1,4 @@
--- Histories: one entry more, their fronts and backs, and what each of their states has.
+-- Histories: one entry more, their prefixes and what follows these, and what each of their states has.
 use Rattle.std.proofs.Common.{◌≡◌, Bool, true, false, ◌&&◌, List, [], ◌∷◌, ◌++◌, refl, sym, ap, ◌∙◌, append_assoc}
 use Rattle.std.proofs.lemmas.List.{append-nil}
 use Rattle.cd_legal.specs.declared.entry.Entry.{Entry}
@@ -32,17 +32,17 @@ pub calls_from-snoc : (s : State) (log : List Entry) (e : Entry) → calls_from 
 calls_from-snoc s [] e = append-nil (entry_calls s e)
 calls_from-snoc s (x ∷ xs) e = ap (λ z. entry_calls s x ++ z) (calls_from-snoc (after s x) xs e) ∙ sym (append_assoc (entry_calls s x) (calls_from (after s x) xs) (entry_calls (state_from (after s x) xs) e))
 
--- the front of a legal history is legal
+-- a prefix of a legal history is legal
 pub legal_from-front : (s : State) (xs ys : List Entry) → legal_from s (xs ++ ys) ≡ true → legal_from s xs ≡ true
 legal_from-front s [] ys legal = refl
 legal_from-front s (x ∷ xs) ys legal = both (allowed s x) _ (first (allowed s x) _ legal) (legal_from-front (after s x) xs ys (second (allowed s x) _ legal))
 
--- and its back is legal in the state that the front leaves
+-- and what follows is legal in the state that the prefix leaves
 pub legal_from-back : (s : State) (xs ys : List Entry) → legal_from s (xs ++ ys) ≡ true → legal_from (state_from s xs) ys ≡ true
 legal_from-back s [] ys legal = legal
 legal_from-back s (x ∷ xs) ys legal = legal_from-back (after s x) xs ys (second (allowed s x) _ legal)
 
--- a history leaves what its back leaves of the state after its front
+-- a history leaves what its last entries leave of the state after those before
 pub state_from-append : (s : State) (xs ys : List Entry) → state_from s (xs ++ ys) ≡ state_from (state_from s xs) ys
 state_from-append s [] ys = refl
 state_from-append s (x ∷ xs) ys = state_from-append (after s x) xs ys

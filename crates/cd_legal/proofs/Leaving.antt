@@ -9,12 +9,13 @@ use Rattle.cd_outside.specs.declared.holder.Holder.{Holder}
 use Rattle.cd_outside.specs.declared.holder.Pair.{Pair}
 use Rattle.cd_outside.specs.Keys.{keys_of, pairs_for}
 use Rattle.cd_tree.specs.declared.tree.Tree.{Tree}
+use Rattle.cd_legal.specs.declared.part.Part.TheVariants.{Instance, App}
 use Rattle.cd_legal.specs.declared.plan.Plan.{Plan}
 use Rattle.cd_legal.specs.declared.entry.Entry.{Entry}
 use Rattle.cd_legal.specs.declared.entry.Entry.TheVariants.{Draft, Made, Started, Publish, Abandon, Stopped, Cleaned}
 use Rattle.cd_legal.specs.declared.state.State.{State}
 use Rattle.cd_legal.specs.declared.state.Drafted.{Drafted}
-use Rattle.cd_legal.specs.State.{opening_state, holds_if_there, change_at, conf_of, conf_in, conf_at, Conf, instance_of, app_of, module_keys, app_keys, keys_for, new_draft}
+use Rattle.cd_legal.specs.State.{opening_state, holds_if_there, change_at, conf_of, conf_in, conf_at, Conf, part_of, keys_for, new_draft}
 use Rattle.cd_legal.specs.Legal.{allowed, after, legal_from, legal, state_from, state_of}
 use Rattle.cd_legal.specs.Abandoned.{is_entry_of, is_abandoned_in, pairs_of_others, Leaves}
 use Rattle.cd_legal.proofs.Histories.{first, second, state_from-snoc, legal_from-front, legal_from-back, state_from-append}
@@ -109,15 +110,15 @@ drafted : (s : State) (j : ℕ) (tree : Tree) (plan : Plan) → allowed s (Draft
 drafted s j tree plan may all =
     subst (λ z. Leaves z s (after s (Draft j tree plan))) (sym (eqb-true j (length s.drafts) (first (j == length s.drafts) _ may))) (new_one s (new_draft tree plan) all)
 
--- an entry of the draft, which is abandoned behind it
+-- an entry of the draft, which is abandoned after it
 one : (d : ℕ) (s : State) (e : Entry) (es : List Entry) → are_there s ≡ true → legal_from s (e ∷ es) ≡ true → is_abandoned_in (state_from (after s e) es) d ≡ true → is_entry_of d e ≡ true → Leaves d s (after s e)
 one d s (Draft j tree plan) es all legal gone is = own s (Draft j tree plan) d j is (drafted s j tree plan (first (allowed s (Draft j tree plan)) _ legal) all)
-one d s (Made j i taken failed) es all legal gone is = own s (Made j i taken failed) d j is (changes j s _ _ (λ x. refl) (taking j (instance_of j i) s.pairs (take taken (keys_for module_keys i (slice_get s.drafts j))) (eq-eqb j j refl)))
-one d s (Started j a taken failed) es all legal gone is = own s (Started j a taken failed) d j is (changes j s _ _ (λ x. refl) (taking j (app_of j a) s.pairs (take taken (keys_for app_keys a (slice_get s.drafts j))) (eq-eqb j j refl)))
+one d s (Made j i taken failed) es all legal gone is = own s (Made j i taken failed) d j is (changes j s _ _ (λ x. refl) (taking j (part_of Instance j i) s.pairs (take taken (keys_for Instance i (slice_get s.drafts j))) (eq-eqb j j refl)))
+one d s (Started j a taken failed) es all legal gone is = own s (Started j a taken failed) d j is (changes j s _ _ (λ x. refl) (taking j (part_of App j a) s.pairs (take taken (keys_for App a (slice_get s.drafts j))) (eq-eqb j j refl)))
 one d s (Publish j n from c) es all legal gone is = absurd (let e : false ≡ true = never_published s j n from c es legal (subst (λ z. is_abandoned_in (state_from (after s (Publish j n from c)) es) z ≡ true) (sym (eqb-true j d is)) gone) in cc)
 one d s (Abandon j) es all legal gone is = own s (Abandon j) d j is (changes j s _ s.pairs (λ x. refl) refl)
-one d s (Stopped j a) es all legal gone is = own s (Stopped j a) d j is (changes j s _ _ (λ x. refl) (others-without_own j (app_of j a) refl s.pairs))
-one d s (Cleaned j i) es all legal gone is = own s (Cleaned j i) d j is (changes j s _ _ (λ x. refl) (others-without_own j (instance_of j i) refl s.pairs))
+one d s (Stopped j a) es all legal gone is = own s (Stopped j a) d j is (changes j s _ _ (λ x. refl) (others-without_own j (part_of App j a) refl s.pairs))
+one d s (Cleaned j i) es all legal gone is = own s (Cleaned j i) d j is (changes j s _ _ (λ x. refl) (others-without_own j (part_of Instance j i) refl s.pairs))
 one d s e es all legal gone is = cc
 
 -- ---- where it stands in a history

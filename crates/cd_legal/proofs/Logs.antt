@@ -1,4 +1,4 @@
--- Histories of signed entries: fronts and backs, one entry more, and the entries of one pass.
+-- Histories of signed entries: their prefixes and what follows these, one entry more, and the entries of one pass.
 use Rattle.std.proofs.Common.{◌≡◌, ◌≢◌, ℕ, ◌==◌, Bool, true, false, cond, List, [], ◌∷◌, ◌++◌, refl, sym, ap, subst, ◌∙◌, append_assoc, eq-eqb, ne_eqb}
 use Rattle.std.proofs.lemmas.List.{append-nil}
 use mathlib.Core.List.{IsPrefix}
@@ -40,7 +40,7 @@ pub entries-append : (xs ys : List Signed) → entries (xs ++ ys) ≡ entries xs
 entries-append [] ys = refl
 entries-append (x ∷ xs) ys = ap (λ (z : List Entry). x.entry ∷ z) (entries-append xs ys)
 
--- a history leaves what its back leaves of the state after its front
+-- a history leaves what its last entries leave of the state after those before
 pub state-append : (xs ys : List Signed) → state_at (xs ++ ys) ≡ state_from (state_at xs) (entries ys)
 state-append xs ys = ap state_of (entries-append xs ys) ∙ state_from-append opening_state (entries xs) (entries ys)
 
@@ -56,11 +56,11 @@ calls-snoc log x = ap fixture_calls (entries-snoc log x) ∙ calls_from-snoc ope
 pub legal-snoc : (log : List Signed) (x : Signed) → IsLegal log → allowed (state_at log) x.entry ≡ true → IsLegal (log ++ x ∷ [])
 legal-snoc log x is may = ap legal (entries-snoc log x) ∙ legal_from-snoc opening_state (entries log) x.entry is may
 
--- the back of a legal history is legal in the state that the front leaves
+-- the last entries of a legal history are legal in the state that those before leave
 pub legal-back : (front back : List Signed) → IsLegal (front ++ back) → legal_from (state_at front) (entries back) ≡ true
 legal-back front back is = legal_from-back opening_state (entries front) (entries back) (ap legal (sym (entries-append front back)) ∙ is)
 
--- its front is legal
+-- each prefix of it is legal
 pub legal-front : (front log : List Signed) → IsPrefix front log → IsLegal log → IsLegal front
 legal-front front log p is =
     legal_from-front opening_state (entries front) (entries p.0) (ap legal (sym (entries-append front p.0)) ∙ (ap (λ (z : List Signed). legal (entries z)) p.1 ∙ is))
@@ -94,7 +94,7 @@ signed_from-snoc before (y ∷ ys) x all may =
     (signed_from-snoc (before ++ y ∷ []) ys x (second (may_sign y.by (owes_of y.by before) y.entry) _ all)
     (subst (λ (b : List Signed). may_sign x.by (owes_of x.by b) x.entry ≡ true) (sym (append_assoc before (y ∷ []) ys)) may))
 
--- of a front
+-- so is a prefix
 signed_from-front : (before xs ys : List Signed) → are_signed_from before (xs ++ ys) ≡ true → are_signed_from before xs ≡ true
 signed_from-front before [] ys all = refl
 signed_from-front before (x ∷ xs) ys all =
@@ -108,7 +108,7 @@ history-snoc log x is may signs = record {
   is_signed = signed_from-snoc [] log x is.is_signed signs;
 }
 
--- each front of a history is one
+-- each prefix of a history is one
 pub history-front : (front log : List Signed) → IsPrefix front log → IsHistory log → IsHistory front
 history-front front log p is = record {
   is_legal = legal-front front log p is.is_legal;

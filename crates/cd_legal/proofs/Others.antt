@@ -13,7 +13,7 @@ put : (b : Bool) (p : Pair) (ps qs rs : List Pair) → rs ≡ ps ++ qs → cond 
 put true p ps qs rs e = e
 put false p ps qs rs e = ap (λ zs. p ∷ zs) e
 
--- of two lists, one behind the other
+-- of two lists, one after another
 pub others-append : (d : ℕ) (ps qs : List Pair) → pairs_of_others d (ps ++ qs) ≡ pairs_of_others d ps ++ pairs_of_others d qs
 others-append d [] qs = refl
 others-append d (p ∷ ps) qs = put (p.holder.draft == d) p (pairs_of_others d ps) (pairs_of_others d qs) _ (others-append d ps qs)

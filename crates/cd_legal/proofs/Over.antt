@@ -57,7 +57,7 @@ all_end serial retired all (x ∷ xs) gone fine done =
     (ends serial retired all x.life (is_ended x) (first (not (is_live x.life)) _ gone) (second (is_unended_if_live x) _ (first (is_sound serial x) _ fine)) (first (nothing_left_of retired x) _ done))
     (all_end serial retired all xs (second (not (is_live x.life)) _ gone) (second (is_sound serial x) _ fine) (second (nothing_left_of retired x) _ done))
 
--- behind the halt
+-- after the halt
 bound : (s : State) → s.halted ≡ true → bound_of s ≡ s.serial
 bound s halted = ap (λ (b : Bool). cond b s.serial (s.serial + 1)) halted
 

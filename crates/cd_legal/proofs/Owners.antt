@@ -4,6 +4,7 @@ use Rattle.std.specs.Prelude.{is_none}
 use Rattle.std.proofs.lemmas.Bool.{eqb-true}
 use Rattle.std.proofs.lemmas.Bool.Decides.{eqb_tells}
 use Rattle.std.proofs.lemmas.Option.{slice_get_past}
+use Rattle.cd_legal.specs.declared.part.Part.TheVariants.{Instance, App}
 use Rattle.cd_legal.specs.declared.entry.Entry.{Entry}
 use Rattle.cd_legal.specs.declared.entry.Entry.TheVariants.{Draft, Made, Started, Publish, Abandon, Stopped, Cleaned}
 use Rattle.cd_legal.specs.declared.entry.Signed.{Signed}
@@ -11,7 +12,7 @@ use Rattle.cd_legal.specs.declared.state.State.{State}
 use Rattle.cd_legal.specs.declared.state.Drafted.{Drafted}
 use Rattle.cd_legal.specs.declared.state.Life.TheVariants.{Published, Abandoned}
 use Rattle.cd_legal.specs.State.{holds, change_at, is_live, new_draft}
-use Rattle.cd_legal.specs.Legal.{allowed, after, state_at, may_make, may_start, may_stop, may_clean}
+use Rattle.cd_legal.specs.Legal.{allowed, after, state_at, may_open, may_stop, may_clean}
 use Rattle.cd_legal.specs.Owing.{Owes, owes_by, owes_of}
 use Rattle.cd_legal.specs.Signing.{owes_draft, may_sign, is_live_in, IsHistory}
 use Rattle.cd_legal.proofs.Facts.{can}
@@ -120,8 +121,8 @@ same_live : (s : State) (e : Entry) (d : ℕ) → allowed s e ≡ true → chang
 same_live s (Draft j tree plan) d may is = cc
 same_live s (Publish j n from c) d may is = cc
 same_live s (Abandon j) d may is = cc
-same_live s (Made j i taken failed) d may is = holds_same (λ x. is_live x.life) (may_make i taken failed s.pairs) _ (λ x m. refl) s.drafts j d may
-same_live s (Started j a taken failed) d may is = holds_same (λ x. is_live x.life) (may_start a taken failed s.pairs) _ (λ x m. refl) s.drafts j d may
+same_live s (Made j i taken failed) d may is = holds_same (λ x. is_live x.life) (may_open Instance i taken failed s.pairs) _ (λ x m. refl) s.drafts j d may
+same_live s (Started j a taken failed) d may is = holds_same (λ x. is_live x.life) (may_open App a taken failed s.pairs) _ (λ x m. refl) s.drafts j d may
 same_live s (Stopped j a) d may is = holds_same (λ x. is_live x.life) (may_stop a s.serial) _ (λ x m. refl) s.drafts j d may
 same_live s (Cleaned j i) d may is = holds_same (λ x. is_live x.life) (may_clean i s.retired) _ (λ x m. refl) s.drafts j d may
 same_live s e d may is = refl

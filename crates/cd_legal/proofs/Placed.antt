@@ -19,7 +19,7 @@ placed_from-append k before (e ∷ es) ys =
     ∙ pick (e.by == k) p (placed_from k next es) (placed_from k (next ++ es) ys)
     ∙ ap (λ (b : List Signed). placed_from k before (e ∷ es) ++ placed_from k b ys) (append_assoc before (e ∷ []) es)
 
--- what was placed stays where it is, and what is new stands behind the whole history
+-- what was placed stays where it is, and what is new stands after the whole history
 pub placed-append : (k : ℕ) (xs ys : List Signed) → placed k (xs ++ ys) ≡ placed k xs ++ placed_from k xs ys
 placed-append k xs ys = placed_from-append k [] xs ys
 
@@ -49,6 +49,6 @@ placed_from-entries k before (e ∷ es) = kept (e.by == k) e before (mine k es) 
 pub placed-entries : (k : ℕ) (history : List Signed) → placed_entries (placed k history) ≡ entries (mine k history)
 placed-entries k history = placed_from-entries k [] history
 
--- an own entry at the end stands behind all before it
+-- an own entry at the end stands after all before it
 pub placed-own : (k : ℕ) (before : List Signed) (e : Entry) → placed k (before ++ signed k e ∷ []) ≡ placed k before ++ record { before = before; entry = e } ∷ []
 placed-own k before e = placed-append k before (signed k e ∷ []) ∙ ap (λ (b : Bool). placed k before ++ cond b (record { before = before; entry = e } ∷ []) []) (eq-eqb k k refl)

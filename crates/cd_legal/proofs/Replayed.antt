@@ -8,7 +8,7 @@ use Rattle.cd_legal.specs.declared.state.State.{State}
 use Rattle.cd_legal.specs.State.{opening_state}
 use Rattle.cd_legal.specs.Legal.{allowed, after, refused_from, state_from, unless, replayed}
 
--- what the entries behind a place give from the state there
+-- what the entries from a place on give from the state there
 abbrev pub replay_from : State → ℕ → List Entry → Result State ReplayFault
 replay_from s place [] = Ok s
 replay_from s place (e ∷ es) = cond (allowed s e) (replay_from (after s e) (suc place) es) (Err (NotAllowed place))

@@ -5,13 +5,14 @@ use Rattle.cd_outside.specs.declared.key.Key.{Key}
 use Rattle.cd_outside.specs.declared.key.Key.TheVariants.{Listen, Writer}
 use Rattle.cd_outside.specs.declared.fixtures.FixtureCall.TheVariants.{Opened, NotOpened, Closed, Shut}
 use Rattle.cd_tree.specs.declared.tree.Tree.{Tree}
+use Rattle.cd_legal.specs.declared.part.Part.TheVariants.{Instance}
 use Rattle.cd_legal.specs.declared.fault.ReplayFault.TheVariants.{NotAllowed}
 use Rattle.cd_legal.specs.declared.plan.Plan.{Plan}
 use Rattle.cd_legal.specs.declared.entry.Change.{Change}
 use Rattle.cd_legal.specs.declared.entry.Change.TheVariants as change
 use Rattle.cd_legal.specs.declared.entry.Entry.{Entry}
 use Rattle.cd_legal.specs.declared.entry.Entry.TheVariants.{Draft, Made, Started, Publish, Abandon, Stopped, Begin, Finish, Retire, Cleaned, Halt}
-use Rattle.cd_legal.specs.State.{opening_state, Conf, conf_of, instance_of}
+use Rattle.cd_legal.specs.State.{opening_state, Conf, conf_of, part_of}
 use Rattle.cd_legal.specs.Legal.{legal, state_of, replayed}
 use Rattle.cd_legal.specs.Calls.{count, fixture_calls, shuts}
 use Rattle.cd_legal.specs.Whole.{ended, IsWhole, IsOver}
@@ -145,11 +146,11 @@ module _ (t : Tree) where
   run_whole = over-whole whole_run refl run_over
 
   -- the last instance is not cleaned before the last entry
-  before_the_last : ended (instance_of 0 0) (take 12 whole_run) ≡ 0
+  before_the_last : ended (part_of Instance 0 0) (take 12 whole_run) ≡ 0
   before_the_last = refl
 
   not_before : IsWhole (take 12 whole_run) → ⊥
-  not_before whole = let e : ◌≡◌ {A = ℕ} 0 1 = whole.ended (instance_of 0 0) in omega (arith, e)
+  not_before whole = let e : ◌≡◌ {A = ℕ} 0 1 = whole.ended (part_of Instance 0 0) in omega (arith, e)
 
   -- it is what opens the draft, and what ends its serial after the halt
   whole_entries : whole_run ≡ Draft 0 t plan ∷ Made 0 0 0 None ∷ Made 0 1 0 None ∷ all_started 0 plan ++ Publish 0 1 0 change.First

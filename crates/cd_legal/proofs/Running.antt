@@ -1,5 +1,5 @@
 -- Each pair's holder is begun, and not ended.
-use Rattle.std.proofs.Common.{◌≡◌, ◌≢◌, ℕ, ◌+◌, ◌==◌, Bool, true, false, ◌&&◌, not, cond, nat_lt, List, [], ◌∷◌, ◌++◌, take, slice_get, Option, refl, sym, ap, ◌∙◌, ⊎_elim, arith, eq-eqb}
+use Rattle.std.proofs.Common.{◌≡◌, ◌≢◌, ℕ, ◌+◌, ◌==◌, Bool, true, false, ◌&&◌, cond, nat_lt, List, [], ◌∷◌, ◌++◌, take, slice_get, Option, refl, sym, ap, ◌∙◌, ⊎_elim, arith, eq-eqb}
 use Rattle.std.specs.List.{list_all}
 use Rattle.std.proofs.lemmas.Bool.Decides.{nat_tests, eqb_tells}
 use Rattle.std.proofs.lemmas.Bool.{eqb-false}
@@ -8,17 +8,20 @@ use Rattle.cd_outside.specs.declared.key.Key.{Key}
 use Rattle.cd_outside.specs.declared.holder.Holder.{Holder}
 use Rattle.cd_outside.specs.declared.holder.Pair.{Pair}
 use Rattle.cd_outside.specs.Keys.{holder_eq, bool_eq, without_holder, pairs_for}
+use Rattle.cd_legal.specs.declared.part.Part.{Part}
+use Rattle.cd_legal.specs.declared.part.Part.TheVariants.{Instance, App}
 use Rattle.cd_legal.specs.declared.entry.Entry.{Entry}
 use Rattle.cd_legal.specs.declared.entry.Entry.TheVariants.{Draft, Made, Started, Publish, Abandon, Stopped, Cleaned}
 use Rattle.cd_legal.specs.declared.state.State.{State}
 use Rattle.cd_legal.specs.declared.state.Drafted.{Drafted}
-use Rattle.cd_legal.specs.State.{holds, change_at, is_live, instance_of, app_of, module_keys, app_keys, keys_for}
-use Rattle.cd_legal.specs.Legal.{allowed, after, legal_from, state_from, may_make, may_start, may_stop, may_clean, is_complete}
+use Rattle.cd_legal.specs.State.{holds, change_at, is_live, part_of, is_app, keys_for, one_opened, one_ended}
+use Rattle.cd_legal.specs.Legal.{allowed, after, legal_from, state_from, part_opened, part_ended, may_open, is_complete}
+use Rattle.cd_legal.specs.Steps.{may_end}
 use Rattle.cd_legal.proofs.Histories.{both, first, second}
-use Rattle.cd_legal.proofs.Facts.{makes, starts, stops, cleans, can}
+use Rattle.cd_legal.proofs.Facts.{opens, stops, cleans, can}
 use Rattle.cd_legal.proofs.Places.{get_change_other, holds_kept, holds_made, holds_push}
 use Rattle.cd_legal.proofs.Counting.{made_of}
-use Rattle.cd_legal.proofs.Sound.{is_sound, bound_of, are_sound, sound, sound_at, live_whole}
+use Rattle.cd_legal.proofs.Sound.{is_sound, bound_of, are_sound, sound, sound_at, open_whole}
 use Rattle.cd_legal.proofs.Ending.{ended_of}
 
 -- the place is made of the draft, and none of the last that are ended
@@ -54,7 +57,7 @@ own_run : (h : Holder) (ys : List Drafted) → runs_in h ys ≡ true → (ks : L
 own_run h ys here [] = refl
 own_run h ys here (k ∷ ks) = both (runs_in h ys) _ here (own_run h ys here ks)
 
--- so behind pairs that are there
+-- so after pairs that are there
 taken_run : (h : Holder) (ys : List Drafted) (ps : List Pair) (ks : List Key) → all_run ys ps ≡ true → runs_in h ys ≡ true → all_run ys (ps ++ pairs_for h ks) ≡ true
 taken_run h ys ps ks all here = list_all-append (λ (p : Pair). runs_in p.holder ys) ps (pairs_for h ks) ∙ both (all_run ys ps) _ all (own_run h ys here ks)
 
@@ -66,26 +69,17 @@ up p e m is = grind (arith, nat_tests)
 last : (i e m : ℕ) → i ≡ m → e ≡ 0 → nat_lt (i + e) (m + 1) ≡ true
 last i e m is none = grind (arith, nat_tests)
 
--- one more instance keeps those that run
-made_keeps : (app : Bool) (p : ℕ) (failed : Option Key) (x : Drafted) → runs app p x ≡ true → runs app p (record x { made = x.made + 1; failed = failed }) ≡ true
-made_keeps true p failed x is = is
-made_keeps false p failed x is = up p x.cleaned x.made is
-
--- one more app does
-started_keeps : (app : Bool) (p : ℕ) (failed : Option Key) (x : Drafted) → runs app p x ≡ true → runs app p (record x { started = x.started + 1; failed = failed }) ≡ true
-started_keeps true p failed x is = up p x.stopped x.started is
-started_keeps false p failed x is = is
+-- one more keeps those that run
+opened_keeps : (part : Part) (app : Bool) (p : ℕ) (failed : Option Key) (x : Drafted) → runs app p x ≡ true → runs app p (one_opened part failed x) ≡ true
+opened_keeps Instance true p failed x is = is
+opened_keeps Instance false p failed x is = up p x.cleaned x.made is
+opened_keeps App true p failed x is = up p x.stopped x.started is
+opened_keeps App false p failed x is = is
 
 -- and it runs itself
-made_runs : (bound i taken : ℕ) (failed : Option Key) (ps : List Pair) (x : Drafted) → (is_sound bound x && may_make i taken failed ps x) ≡ true → runs false i (record x { made = x.made + 1; failed = failed }) ≡ true
-made_runs bound i taken failed ps x m =
-    let f = makes i taken failed ps x (second (is_sound bound x) _ m) in
-    last i x.cleaned x.made f.next (live_whole bound x f.opened.live (first (is_sound bound x) _ m)).1
-
-started_runs : (bound a taken : ℕ) (failed : Option Key) (ps : List Pair) (x : Drafted) → (is_sound bound x && may_start a taken failed ps x) ≡ true → runs true a (record x { started = x.started + 1; failed = failed }) ≡ true
-started_runs bound a taken failed ps x m =
-    let f = starts a taken failed ps x (second (is_sound bound x) _ m) in
-    last a x.stopped x.started f.next (live_whole bound x f.opened.live (first (is_sound bound x) _ m)).0
+opened_runs : (bound : ℕ) (part : Part) (i taken : ℕ) (failed : Option Key) (ps : List Pair) (x : Drafted) → (is_sound bound x && may_open part i taken failed ps x) ≡ true → runs (is_app part) i (one_opened part failed x) ≡ true
+opened_runs bound Instance i taken failed ps x m = last i x.cleaned x.made (opens Instance i taken failed ps x (second (is_sound bound x) _ m)).next (open_whole bound Instance i taken failed ps x m).1
+opened_runs bound App i taken failed ps x m = last i x.stopped x.started (opens App i taken failed ps x (second (is_sound bound x) _ m)).next (open_whole bound App i taken failed ps x m).0
 
 -- ---- one more ended
 
@@ -93,15 +87,11 @@ started_runs bound a taken failed ps x m =
 next_down : (p a e m : ℕ) → a ≢ p → a + 1 + e ≡ m → nat_lt (p + e) m ≡ true → nat_lt (p + (e + 1)) m ≡ true
 next_down p a e m ne is t = grind (arith, nat_tests)
 
--- an app is stopped
-stopped_keeps : (a serial : ℕ) (app : Bool) (p : ℕ) (x : Drafted) → (app && (a == p)) ≡ false → may_stop a serial x ≡ true → runs app p x ≡ true → runs app p (record x { stopped = x.stopped + 1 }) ≡ true
-stopped_keeps a serial true p x ne m t = next_down p a x.stopped x.started (eqb-false a p ne) (stops a serial x m).next t
-stopped_keeps a serial false p x ne m t = t
-
--- an instance is cleaned
-cleaned_keeps : (i : ℕ) (retired : List ℕ) (app : Bool) (p : ℕ) (x : Drafted) → (not app && (i == p)) ≡ false → may_clean i retired x ≡ true → runs app p x ≡ true → runs app p (record x { cleaned = x.cleaned + 1 }) ≡ true
-cleaned_keeps i retired true p x ne m t = t
-cleaned_keeps i retired false p x ne m t = next_down p i x.cleaned x.made (eqb-false i p ne) (cleans i retired x m).next t
+ended_keeps : (part : Part) (i : ℕ) (s : State) (app : Bool) (p : ℕ) (x : Drafted) → (bool_eq (is_app part) app && (i == p)) ≡ false → may_end part i s x ≡ true → runs app p x ≡ true → runs app p (one_ended part x) ≡ true
+ended_keeps Instance i s true p x ne m t = t
+ended_keeps Instance i s false p x ne m t = next_down p i x.cleaned x.made (eqb-false i p ne) (cleans i s.retired x m).next t
+ended_keeps App i s true p x ne m t = next_down p i x.stopped x.started (eqb-false i p ne) (stops i s.serial x m).next t
+ended_keeps App i s false p x ne m t = t
 
 not_here : (b c : Bool) → b ≡ true → (b && c) ≡ false → c ≡ false
 not_here true c is e = e
@@ -120,19 +110,24 @@ module _ (g : Holder) (may : Drafted → Bool) (f : Drafted → Drafted) (keeps 
 unchanged : (s : State) (d : ℕ) (may : Drafted → Bool) (f : Drafted → Drafted) → ((app : Bool) (p : ℕ) (x : Drafted) → runs app p x ≡ true → runs app p (f x) ≡ true) → holds may (slice_get s.drafts d) ≡ true → all_run s.drafts s.pairs ≡ true → all_run (change_at f d s.drafts) s.pairs ≡ true
 unchanged s d may f keeps m all = still_run s.drafts (change_at f d s.drafts) (λ h t. holds_kept (runs h.app h.place) may f (λ x n u. keeps h.app h.place x u) s.drafts d h.draft m t) s.pairs all
 
+-- one is opened, or ended
+opened_run : (s : State) (part : Part) (d i taken : ℕ) (failed : Option Key) → are_sound s ≡ true → holds (may_open part i taken failed s.pairs) (slice_get s.drafts d) ≡ true → all_run s.drafts s.pairs ≡ true → all_run (part_opened part d i taken failed s).drafts (part_opened part d i taken failed s).pairs ≡ true
+opened_run s part d i taken failed fine may all =
+    taken_run (part_of part d i) _ s.pairs (take taken (keys_for part i (slice_get s.drafts d))) (unchanged s d (may_open part i taken failed s.pairs) _ (λ app p x t. opened_keeps part app p failed x t) may all)
+    (holds_made (runs (is_app part) i) (λ x. is_sound (bound_of s) x && may_open part i taken failed s.pairs x) _ (opened_runs (bound_of s) part i taken failed s.pairs) s.drafts d (sound_at s d (may_open part i taken failed s.pairs) fine may))
+
+ended_run : (s : State) (part : Part) (d i : ℕ) → holds (may_end part i s) (slice_get s.drafts d) ≡ true → all_run s.drafts s.pairs ≡ true → all_run (part_ended part d i s).drafts (part_ended part d i s).pairs ≡ true
+ended_run s part d i may all = others_run (part_of part d i) s.drafts _ (but_one (part_of part d i) (may_end part i s) _ (ended_keeps part i s) s.drafts may) s.pairs all
+
 -- one entry leaves them so
 run : (s : State) (e : Entry) → are_sound s ≡ true → allowed s e ≡ true → all_run s.drafts s.pairs ≡ true → all_run (after s e).drafts (after s e).pairs ≡ true
 run s (Draft d tree plan) fine may all = still_run s.drafts _ (λ h t. holds_push (runs h.app h.place) _ s.drafts h.draft t) s.pairs all
-run s (Made d i taken failed) fine may all =
-    taken_run (instance_of d i) _ s.pairs (take taken (keys_for module_keys i (slice_get s.drafts d))) (unchanged s d (may_make i taken failed s.pairs) _ (λ app p x t. made_keeps app p failed x t) may all)
-    (holds_made (runs false i) (λ x. is_sound (bound_of s) x && may_make i taken failed s.pairs x) _ (made_runs (bound_of s) i taken failed s.pairs) s.drafts d (sound_at s d (may_make i taken failed s.pairs) fine may))
-run s (Started d a taken failed) fine may all =
-    taken_run (app_of d a) _ s.pairs (take taken (keys_for app_keys a (slice_get s.drafts d))) (unchanged s d (may_start a taken failed s.pairs) _ (λ app p x t. started_keeps app p failed x t) may all)
-    (holds_made (runs true a) (λ x. is_sound (bound_of s) x && may_start a taken failed s.pairs x) _ (started_runs (bound_of s) a taken failed s.pairs) s.drafts d (sound_at s d (may_start a taken failed s.pairs) fine may))
+run s (Made d i taken failed) fine may all = opened_run s Instance d i taken failed fine may all
+run s (Started d a taken failed) fine may all = opened_run s App d a taken failed fine may all
 run s (Publish d n from c) fine may all = unchanged s d is_complete _ (λ app p x t. t) (can s (Publish d n from c) may).complete all
 run s (Abandon d) fine may all = unchanged s d (λ x. is_live x.life) _ (λ app p x t. t) may all
-run s (Stopped d a) fine may all = others_run (app_of d a) s.drafts _ (but_one (app_of d a) (may_stop a s.serial) _ (stopped_keeps a s.serial) s.drafts may) s.pairs all
-run s (Cleaned d i) fine may all = others_run (instance_of d i) s.drafts _ (but_one (instance_of d i) (may_clean i s.retired) _ (cleaned_keeps i s.retired) s.drafts may) s.pairs all
+run s (Stopped d a) fine may all = ended_run s App d a may all
+run s (Cleaned d i) fine may all = ended_run s Instance d i may all
 run s e fine may all = all
 
 -- of each pair of a legal history

@@ -4,6 +4,7 @@ use Rattle.std.specs.Prelude.{◌||◌}
 use Rattle.std.proofs.lemmas.Bool.{eqb-true}
 use Rattle.std.proofs.lemmas.Bool.Decides.{eqb_tells}
 use mathlib.Core.List.{IsPrefix}
+use Rattle.cd_legal.specs.declared.part.Part.TheVariants.{Instance, App}
 use Rattle.cd_legal.specs.declared.entry.Change.{Change}
 use Rattle.cd_legal.specs.declared.entry.Entry.{Entry}
 use Rattle.cd_legal.specs.declared.entry.Entry.TheVariants.{Draft, Made, Started, Publish, Abandon, Stopped, Retire, Cleaned, Halt}
@@ -14,7 +15,7 @@ use Rattle.cd_legal.specs.declared.state.Life.{Life}
 use Rattle.cd_legal.specs.declared.state.Life.TheVariants.{Live, Published, Abandoned}
 use Rattle.cd_legal.specs.Entry.{entries}
 use Rattle.cd_legal.specs.State.{opening_state, holds, has_number, change_at, is_live, draft_of}
-use Rattle.cd_legal.specs.Legal.{allowed, after, legal, legal_from, state_from, state_of, state_at, IsLegal, may_make, may_start, may_stop, may_clean, is_complete}
+use Rattle.cd_legal.specs.Legal.{allowed, after, legal, legal_from, state_from, state_of, state_at, IsLegal, may_open, may_stop, may_clean, is_complete}
 use Rattle.cd_legal.specs.Serials.{has_serial, has_serial_in, times, publishings}
 use Rattle.cd_legal.proofs.Histories.{first, second, along}
 use Rattle.cd_legal.proofs.Logs.{state-append, legal-back}
@@ -123,8 +124,8 @@ is_publish e = false
 -- only a Publish gives a draft a serial
 pub same_serial : (s : State) (e : Entry) (n d : ℕ) → allowed s e ≡ true → is_publish e ≡ false → has_serial_in (after s e) n d ≡ has_serial_in s n d
 same_serial s (Draft j tree plan) n d may is = holds_push_none (λ x. has_serial n x.life) _ refl s.drafts d
-same_serial s (Made j i taken failed) n d may is = holds_same (λ x. has_serial n x.life) (may_make i taken failed s.pairs) _ (λ x m. refl) s.drafts j d may
-same_serial s (Started j a taken failed) n d may is = holds_same (λ x. has_serial n x.life) (may_start a taken failed s.pairs) _ (λ x m. refl) s.drafts j d may
+same_serial s (Made j i taken failed) n d may is = holds_same (λ x. has_serial n x.life) (may_open Instance i taken failed s.pairs) _ (λ x m. refl) s.drafts j d may
+same_serial s (Started j a taken failed) n d may is = holds_same (λ x. has_serial n x.life) (may_open App a taken failed s.pairs) _ (λ x m. refl) s.drafts j d may
 same_serial s (Publish j m from c) n d may is = cc
 same_serial s (Abandon j) n d may is = holds_same (λ x. has_serial n x.life) (λ x. is_live x.life) _ (λ x m. sym (live_none x.life n m)) s.drafts j d may
 same_serial s (Stopped j a) n d may is = holds_same (λ x. has_serial n x.life) (may_stop a s.serial) _ (λ x m. refl) s.drafts j d may

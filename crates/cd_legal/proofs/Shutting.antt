@@ -6,16 +6,17 @@ use Rattle.cd_outside.specs.declared.key.Key.{Key}
 use Rattle.cd_outside.specs.declared.fixtures.FixtureCall.{FixtureCall}
 use Rattle.cd_outside.specs.declared.fixtures.FixtureCall.TheVariants.{Opened, NotOpened, Closed, Shut}
 use Rattle.cd_outside.specs.Keys.{keys_in, keys_of, without_holder, fresh_keys}
+use Rattle.cd_legal.specs.declared.part.Part.TheVariants.{Instance, App}
 use Rattle.cd_legal.specs.declared.entry.Entry.{Entry}
 use Rattle.cd_legal.specs.declared.entry.Entry.TheVariants.{Draft, Made, Started, Publish, Abandon, Stopped, Cleaned, Halt}
 use Rattle.cd_legal.specs.declared.state.State.{State}
 use Rattle.cd_legal.specs.declared.state.Drafted.{Drafted}
-use Rattle.cd_legal.specs.State.{opening_state, holds, holds_if_there, change_at, is_live, all_stopped, of_draft, draft_of, new_draft, keys_for, module_keys, app_keys, instance_of, app_of}
-use Rattle.cd_legal.specs.Legal.{allowed, after, legal, legal_from, state_from, state_of, may_make, may_start, may_stop, may_clean}
+use Rattle.cd_legal.specs.State.{opening_state, holds, holds_if_there, change_at, is_live, all_stopped, of_draft, draft_of, new_draft, keys_for, part_of}
+use Rattle.cd_legal.specs.Legal.{allowed, after, legal, legal_from, state_from, state_of, may_open, may_stop, may_clean}
 use Rattle.cd_legal.specs.Calls.{failing, key_calls, last_of, is_shut, shutting, entry_calls, calls_from, fixture_calls, shuts, not_opened, failures}
 use Rattle.cd_legal.specs.Serials.{has_serial, has_serial_in}
 use Rattle.cd_legal.proofs.Histories.{both, first, second}
-use Rattle.cd_legal.proofs.Facts.{starts, can}
+use Rattle.cd_legal.proofs.Facts.{opens, can}
 use Rattle.cd_legal.proofs.Serials.{Agree, agree, opening_agrees, live_none}
 
 -- ---- the draft that was published last
@@ -88,9 +89,9 @@ before_halt false c d free = refl
 -- only a Stopped and a Halt change whether the host is shut
 pub shut_kept : (s : State) (e : Entry) → allowed s e ≡ true → Agree s → may_shut e ≡ false → is_shut (after s e) ≡ is_shut s
 shut_kept s (Draft d tree plan) may a is = still s (s.drafts ++ new_draft tree plan ∷ []) (of_last s (s.drafts ++ new_draft tree plan ∷ []) a (λ n j r. pushed (λ x. has_serial n x.life) (new_draft tree plan) s.drafts j r) (last_of s.published) refl)
-shut_kept s (Made d i taken failed) may a is = changed s d (may_make i taken failed s.pairs) _ a may (λ n x m r. refl)
+shut_kept s (Made d i taken failed) may a is = changed s d (may_open Instance i taken failed s.pairs) _ a may (λ n x m r. refl)
 shut_kept s (Started d i taken failed) may a is =
-    changed s d (may_start i taken failed s.pairs) _ a may (λ n x m r. equal _ _ (λ z. differ x n z (ap is_live (starts i taken failed s.pairs x m).opened.live) r))
+    changed s d (may_open App i taken failed s.pairs) _ a may (λ n x m r. equal _ _ (λ z. differ x n z (ap is_live (opens App i taken failed s.pairs x m).opened.live) r))
 shut_kept s (Publish d n from c) may a is = before_halt s.halted _ _ (can s (Publish d n from c) may).running
 shut_kept s (Abandon d) may a is = changed s d (λ x. is_live x.life) _ a may (λ n x m r. refl)
 shut_kept s (Stopped d i) may a is = cc
@@ -155,10 +156,10 @@ taken ks failed = let parts = shuts-append (map (λ k. Opened k) ks) (failing fa
 
 -- keys are opened and closed without it
 none_by_keys : (s : State) (e : Entry) → shuts (key_calls s e) ≡ 0
-none_by_keys s (Made d i n failed) = taken (fresh_keys (keys_in s.pairs) (take n (keys_for module_keys i (slice_get s.drafts d)))) failed
-none_by_keys s (Started d a n failed) = taken (fresh_keys (keys_in s.pairs) (take n (keys_for app_keys a (slice_get s.drafts d)))) failed
-none_by_keys s (Stopped d a) = none_closed (reverse (fresh_keys (keys_in (without_holder (app_of d a) s.pairs)) (keys_of (app_of d a) s.pairs)))
-none_by_keys s (Cleaned d i) = none_closed (reverse (fresh_keys (keys_in (without_holder (instance_of d i) s.pairs)) (keys_of (instance_of d i) s.pairs)))
+none_by_keys s (Made d i n failed) = taken (fresh_keys (keys_in s.pairs) (take n (keys_for Instance i (slice_get s.drafts d)))) failed
+none_by_keys s (Started d a n failed) = taken (fresh_keys (keys_in s.pairs) (take n (keys_for App a (slice_get s.drafts d)))) failed
+none_by_keys s (Stopped d a) = none_closed (reverse (fresh_keys (keys_in (without_holder (part_of App d a) s.pairs)) (keys_of (part_of App d a) s.pairs)))
+none_by_keys s (Cleaned d i) = none_closed (reverse (fresh_keys (keys_in (without_holder (part_of Instance d i) s.pairs)) (keys_of (part_of Instance d i) s.pairs)))
 none_by_keys s e = refl
 
 by_change : (b c : Bool) → (b ≡ true → c ≡ true) → cond {A = ℕ} b 1 0 + shuts (shutting b c) ≡ cond c 1 0
@@ -215,12 +216,12 @@ failed_after ks failed = let parts = not_opened-append (map (λ k. Opened k) ks)
 
 -- by one entry
 fails_by : (s : State) (e : Entry) → not_opened (key_calls s e) ≡ failures (e ∷ [])
-fails_by s (Made d i n None) = failed_after (fresh_keys (keys_in s.pairs) (take n (keys_for module_keys i (slice_get s.drafts d)))) None
-fails_by s (Made d i n (Some key)) = failed_after (fresh_keys (keys_in s.pairs) (take n (keys_for module_keys i (slice_get s.drafts d)))) (Some key)
-fails_by s (Started d a n None) = failed_after (fresh_keys (keys_in s.pairs) (take n (keys_for app_keys a (slice_get s.drafts d)))) None
-fails_by s (Started d a n (Some key)) = failed_after (fresh_keys (keys_in s.pairs) (take n (keys_for app_keys a (slice_get s.drafts d)))) (Some key)
-fails_by s (Stopped d a) = all_closed (reverse (fresh_keys (keys_in (without_holder (app_of d a) s.pairs)) (keys_of (app_of d a) s.pairs)))
-fails_by s (Cleaned d i) = all_closed (reverse (fresh_keys (keys_in (without_holder (instance_of d i) s.pairs)) (keys_of (instance_of d i) s.pairs)))
+fails_by s (Made d i n None) = failed_after (fresh_keys (keys_in s.pairs) (take n (keys_for Instance i (slice_get s.drafts d)))) None
+fails_by s (Made d i n (Some key)) = failed_after (fresh_keys (keys_in s.pairs) (take n (keys_for Instance i (slice_get s.drafts d)))) (Some key)
+fails_by s (Started d a n None) = failed_after (fresh_keys (keys_in s.pairs) (take n (keys_for App a (slice_get s.drafts d)))) None
+fails_by s (Started d a n (Some key)) = failed_after (fresh_keys (keys_in s.pairs) (take n (keys_for App a (slice_get s.drafts d)))) (Some key)
+fails_by s (Stopped d a) = all_closed (reverse (fresh_keys (keys_in (without_holder (part_of App d a) s.pairs)) (keys_of (part_of App d a) s.pairs)))
+fails_by s (Cleaned d i) = all_closed (reverse (fresh_keys (keys_in (without_holder (part_of Instance d i) s.pairs)) (keys_of (part_of Instance d i) s.pairs)))
 fails_by s e = refl
 
 failures-cons : (e : Entry) (es : List Entry) → failures (e ∷ es) ≡ failures (e ∷ []) + failures es

@@ -1,10 +1,14 @@
 -- What each state of a legal history has: of a live draft nothing is ended, and no draft has a serial that is not there yet.
-use Rattle.std.proofs.Common.{◌≡◌, ◌≤◌, ℕ, ◌+◌, ◌==◌, zero, suc, Bool, true, false, ◌&&◌, not, cond, nat_lt, List, [], ◌∷◌, slice_get, refl, ◌∙◌, arith}
+use Rattle.std.proofs.Common.{◌≡◌, ◌≤◌, ℕ, ◌+◌, ◌==◌, zero, suc, Bool, true, false, ◌&&◌, not, cond, nat_lt, List, [], ◌∷◌, slice_get, refl, ◌∙◌, arith, Option}
 use Rattle.std.specs.Prelude.{◌||◌}
 use Rattle.std.specs.List.{list_all}
 use Rattle.std.proofs.lemmas.Bool.Decides.{nat_tests}
 use Rattle.std.proofs.lemmas.Bool.{eqb-true}
 use Rattle.std.proofs.lemmas.List.Folds.{list_all-append}
+use Rattle.cd_outside.specs.declared.key.Key.{Key}
+use Rattle.cd_outside.specs.declared.holder.Pair.{Pair}
+use Rattle.cd_legal.specs.declared.part.Part.{Part}
+use Rattle.cd_legal.specs.declared.part.Part.TheVariants.{Instance, App}
 use Rattle.cd_legal.specs.declared.entry.Change.{Change}
 use Rattle.cd_legal.specs.declared.entry.Entry.{Entry}
 use Rattle.cd_legal.specs.declared.entry.Entry.TheVariants.{Draft, Made, Started, Publish, Abandon, Stopped, Cleaned, Halt}
@@ -13,9 +17,9 @@ use Rattle.cd_legal.specs.declared.state.Drafted.{Drafted}
 use Rattle.cd_legal.specs.declared.state.Life.{Life}
 use Rattle.cd_legal.specs.declared.state.Life.TheVariants.{Live, Published, Abandoned}
 use Rattle.cd_legal.specs.State.{holds, change_at, is_live, may_stop_apps, may_clean_instances}
-use Rattle.cd_legal.specs.Legal.{allowed, after, legal_from, legal, state_from, may_make, may_start, may_stop, may_clean, is_complete}
+use Rattle.cd_legal.specs.Legal.{allowed, after, legal_from, legal, state_from, may_open, may_stop, may_clean, is_complete}
 use Rattle.cd_legal.proofs.Histories.{both, first, second, along}
-use Rattle.cd_legal.proofs.Facts.{Publishes, Halts, stops, cleans, can}
+use Rattle.cd_legal.proofs.Facts.{Publishes, Halts, opens, stops, cleans, can}
 
 -- ---- drafts
 
@@ -100,8 +104,8 @@ halted s n may all =
 -- one entry leaves them so
 pub sound : (s : State) (e : Entry) → allowed s e ≡ true → are_sound s ≡ true → are_sound (after s e) ≡ true
 sound s (Draft d tree plan) may all = list_all-append (is_sound (bound_of s)) s.drafts _ ∙ both (list_all (is_sound (bound_of s)) s.drafts) _ all refl
-sound s (Made d i taken failed) may all = all_changed (is_sound (bound_of s)) (may_make i taken failed s.pairs) _ (λ x m t. t) s.drafts d may all
-sound s (Started d a taken failed) may all = all_changed (is_sound (bound_of s)) (may_start a taken failed s.pairs) _ (λ x m t. t) s.drafts d may all
+sound s (Made d i taken failed) may all = all_changed (is_sound (bound_of s)) (may_open Instance i taken failed s.pairs) _ (λ x m t. t) s.drafts d may all
+sound s (Started d a taken failed) may all = all_changed (is_sound (bound_of s)) (may_open App a taken failed s.pairs) _ (λ x m t. t) s.drafts d may all
 sound s (Publish d n from c) may all = published s d n from c may all
 sound s (Abandon d) may all = all_changed (is_sound (bound_of s)) (λ x. is_live x.life) _ (λ x m t. refl) s.drafts d may all
 sound s (Stopped d a) may all = all_changed (is_sound (bound_of s)) (may_stop a s.serial) _ (λ x m t. over s.serial (bound_of s) x.life _ _ (stops a s.serial x m).over t) s.drafts d may all
@@ -134,3 +138,7 @@ nothing_ended Abandoned b st cl live e = cc
 -- so of a live one nothing is ended
 pub live_whole : (bound : ℕ) (x : Drafted) → x.life ≡ Live → is_sound bound x ≡ true → (x.stopped ≡ 0) × (x.cleaned ≡ 0)
 live_whole bound x live e = nothing_ended x.life bound x.stopped x.cleaned live e
+
+-- so where one more may be opened
+pub open_whole : (bound : ℕ) (part : Part) (i taken : ℕ) (failed : Option Key) (ps : List Pair) (x : Drafted) → (is_sound bound x && may_open part i taken failed ps x) ≡ true → (x.stopped ≡ 0) × (x.cleaned ≡ 0)
+open_whole bound part i taken failed ps x m = live_whole bound x (opens part i taken failed ps x (second (is_sound bound x) _ m)).opened.live (first (is_sound bound x) _ m)

@@ -1,19 +1,20 @@
 -- A history without the entries of an abandoned draft.
-use Rattle.std.proofs.Common.{◌≡◌, ◌≢◌, ℕ, ◌+◌, ◌==◌, zero, suc, Bool, true, false, ◌&&◌, not, cond, nat_lt, List, [], ◌∷◌, ◌++◌, length, take, slice_get, Option, Some, None, refl, sym, ap, subst, ◌∙◌, eq-eqb}
+use Rattle.std.proofs.Common.{◌≡◌, ◌≢◌, ℕ, ◌+◌, ◌==◌, zero, suc, Bool, true, false, ◌&&◌, not, cond, nat_lt, List, [], ◌∷◌, ◌++◌, take, slice_get, Option, Some, None, refl, sym, ap, subst, ◌∙◌, eq-eqb}
 use Rattle.std.specs.Prelude.{◌||◌}
 use Rattle.std.proofs.lemmas.Bool.{eqb-true, eqb-false}
 use Rattle.cd_outside.specs.declared.key.Key.{Key}
 use Rattle.cd_outside.specs.declared.holder.Holder.{Holder}
 use Rattle.cd_outside.specs.declared.holder.Pair.{Pair}
 use Rattle.cd_outside.specs.Keys.{key_eq, keys_in, pairs_for}
+use Rattle.cd_legal.specs.declared.part.Part.{Part}
+use Rattle.cd_legal.specs.declared.part.Part.TheVariants.{Instance, App}
 use Rattle.cd_legal.specs.declared.limits.TheConstants.{MAX_DRAFTS}
-use Rattle.cd_legal.specs.declared.plan.Plan.{Plan}
 use Rattle.cd_legal.specs.declared.entry.Entry.{Entry}
 use Rattle.cd_legal.specs.declared.entry.Entry.TheVariants.{Draft, Made, Started, Publish, Abandon, Stopped, Retire, Cleaned}
 use Rattle.cd_legal.specs.declared.state.State.{State}
 use Rattle.cd_legal.specs.declared.state.Drafted.{Drafted}
-use Rattle.cd_legal.specs.State.{opening_state, holds, holds_if_there, has_number, change_at, conf_of, instance_of, app_of, keys_at, module_keys, app_keys, keys_for, new_draft, is_live, of_draft, all_stopped, draft_of, apps_stopped}
-use Rattle.cd_legal.specs.Legal.{keys_fit, is_open, may_make, may_start, may_stop, may_clean, is_complete, allowed, after, legal_from, legal, state_from, state_of}
+use Rattle.cd_legal.specs.State.{opening_state, holds, holds_if_there, has_number, change_at, conf_of, part_of, part_keys, opened_in, instances_ready, keys_for, new_draft, is_live, of_draft, all_stopped, draft_of, apps_stopped}
+use Rattle.cd_legal.specs.Legal.{keys_fit, is_open, may_open, may_stop, may_clean, is_complete, allowed, after, legal_from, legal, state_from, state_of}
 use Rattle.cd_legal.specs.Abandoned.{is_entry_of, is_draft, without_draft, is_abandoned_in, pairs_of_others, Leaves}
 use Rattle.cd_legal.proofs.Histories.{both, first, second}
 use Rattle.cd_legal.proofs.Places.{get_change_other, length_change, change_again, change_apart, change_push, holds_weaker}
@@ -63,12 +64,12 @@ left_out d s (Draft j tree plan) es legal gone is = absurd (let e : true ≡ fal
     always : (b : Bool) → (not b || true) ≡ true
     always true = refl
     always false = refl
-left_out d s (Made j i taken failed) es legal gone is = again d s (Made j i taken failed) j (own (j == d) is) (changed s j _ _ (λ x. refl) (taking j (instance_of j i) s.pairs (take taken (keys_for module_keys i (slice_get s.drafts j))) (eq-eqb j j refl)))
-left_out d s (Started j a taken failed) es legal gone is = again d s (Started j a taken failed) j (own (j == d) is) (changed s j _ _ (λ x. refl) (taking j (app_of j a) s.pairs (take taken (keys_for app_keys a (slice_get s.drafts j))) (eq-eqb j j refl)))
+left_out d s (Made j i taken failed) es legal gone is = again d s (Made j i taken failed) j (own (j == d) is) (changed s j _ _ (λ x. refl) (taking j (part_of Instance j i) s.pairs (take taken (keys_for Instance i (slice_get s.drafts j))) (eq-eqb j j refl)))
+left_out d s (Started j a taken failed) es legal gone is = again d s (Started j a taken failed) j (own (j == d) is) (changed s j _ _ (λ x. refl) (taking j (part_of App j a) s.pairs (take taken (keys_for App a (slice_get s.drafts j))) (eq-eqb j j refl)))
 left_out d s (Publish j n from c) es legal gone is = absurd (let e : false ≡ true = never_published s j n from c es legal (subst (λ z. is_abandoned_in (state_from (after s (Publish j n from c)) es) z ≡ true) (sym (eqb-true j d (own (j == d) is))) gone) in cc)
 left_out d s (Abandon j) es legal gone is = again d s (Abandon j) j (own (j == d) is) (changed s j _ s.pairs (λ x. refl) refl)
-left_out d s (Stopped j a) es legal gone is = again d s (Stopped j a) j (own (j == d) is) (changed s j _ _ (λ x. refl) (others-without_own j (app_of j a) refl s.pairs))
-left_out d s (Cleaned j i) es legal gone is = again d s (Cleaned j i) j (own (j == d) is) (changed s j _ _ (λ x. refl) (others-without_own j (instance_of j i) refl s.pairs))
+left_out d s (Stopped j a) es legal gone is = again d s (Stopped j a) j (own (j == d) is) (changed s j _ _ (λ x. refl) (others-without_own j (part_of App j a) refl s.pairs))
+left_out d s (Cleaned j i) es legal gone is = again d s (Cleaned j i) j (own (j == d) is) (changed s j _ _ (λ x. refl) (others-without_own j (part_of Instance j i) refl s.pairs))
 left_out d s e es legal gone is = cc
 
 -- ---- an entry that stays: what it leaves
@@ -77,22 +78,22 @@ left_out d s e es legal gone is = cc
 takes : (d : ℕ) (h : Holder) (ps : List Pair) (ks ls : List Key) → (h.draft == d) ≡ false → ks ≡ ls → pairs_of_others d ps ++ pairs_for h ks ≡ pairs_of_others d (ps ++ pairs_for h ls)
 takes d h ps ks ls other same = ap (λ (z : List Key). pairs_of_others d ps ++ pairs_for h z) same ∙ (ap (λ (z : List Pair). pairs_of_others d ps ++ z) (sym (others-other d h ls other)) ∙ sym (others-append d ps (pairs_for h ls)))
 
-same_keys : (keys : Plan → List (List Key)) (i taken : ℕ) (o p : Option Drafted) → o ≡ p → take taken (keys_for keys i o) ≡ take taken (keys_for keys i p)
-same_keys keys i taken o p e = ap (λ (z : Option Drafted). take taken (keys_for keys i z)) e
+same_keys : (part : Part) (i taken : ℕ) (o p : Option Drafted) → o ≡ p → take taken (keys_for part i o) ≡ take taken (keys_for part i p)
+same_keys part i taken o p e = ap (λ (z : Option Drafted). take taken (keys_for part i z)) e
 
 -- it leaves the same, but for the draft
 stayed : (d : ℕ) (s : State) (e : Entry) → (not (is_entry_of d e) || is_draft e) ≡ true → after (undone d s) e ≡ undone d (after s e)
 stayed d s (Draft j tree plan) is = with_parts s _ _ (pairs_of_others d s.pairs) _ (change_push undo (new_draft tree plan) refl s.drafts d) refl
 stayed d s (Made j i taken failed) is =
     with_parts s _ _ _ _ (change_apart _ undo s.drafts j d (apart j d is))
-    (takes d (instance_of j i) s.pairs _ _ (other (j == d) is) (same_keys module_keys i taken _ _ (get_change_other undo s.drafts d j (apart j d is))))
+    (takes d (part_of Instance j i) s.pairs _ _ (other (j == d) is) (same_keys Instance i taken _ _ (get_change_other undo s.drafts d j (apart j d is))))
 stayed d s (Started j a taken failed) is =
     with_parts s _ _ _ _ (change_apart _ undo s.drafts j d (apart j d is))
-    (takes d (app_of j a) s.pairs _ _ (other (j == d) is) (same_keys app_keys a taken _ _ (get_change_other undo s.drafts d j (apart j d is))))
+    (takes d (part_of App j a) s.pairs _ _ (other (j == d) is) (same_keys App a taken _ _ (get_change_other undo s.drafts d j (apart j d is))))
 stayed d s (Publish j n from c) is = with_parts (record s { serial = n; published = s.published ++ j ∷ [] }) _ _ (pairs_of_others d s.pairs) _ (change_apart _ undo s.drafts j d (apart j d is)) refl
 stayed d s (Abandon j) is = with_parts s _ _ (pairs_of_others d s.pairs) _ (change_apart _ undo s.drafts j d (apart j d is)) refl
-stayed d s (Stopped j a) is = with_parts s _ _ _ _ (change_apart _ undo s.drafts j d (apart j d is)) (sym (others-without d (app_of j a) s.pairs))
-stayed d s (Cleaned j i) is = with_parts s _ _ _ _ (change_apart _ undo s.drafts j d (apart j d is)) (sym (others-without d (instance_of j i) s.pairs))
+stayed d s (Stopped j a) is = with_parts s _ _ _ _ (change_apart _ undo s.drafts j d (apart j d is)) (sym (others-without d (part_of App j a) s.pairs))
+stayed d s (Cleaned j i) is = with_parts s _ _ _ _ (change_apart _ undo s.drafts j d (apart j d is)) (sym (others-without d (part_of Instance j i) s.pairs))
 stayed d s e is = refl
 
 -- ---- an entry that stays: that it is allowed
@@ -110,13 +111,11 @@ deeper false b b' f e = e
 shallow : (a a' b : Bool) → (a ≡ true → a' ≡ true) → (a && b) ≡ true → (a' && b) ≡ true
 shallow a a' b f e = both a' b (f (first a b e)) (second a b e)
 
--- so may an instance be made
-makes : (d i taken : ℕ) (failed : Option Key) (ps : List Pair) (x : Drafted) → may_make i taken failed ps x ≡ true → may_make i taken failed (pairs_of_others d ps) x ≡ true
-makes d i taken failed ps x = deeper (is_open x) _ _ (deeper (i == x.made) _ _ (deeper (nat_lt i (length x.plan.modules)) _ _ (fits d ps (keys_at (module_keys x.plan) i) taken failed)))
-
--- and an app be started
-starts : (d a taken : ℕ) (failed : Option Key) (ps : List Pair) (x : Drafted) → may_start a taken failed ps x ≡ true → may_start a taken failed (pairs_of_others d ps) x ≡ true
-starts d a taken failed ps x = deeper (is_open x) _ _ (deeper (x.made == length x.plan.modules) _ _ (deeper (a == x.started) _ _ (deeper (nat_lt a (length x.plan.apps)) _ _ (fits d ps (keys_at (app_keys x.plan) a) taken failed))))
+-- so may an instance be made, or an app be started
+opens : (d : ℕ) (part : Part) (i taken : ℕ) (failed : Option Key) (ps : List Pair) (x : Drafted) → may_open part i taken failed ps x ≡ true → may_open part i taken failed (pairs_of_others d ps) x ≡ true
+opens d part i taken failed ps x =
+    deeper (is_open x) _ _ (deeper (instances_ready part x) _ _ (deeper (i == opened_in part x) _ _
+    (holds_weaker (λ ks. keys_fit (keys_in ps) ks taken failed) _ (λ ks fit. fits d ps ks taken failed fit) (slice_get (part_keys part x.plan) i))))
 
 -- of a draft of which nothing came each app is stopped
 stops : (xs : List Drafted) (d j : ℕ) → holds_if_there all_stopped (slice_get xs j) ≡ true → holds_if_there all_stopped (slice_get (change_at undo d xs) j) ≡ true
@@ -137,8 +136,8 @@ module _ (d : ℕ) (s : State) where
   -- all that is allowed stays so
   still : (e : Entry) → (not (is_entry_of d e) || is_draft e) ≡ true → allowed s e ≡ true → allowed (undone d s) e ≡ true
   still (Draft j tree plan) is may = ap (λ (n : ℕ). (j == n) && nat_lt j MAX_DRAFTS) (length_change undo s.drafts d) ∙ may
-  still (Made j i taken failed) is may = holds_weaker (may_make i taken failed s.pairs) _ (makes d i taken failed s.pairs) (slice_get (change_at undo d s.drafts) j) (ap (holds (may_make i taken failed s.pairs)) (sym (elsewhere j (apart j d is))) ∙ may)
-  still (Started j a taken failed) is may = holds_weaker (may_start a taken failed s.pairs) _ (starts d a taken failed s.pairs) (slice_get (change_at undo d s.drafts) j) (ap (holds (may_start a taken failed s.pairs)) (sym (elsewhere j (apart j d is))) ∙ may)
+  still (Made j i taken failed) is may = holds_weaker (may_open Instance i taken failed s.pairs) _ (opens d Instance i taken failed s.pairs) (slice_get (change_at undo d s.drafts) j) (ap (holds (may_open Instance i taken failed s.pairs)) (sym (elsewhere j (apart j d is))) ∙ may)
+  still (Started j a taken failed) is may = holds_weaker (may_open App a taken failed s.pairs) _ (opens d App a taken failed s.pairs) (slice_get (change_at undo d s.drafts) j) (ap (holds (may_open App a taken failed s.pairs)) (sym (elsewhere j (apart j d is))) ∙ may)
   still (Publish j n from c) is may = ap (λ (o : Option Drafted). not s.halted && (holds is_complete o && ((from == s.serial) && (n == from + 1)))) (sym (elsewhere j (apart j d is))) ∙ may
   still (Abandon j) is may = ap (holds (λ (x : Drafted). is_live x.life)) (sym (elsewhere j (apart j d is))) ∙ may
   still (Stopped j a) is may = ap (holds (may_stop a s.serial)) (sym (elsewhere j (apart j d is))) ∙ may

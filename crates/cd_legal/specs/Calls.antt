@@ -5,11 +5,12 @@ use Rattle.cd_outside.specs.declared.holder.Holder.{Holder}
 use Rattle.cd_outside.specs.declared.holder.Pair.{Pair}
 use Rattle.cd_outside.specs.declared.fixtures.FixtureCall.{FixtureCall}
 use Rattle.cd_outside.specs.declared.fixtures.FixtureCall.TheVariants.{Opened, NotOpened, Closed, Shut}
+use Rattle.cd_legal.specs.declared.part.Part.TheVariants.{Instance, App}
 use Rattle.cd_legal.specs.declared.entry.Entry.{Entry}
 use Rattle.cd_legal.specs.declared.entry.Entry.TheVariants.{Draft, Made, Started, Publish, Abandon, Stopped, Begin, Finish, Retire, Cleaned, Halt}
 use Rattle.cd_legal.specs.declared.state.State.{State}
 use Rattle.cd_outside.specs.Keys.{keys_in, keys_of, without_holder, fresh_keys, key_count}
-use Rattle.cd_legal.specs.State.{opening_state, keys_for, module_keys, app_keys, instance_of, app_of, all_stopped, of_draft}
+use Rattle.cd_legal.specs.State.{opening_state, keys_for, part_of, all_stopped, of_draft}
 use Rattle.cd_legal.specs.Legal.{after, state_of}
 
 -- how many pairs have the key after the history
@@ -32,15 +33,15 @@ failing (Some key) = NotOpened key ∷ []
 -- the openings and closings of one entry
 abbrev pub key_calls : State → Entry → List FixtureCall
 key_calls s (Draft d tree plan) = []
-key_calls s (Made d i taken failed) = takings s.pairs (take taken (keys_for module_keys i (slice_get s.drafts d))) ++ failing failed
-key_calls s (Started d a taken failed) = takings s.pairs (take taken (keys_for app_keys a (slice_get s.drafts d))) ++ failing failed
+key_calls s (Made d i taken failed) = takings s.pairs (take taken (keys_for Instance i (slice_get s.drafts d))) ++ failing failed
+key_calls s (Started d a taken failed) = takings s.pairs (take taken (keys_for App a (slice_get s.drafts d))) ++ failing failed
 key_calls s (Publish d n from change) = []
 key_calls s (Abandon d) = []
-key_calls s (Stopped d a) = givings (app_of d a) s.pairs
+key_calls s (Stopped d a) = givings (part_of App d a) s.pairs
 key_calls s (Begin k n) = []
 key_calls s (Finish k) = []
 key_calls s (Retire n) = []
-key_calls s (Cleaned d i) = givings (instance_of d i) s.pairs
+key_calls s (Cleaned d i) = givings (part_of Instance d i) s.pairs
 key_calls s (Halt n) = []
 
 -- the last, where there is one

@@ -11,9 +11,11 @@ use Rattle.cd_legal.specs.declared.entry.Signed.{Signed}
 use Rattle.cd_legal.specs.declared.state.State.{State}
 use Rattle.cd_legal.specs.declared.state.Drafted.{Drafted}
 use Rattle.cd_legal.specs.declared.state.Life.TheVariants.{Published, Abandoned}
+use Rattle.cd_legal.specs.declared.part.Part.{Part}
+use Rattle.cd_legal.specs.declared.part.Part.TheVariants.{Instance, App}
 use Rattle.cd_outside.specs.Keys.{key_eq, has_key, keys_in, without_holder, pairs_for}
 use Rattle.cd_legal.specs.Entry.{entries}
-use Rattle.cd_legal.specs.State.{opening_state, holds, has_number, change_at, keys_at, module_keys, app_keys, instance_of, app_of, new_draft, is_live, may_stop_apps, may_clean_instances, all_stopped, keys_for, apps_stopped, has_ticket, is_ticketed, without_ticket}
+use Rattle.cd_legal.specs.State.{opening_state, holds, has_number, change_at, part_keys, part_of, new_draft, opened_in, instances_ready, one_opened, one_ended, is_live, may_stop_apps, may_clean_instances, all_stopped, keys_for, apps_stopped, has_ticket, is_ticketed, without_ticket}
 
 -- ---- which entries are allowed
 
@@ -26,17 +28,12 @@ keys_fit had keys taken (Some key) = holds (key_eq key) (slice_get keys taken) &
 abbrev pub is_open : Drafted → Bool
 is_open x = is_live x.life && is_none x.failed
 
--- instance i is the next one of a draft that is live and without a failed key, and its keys fit
-abbrev pub may_make : ℕ → ℕ → Option Key → List Pair → Drafted → Bool
-may_make i taken failed pairs x =
-    is_open x && ((i == x.made) && (nat_lt i (length x.plan.modules)
-    && keys_fit (keys_in pairs) (keys_at (module_keys x.plan) i) taken failed))
-
--- all instances are made, app a is the next one, and its keys fit
-abbrev pub may_start : ℕ → ℕ → Option Key → List Pair → Drafted → Bool
-may_start a taken failed pairs x =
-    is_open x && ((x.made == length x.plan.modules) && ((a == x.started) && (nat_lt a (length x.plan.apps)
-    && keys_fit (keys_in pairs) (keys_at (app_keys x.plan) a) taken failed)))
+-- the draft is live and without a failed key, place i is the next of this kind, after the instances that it waits for, and
+-- the plan has it, with keys that fit
+abbrev pub may_open : Part → ℕ → ℕ → Option Key → List Pair → Drafted → Bool
+may_open part i taken failed pairs x =
+    is_open x && (instances_ready part x && ((i == opened_in part x)
+    && holds (λ keys. keys_fit (keys_in pairs) keys taken failed) (slice_get (part_keys part x.plan) i)))
 
 -- live, without a failed key, all made and all started
 abbrev pub is_complete : Drafted → Bool
@@ -58,8 +55,8 @@ may_retire s n =
 -- the table, first half: which entries may follow
 abbrev pub allowed : State → Entry → Bool
 allowed s (Draft d tree plan) = (d == length s.drafts) && nat_lt d MAX_DRAFTS
-allowed s (Made d i taken failed) = holds (may_make i taken failed s.pairs) (slice_get s.drafts d)
-allowed s (Started d a taken failed) = holds (may_start a taken failed s.pairs) (slice_get s.drafts d)
+allowed s (Made d i taken failed) = holds (may_open Instance i taken failed s.pairs) (slice_get s.drafts d)
+allowed s (Started d a taken failed) = holds (may_open App a taken failed s.pairs) (slice_get s.drafts d)
 allowed s (Publish d n from change) =
     not s.halted && (holds is_complete (slice_get s.drafts d) && ((from == s.serial) && (n == from + 1)))
 allowed s (Abandon d) = holds (λ x. is_live x.life) (slice_get s.drafts d)
@@ -72,34 +69,36 @@ allowed s (Halt n) = not s.halted && (n == s.serial + 1)
 
 -- ---- what an entry leaves
 
+-- place i is opened: it counts, and has its first keys
+abbrev pub part_opened : Part → ℕ → ℕ → ℕ → Option Key → State → State
+part_opened part d i taken failed s = record s {
+  drafts = change_at (one_opened part failed) d s.drafts;
+  pairs = s.pairs ++ pairs_for (part_of part d i) (take taken (keys_for part i (slice_get s.drafts d)));
+}
+
+-- it is ended: it counts, and gives its keys back
+abbrev pub part_ended : Part → ℕ → ℕ → State → State
+part_ended part d i s = record s {
+  drafts = change_at (one_ended part) d s.drafts;
+  pairs = without_holder (part_of part d i) s.pairs;
+}
+
 -- the table, second half: what an entry changes
 abbrev pub after : State → Entry → State
 after s (Draft d tree plan) = record s { drafts = s.drafts ++ new_draft tree plan ∷ [] }
-after s (Made d i taken failed) = record s {
-  drafts = change_at (λ x. record x { made = x.made + 1; failed = failed }) d s.drafts;
-  pairs = s.pairs ++ pairs_for (instance_of d i) (take taken (keys_for module_keys i (slice_get s.drafts d)));
-}
-after s (Started d a taken failed) = record s {
-  drafts = change_at (λ x. record x { started = x.started + 1; failed = failed }) d s.drafts;
-  pairs = s.pairs ++ pairs_for (app_of d a) (take taken (keys_for app_keys a (slice_get s.drafts d)));
-}
+after s (Made d i taken failed) = part_opened Instance d i taken failed s
+after s (Started d a taken failed) = part_opened App d a taken failed s
 after s (Publish d n from change) = record s {
   serial = n;
   published = s.published ++ d ∷ [];
   drafts = change_at (λ x. record x { life = Published n }) d s.drafts;
 }
 after s (Abandon d) = record s { drafts = change_at (λ x. record x { life = Abandoned }) d s.drafts }
-after s (Stopped d a) = record s {
-  drafts = change_at (λ x. record x { stopped = x.stopped + 1 }) d s.drafts;
-  pairs = without_holder (app_of d a) s.pairs;
-}
+after s (Stopped d a) = part_ended App d a s
 after s (Begin k n) = record s { tickets = s.tickets ++ record { caller = k; serial = n } ∷ [] }
 after s (Finish k) = record s { tickets = without_ticket k s.tickets }
 after s (Retire n) = record s { retired = s.retired ++ n ∷ [] }
-after s (Cleaned d i) = record s {
-  drafts = change_at (λ x. record x { cleaned = x.cleaned + 1 }) d s.drafts;
-  pairs = without_holder (instance_of d i) s.pairs;
-}
+after s (Cleaned d i) = part_ended Instance d i s
 after s (Halt n) = record s { serial = n; halted = true }
 
 -- ---- histories

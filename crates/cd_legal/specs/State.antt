@@ -1,9 +1,11 @@
 -- What a history leaves: the parts of a state, what is asked of them, and how one of them changes.
-use Rattle.std.specs.Prelude.{ℕ, zero, suc, ◌==◌, Bool, true, false, ◌&&◌, ◌||◌, cond, nat_lt, List, [], ◌∷◌, slice_get, Option, Some, None, map}
+use Rattle.std.specs.Prelude.{ℕ, zero, suc, ◌+◌, ◌==◌, Bool, true, false, ◌&&◌, ◌||◌, cond, nat_lt, List, [], ◌∷◌, length, slice_get, Option, Some, None, map}
 use Rattle.cd_outside.specs.declared.key.Key.{Key}
 use Rattle.cd_outside.specs.declared.holder.Holder.{Holder}
 use Rattle.cd_tree.specs.declared.tree.Tree.{Tree}
 use Rattle.cd_legal.specs.declared.plan.Plan.{Plan}
+use Rattle.cd_legal.specs.declared.part.Part.{Part}
+use Rattle.cd_legal.specs.declared.part.Part.TheVariants.{Instance, App}
 use Rattle.cd_legal.specs.declared.state.State.{State}
 use Rattle.cd_legal.specs.declared.state.Drafted.{Drafted}
 use Rattle.cd_legal.specs.declared.state.Life.{Life}
@@ -45,27 +47,50 @@ keys_at [] i = []
 keys_at (keys ∷ rest) zero = keys
 keys_at (keys ∷ rest) (suc i) = keys_at rest i
 
--- the keys of each module of the plan
-abbrev pub module_keys : Plan → List (List Key)
-module_keys plan = map (λ m. m.keys) plan.modules
+-- the keys of each module of the plan, or of each app
+abbrev pub part_keys : Part → Plan → List (List Key)
+part_keys Instance plan = map (λ m. m.keys) plan.modules
+part_keys App plan = map (λ a. a.keys) plan.apps
 
--- the keys of each app of the plan
-abbrev pub app_keys : Plan → List (List Key)
-app_keys plan = map (λ a. a.keys) plan.apps
+-- whether it is an app
+abbrev pub is_app : Part → Bool
+is_app Instance = false
+is_app App = true
 
--- instance i of draft d
-abbrev pub instance_of : ℕ → ℕ → Holder
-instance_of d i = record { draft = d; app = false; place = i }
-
--- app a of draft d
-abbrev pub app_of : ℕ → ℕ → Holder
-app_of d a = record { draft = d; app = true; place = a }
+-- instance i of draft d, or app i
+abbrev pub part_of : Part → ℕ → ℕ → Holder
+part_of part d i = record { draft = d; app = is_app part; place = i }
 
 -- ---- drafts
 
 -- a draft that is live, of which nothing is made
 abbrev pub new_draft : Tree → Plan → Drafted
 new_draft tree plan = record { tree = tree; plan = plan; made = 0; started = 0; failed = None; life = Live; stopped = 0; cleaned = 0 }
+
+-- how many are opened: instances that are made, or apps that are started
+abbrev pub opened_in : Part → Drafted → ℕ
+opened_in Instance x = x.made
+opened_in App x = x.started
+
+-- how many are ended: instances that are cleaned, or apps that are stopped
+abbrev pub ended_in : Part → Drafted → ℕ
+ended_in Instance x = x.cleaned
+ended_in App x = x.stopped
+
+-- one more is opened, with the key that could not be, where there is one
+abbrev pub one_opened : Part → Option Key → Drafted → Drafted
+one_opened Instance failed = λ x. record x { made = x.made + 1; failed = failed }
+one_opened App failed = λ x. record x { started = x.started + 1; failed = failed }
+
+-- one more is ended
+abbrev pub one_ended : Part → Drafted → Drafted
+one_ended Instance = λ x. record x { cleaned = x.cleaned + 1 }
+one_ended App = λ x. record x { stopped = x.stopped + 1 }
+
+-- the instances that it waits for are made: an app waits for all of them
+abbrev pub instances_ready : Part → Drafted → Bool
+instances_ready Instance x = true
+instances_ready App x = x.made == length x.plan.modules
 
 -- neither published nor abandoned
 abbrev pub is_live : Life → Bool
@@ -94,9 +119,9 @@ abbrev pub all_cleaned : Drafted → Bool
 all_cleaned x = x.cleaned == x.made
 
 -- the keys that an entry for place i may take of a draft
-abbrev pub keys_for : (Plan → List (List Key)) → ℕ → Option Drafted → List Key
-keys_for keys i None = []
-keys_for keys i (Some x) = keys_at (keys x.plan) i
+abbrev pub keys_for : Part → ℕ → Option Drafted → List Key
+keys_for part i None = []
+keys_for part i (Some x) = keys_at (part_keys part x.plan) i
 
 -- ---- serials
 

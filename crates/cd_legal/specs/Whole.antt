@@ -3,26 +3,27 @@ use Rattle.std.specs.Prelude.{◌≡◌, ℕ, zero, suc, ◌≤◌, Bool, true, 
 use Rattle.std.specs.List.{list_all}
 use Rattle.cd_outside.specs.declared.key.Key.{Key}
 use Rattle.cd_outside.specs.declared.holder.Holder.{Holder}
+use Rattle.cd_legal.specs.declared.part.Part.TheVariants.{Instance, App}
 use Rattle.cd_legal.specs.declared.entry.Entry.{Entry}
 use Rattle.cd_legal.specs.declared.entry.Entry.TheVariants.{Made, Started, Stopped, Cleaned}
 use Rattle.cd_legal.specs.declared.state.State.{State}
 use Rattle.cd_legal.specs.declared.state.Drafted.{Drafted}
 use Rattle.cd_outside.specs.Keys.{holder_eq}
-use Rattle.cd_legal.specs.State.{holds, has_number, is_live, may_clean_instances, all_stopped, all_cleaned, apps_stopped, instance_of, app_of}
+use Rattle.cd_legal.specs.State.{holds, has_number, is_live, may_clean_instances, all_stopped, all_cleaned, apps_stopped, part_of}
 use Rattle.cd_legal.specs.Calls.{count}
 
 -- how often the history makes the instance, or starts the app, that the holder names
 abbrev pub begun : Holder → List Entry → ℕ
 begun h [] = 0
-begun h (Made d i taken failed ∷ es) = cond (holder_eq h (instance_of d i)) (suc (begun h es)) (begun h es)
-begun h (Started d a taken failed ∷ es) = cond (holder_eq h (app_of d a)) (suc (begun h es)) (begun h es)
+begun h (Made d i taken failed ∷ es) = cond (holder_eq h (part_of Instance d i)) (suc (begun h es)) (begun h es)
+begun h (Started d a taken failed ∷ es) = cond (holder_eq h (part_of App d a)) (suc (begun h es)) (begun h es)
 begun h (e ∷ es) = begun h es
 
 -- how often it cleans, or stops, it
 abbrev pub ended : Holder → List Entry → ℕ
 ended h [] = 0
-ended h (Stopped d a ∷ es) = cond (holder_eq h (app_of d a)) (suc (ended h es)) (ended h es)
-ended h (Cleaned d i ∷ es) = cond (holder_eq h (instance_of d i)) (suc (ended h es)) (ended h es)
+ended h (Stopped d a ∷ es) = cond (holder_eq h (part_of App d a)) (suc (ended h es)) (ended h es)
+ended h (Cleaned d i ∷ es) = cond (holder_eq h (part_of Instance d i)) (suc (ended h es)) (ended h es)
 ended h (e ∷ es) = ended h es
 
 -- what was made is cleaned and what was started is stopped, each once, and no key has a pair

@@ -1,9 +1,11 @@
-ghost use Rattle.std.specs.Prelude.{◌≡◌};
-ghost use Rattle.cd_legal.specs.State.{may_stop_apps, may_clean_instances, all_stopped, has_number};
-ghost use Rattle.cd_legal.specs.Legal.{is_open, may_make, may_start, is_complete, may_stop, may_clean};
+ghost use Rattle.std.specs.Prelude.{◌≡◌, slice_get};
+ghost use Rattle.cd_outside.specs.Keys.{keys_in};
+ghost use Rattle.cd_legal.specs.State.{holds, part_keys, may_stop_apps, may_clean_instances, all_stopped, has_number};
+ghost use Rattle.cd_legal.specs.Legal.{keys_fit, is_open, may_open, is_complete, may_stop, may_clean};
 
 use crate::keys::keys_fit;
-use crate::{Drafted, Life};
+use crate::part::Part;
+use crate::{Drafted, Life, Plan};
 use cd_outside::{Key, Pair};
 
 /// Whether the draft is live and has no failed key.
@@ -17,43 +19,36 @@ fn is_open(drafted: &Drafted) -> bool
     }
 }
 
-/// Whether the instance is the next one, and its keys fit.
-pub(crate) fn may_make(
+/// Whether it is the next of its kind, the instances that it waits for are made, and its keys fit.
+pub(crate) fn may_open(
+    part: Part,
     drafted: &Drafted,
     place: u32,
     taken: u32,
     failed: &Option<Key>,
     pairs: &[Pair],
 ) -> bool
-    ensures { result ≡ may_make place taken failed.now pairs.now drafted.now }
+    ensures { result ≡ may_open part place taken failed.now pairs.now drafted.now }
 {
-    if !is_open(drafted) || u64::from(place) != drafted.made {
-        return false;
-    }
-    match drafted.plan.modules.get(place as usize) {
-        Some(module) => keys_fit(pairs, module.keys.as_slice(), taken, failed),
-        None => false,
-    }
+    is_open(drafted)
+        && part.instances_ready(drafted)
+        && u64::from(place) == part.opened_in(drafted)
+        && keys_fit_at(part, &drafted.plan, place, taken, failed, pairs)
 }
 
-/// Whether the app is the next one, after all instances, and its keys fit.
-pub(crate) fn may_start(
-    drafted: &Drafted,
+// Whether the plan has it, with keys that fit.
+fn keys_fit_at(
+    part: Part,
+    plan: &Plan,
     place: u32,
     taken: u32,
     failed: &Option<Key>,
     pairs: &[Pair],
 ) -> bool
-    ensures { result ≡ may_start place taken failed.now pairs.now drafted.now }
+    ensures { result ≡ holds (λ keys. keys_fit (keys_in pairs.now) keys taken failed.now) (slice_get (part_keys part plan.now) place) }
 {
-    if !is_open(drafted) || drafted.made != drafted.plan.modules.len() as u64 {
-        return false;
-    }
-    if u64::from(place) != drafted.started {
-        return false;
-    }
-    match drafted.plan.apps.get(place as usize) {
-        Some(app) => keys_fit(pairs, app.keys.as_slice(), taken, failed),
+    match part.keys_at(plan, place) {
+        Some(keys) => keys_fit(pairs, keys, taken, failed),
         None => false,
     }
 }

@@ -1,3 +1,6 @@
+ghost use Rattle.std.specs.Prelude.{◌≡◌};
+ghost use Rattle.cd_legal.specs.Entry.{signed};
+
 use crate::Plan;
 use cd_outside::Key;
 use cd_tree::Tree;
@@ -45,4 +48,13 @@ pub enum Entry {
 pub struct Signed {
     pub by: u32,
     pub entry: Entry,
+}
+
+impl Signed {
+    /// The entry, signed by the pass with this number.
+    pub fn new(by: u32, entry: Entry) -> Signed
+        ensures { result ≡ signed by entry }
+    {
+        Signed { by, entry }
+    }
 }

@@ -1,5 +1,5 @@
 ghost use Rattle.std.specs.Prelude.{◌≡◌, ◌++◌, not, slice_get, take, IfOk, OnOk};
-ghost use Rattle.cd_outside.specs.Keys.{key_eq, holder_eq, has_key, keys_in, without_holder, pairs_for};
+ghost use Rattle.cd_outside.specs.Keys.{key_eq, has_key, keys_in, without_holder, pairs_for};
 ghost use Rattle.cd_legal.specs.State.{holds};
 ghost use Rattle.cd_legal.specs.Legal.{keys_fit};
 
@@ -8,30 +8,11 @@ use cd_text::{List, NoMemory};
 use std::alloc::Global;
 use std::mem;
 
-fn same_key(one: &Key, two: &Key) -> bool
-    ensures { result ≡ key_eq one.now two.now }
-{
-    match (one, two) {
-        (Key::Listen(one), Key::Listen(two)) => {
-            one.host.equals(two.host.as_str()) && one.port == two.port
-        }
-        (Key::Listen(_), Key::Writer(_)) => false,
-        (Key::Writer(_), Key::Listen(_)) => false,
-        (Key::Writer(one), Key::Writer(two)) => one.equals(two.as_str()),
-    }
-}
-
-fn same_holder(one: &Holder, two: &Holder) -> bool
-    ensures { result ≡ holder_eq one.now two.now }
-{
-    one.draft == two.draft && one.app == two.app && one.place == two.place
-}
-
 fn is_among(key: &Key, keys: &[Key]) -> bool
     ensures { result ≡ has_key key.now keys.now }
 {
     for other in keys {
-        if same_key(key, other) {
+        if key.same(other) {
             return true;
         }
     }
@@ -42,14 +23,15 @@ fn is_held(key: &Key, pairs: &[Pair]) -> bool
     ensures { result ≡ has_key key.now (keys_in pairs.now) }
 {
     for pair in pairs {
-        if same_key(key, &pair.key) {
+        if key.same(&pair.key) {
             return true;
         }
     }
     false
 }
 
-fn front(keys: &[Key], taken: u32) -> &[Key]
+// The first `taken` keys, or all where there are fewer.
+fn prefix(keys: &[Key], taken: u32) -> &[Key]
     ensures { result.now ≡ take taken keys.now }
 {
     let taken = taken as usize;
@@ -64,7 +46,7 @@ fn is_key_at(key: &Key, keys: &[Key], taken: u32) -> bool
     ensures { result ≡ holds (key_eq key.now) (slice_get keys.now taken) }
 {
     match keys.get(taken as usize) {
-        Some(next) => same_key(key, next),
+        Some(next) => key.same(next),
         None => false,
     }
 }
@@ -81,7 +63,7 @@ pub(crate) fn keys_fit(pairs: &[Pair], keys: &[Key], taken: u32, failed: &Option
 {
     match failed {
         None => taken as usize == keys.len(),
-        Some(key) => is_key_at(key, keys, taken) && is_free(key, pairs, front(keys, taken)),
+        Some(key) => is_key_at(key, keys, taken) && is_free(key, pairs, prefix(keys, taken)),
     }
 }
 
@@ -95,7 +77,7 @@ pub(crate) fn take_keys(
 ) -> Result<(), NoMemory>
     ensures { OnOk result (pairs.new ≡ pairs.old ++ pairs_for holder (take taken keys.now)) }
 {
-    for key in front(keys, taken) {
+    for key in prefix(keys, taken) {
         let key = key.copy(alloc)?;
         pairs.push(Pair { key, holder })?;
     }
@@ -107,7 +89,7 @@ pub(crate) fn give_keys(alloc: Global, pairs: &mut List<Pair>, holder: Holder)
     ensures { pairs.new ≡ without_holder holder pairs.old }
 {
     let mut kept = mem::replace(pairs, List::new(alloc)).into_vec();
-    kept.retain(|pair| !same_holder(&holder, &pair.holder));
+    kept.retain(|pair| !holder.same(&pair.holder));
     *pairs = List::from_vec(kept);
 }
 

@@ -43,9 +43,9 @@ pub fn legal_is_fresh()
 /// Where a legal list leaves a draft abandoned, each entry of this draft, wherever it stands, leaves all else as it was: the
 /// serial, the trees, the tickets and the pairs of all other holders.
 pub fn abandoned_drafts_leave_all_else()
-    ensures { (draft : ℕ) (front : List Entry) (entry : Entry) (back : List Entry) →
-        IsTrue (legal (front ++ entry ∷ back)) → IsTrue (is_abandoned_in (state_of (front ++ entry ∷ back)) draft) →
-        IsTrue (is_entry_of draft entry) → Leaves draft (state_of front) (state_of (front ++ entry ∷ [])) }
+    ensures { (draft : ℕ) (prefix : List Entry) (entry : Entry) (rest : List Entry) →
+        IsTrue (legal (prefix ++ entry ∷ rest)) → IsTrue (is_abandoned_in (state_of (prefix ++ entry ∷ rest)) draft) →
+        IsTrue (is_entry_of draft entry) → Leaves draft (state_of prefix) (state_of (prefix ++ entry ∷ [])) }
 {}
 
 /// Without the entries of a draft that it leaves abandoned a legal list is legal too, and leaves all else the same: a load
@@ -65,8 +65,8 @@ pub fn what_is_over_is_whole()
 
 /// Each prefix of a legal list is legal, and each prefix of a history is a history.
 pub fn prefixes_are_histories()
-    ensures legal { (front log : List Signed) → IsPrefix front log → IsLegal log → IsLegal front }
-    ensures signed { (front log : List Signed) → IsPrefix front log → IsHistory log → IsHistory front }
+    ensures legal { (prefix log : List Signed) → IsPrefix prefix log → IsLegal log → IsLegal prefix }
+    ensures signed { (prefix log : List Signed) → IsPrefix prefix log → IsHistory log → IsHistory prefix }
 {}
 
 /// In a legal list a caller has one open ticket at most, and its serial is not later than the current one.
@@ -115,7 +115,7 @@ pub fn publishing_and_halting_make_the_serial()
 
 /// While a legal history grows, its serial never falls.
 pub fn the_serial_never_falls()
-    ensures { (front log : List Signed) → IsPrefix front log → IsLegal log → (state_at front).serial ≤ (state_at log).serial }
+    ensures { (prefix log : List Signed) → IsPrefix prefix log → IsLegal log → (state_at prefix).serial ≤ (state_at log).serial }
 {}
 
 /// A legal list's published drafts have their serials, and a draft that has a serial is the one that was published with it.
@@ -143,8 +143,8 @@ pub fn the_current_configuration_is_the_last_one()
 
 /// While a legal history grows, each serial that is there keeps its configuration.
 pub fn configurations_stay()
-    ensures { (front log : List Signed) (n : ℕ) → IsPrefix front log → IsLegal log → n ≤ (state_at front).serial →
-        conf_of (state_at log) n ≡ conf_of (state_at front) n }
+    ensures { (prefix log : List Signed) (n : ℕ) → IsPrefix prefix log → IsLegal log → n ≤ (state_at prefix).serial →
+        conf_of (state_at log) n ≡ conf_of (state_at prefix) n }
 {}
 
 /// The fixtures of a legal list are shut once where the host has halted and the apps of the last published serial are

@@ -6,6 +6,7 @@
 //!
 //! `replay` (replaying.rt) gives the state that a list leaves exactly where it is legal, and else the first place that is not
 //! allowed. Its steps stand in drafting.rt, making.rt and tickets.rt, by kinds of entries, and what they ask in conditions.rt.
+//! Instances and apps go the same way, as the two kinds of `Part` (part.rt).
 //!
 //! A history is a legal list whose entries are signed by the passes that may sign them (`IsHistory` of specs/Signing.antt).
 //! `state_at` is what it leaves, and `IsPrefix` says that one begins another. The laws (laws.rt) say of every legal list what the
@@ -26,6 +27,7 @@ mod keys;
 mod laws;
 mod limits;
 mod making;
+mod part;
 mod plan;
 mod replaying;
 mod stands;
@@ -47,6 +49,7 @@ pub use laws::{
 pub use limits::{
     LAST_SERIAL, MAX_BEGINS, MAX_DRAFTS, MAX_PASSES, MAX_SEATS, MAX_UNRETIRED, limits_are_these,
 };
+pub use part::Part;
 pub use plan::{Plan, PlanApp, PlanModule};
 pub use replaying::replay;
 pub use stands::Stands;

@@ -6,7 +6,8 @@ ghost use Rattle.cd_legal.specs.Legal.{replayed};
 ghost use Rattle.cd_legal.specs.Steps.{Steps};
 
 use crate::drafting::{abandon, draft, halt, publish};
-use crate::making::{clean, make, start, stop};
+use crate::making::{end_part, open_part};
+use crate::part::Part;
 use crate::tickets::{begin, finish, retire};
 use crate::{Entry, ReplayFault, State};
 use cd_text::{List, NoMemory};
@@ -47,20 +48,20 @@ fn step(alloc: Global, state: &mut State, entry: &Entry) -> Result<bool, NoMemor
     match entry {
         Entry::Draft(number, tree, plan) => draft(alloc, state, *number, tree, plan),
         Entry::Made(draft, place, taken, failed) => {
-            make(alloc, state, *draft, *place, *taken, failed)
+            open_part(alloc, state, Part::Instance, *draft, *place, *taken, failed)
         }
         Entry::Started(draft, place, taken, failed) => {
-            start(alloc, state, *draft, *place, *taken, failed)
+            open_part(alloc, state, Part::App, *draft, *place, *taken, failed)
         }
         Entry::Publish(draft, serial, from, change) => {
             publish(alloc, state, *draft, *serial, *from, change)
         }
         Entry::Abandon(draft) => abandon(alloc, state, *draft),
-        Entry::Stopped(draft, place) => stop(alloc, state, *draft, *place),
+        Entry::Stopped(draft, place) => end_part(alloc, state, Part::App, *draft, *place),
         Entry::Begin(caller, serial) => begin(state, *caller, *serial),
         Entry::Finish(caller) => finish(alloc, state, *caller),
         Entry::Retire(serial) => retire(state, *serial),
-        Entry::Cleaned(draft, place) => clean(alloc, state, *draft, *place),
+        Entry::Cleaned(draft, place) => end_part(alloc, state, Part::Instance, *draft, *place),
         Entry::Halt(serial) => halt(state, *serial),
     }
 }

@@ -2,33 +2,31 @@
 //! addresses that it opens; each on a line.
 use crate::servers::refused;
 use cd_addr::write;
-use cd_module::{LoadFault, Settings};
+use cd_module::LoadFault;
 use cd_outside::Key;
 use cd_rows::{Outcome, RowFault, bytes_at, only, tree_of};
-use cd_standard::{AppPlan, Configuration, Planned, apps_of, modules_of};
+use cd_standard::{AppPlan, Plan, Planned, load};
 use cd_text::{NoMemory, Octets};
-use cd_tree::{Path, Tree};
+use cd_tree::Tree;
 use std::alloc::Global;
 
 pub fn configuration_outcome(alloc: Global, row: &Tree) -> Result<Outcome, RowFault> {
     only(alloc, row, "configuration found refused")?;
     let text = bytes_at(alloc, row, "configuration")?;
     let tree = tree_of(alloc, text.as_slice())?;
-    match Configuration::read(alloc, &tree, &Path::root(alloc)) {
-        Ok(configuration) => Ok(planned(alloc, &configuration)?),
+    match load(alloc, &tree) {
+        Ok(loaded) => Ok(planned(alloc, &loaded.plan)?),
         Err(LoadFault::Refused(refusal)) => refused(alloc, &refusal),
         Err(LoadFault::NoMemory) => Err(RowFault::NoMemory),
     }
 }
 
-fn planned(alloc: Global, configuration: &Configuration) -> Result<Outcome, NoMemory> {
+fn planned(alloc: Global, plan: &Plan) -> Result<Outcome, NoMemory> {
     let mut out = Octets::new(alloc);
-    let modules = modules_of(alloc, configuration)?;
-    for module in modules.as_slice() {
+    for module in plan.modules.as_slice() {
         put_module(alloc, module, &mut out)?;
     }
-    let apps = apps_of(alloc, configuration)?;
-    for app in apps.as_slice() {
+    for app in plan.apps.as_slice() {
         put_app(alloc, app, &mut out)?;
     }
     Ok(Outcome {

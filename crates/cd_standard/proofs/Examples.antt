@@ -4,11 +4,11 @@ use Rattle.cd_tree.specs.declared.tree.Tree.{Null, Items, the_lemmas}
 use Rattle.cd_outside.specs.declared.key.Key.TheVariants as key
 use Rattle.cd_module.specs.Faults.{refused}
 use Rattle.cd_module.specs.declared.fault.LoadKind.TheVariants.{WrongKind}
-use Rattle.cd_standard.specs.Loading.{loaded, nothing_said}
+use Rattle.cd_standard.specs.Loading.{loaded, nothing_said, planned}
 use Rattle.cd_standard.specs.Plans.{plan_of, root}
 
 -- null says nothing, so the admin API alone is started
-null_is_fine : loaded Null ≡ Ok (plan_of nothing_said)
+null_is_fine : loaded Null ≡ Ok (planned nothing_said)
 unfolding loaded
 null_is_fine = search (rules, the_lemmas)
 

@@ -1,4 +1,5 @@
 pub mod Adding
+pub mod Counts
+pub mod Errors
 pub mod Levels
-pub mod Keys
 pub mod Examples

@@ -2,4 +2,3 @@ pub mod Configuration
 pub mod Plans
 pub mod Loading
 pub mod Walking
-pub mod Listening

@@ -1,4 +1,4 @@
--- What a tree comes to as a configuration: a plan, or the first fault.
+-- What a tree comes to as a configuration: the configuration with its plan, or the first fault.
 use Rattle.std.specs.Prelude.{◌==◌, ◌&&◌, Bool, if◌then◌else◌, List, [], ◌∷◌, ◌++◌, length, Option, Some, None, Result, Ok, Err}
 use Rattle.std.specs.List.{flat_map, list_any}
 use Rattle.std.specs.Str.{bytes_eq}
@@ -19,11 +19,12 @@ use Rattle.cd_module.specs.declared.limits.Limit.TheVariants.{Modules, Addresses
 use Rattle.cd_routes.specs.Catching.{error_subroutes}
 use Rattle.cd_routes.specs.declared.server.Server.{Server}
 use Rattle.cd_standard.specs.Configuration.{configuration, admin_or_usual}
-use Rattle.cd_standard.specs.Plans.{modules_of, addresses_of, plan_of, Listened, root}
+use Rattle.cd_standard.specs.Plans.{modules_of, addresses_of, plan_of, root}
 use Rattle.cd_standard.specs.declared.app.App.{App}
 use Rattle.cd_standard.specs.declared.app.App.TheVariants.{Echo, Http}
 use Rattle.cd_standard.specs.declared.configuration.Configuration.{Configuration}
-use Rattle.cd_standard.specs.declared.plan.Plan.{Plan}
+use Rattle.cd_standard.specs.declared.listening.Listened.{Listened}
+use Rattle.cd_standard.specs.declared.loading.Loaded.{Loaded}
 
 -- ---- ids
 
@@ -62,33 +63,47 @@ limits c =
 abbrev pub is_address : Address → Address → Bool
 is_address one other = bytes_eq one.host other.host && (one.port == other.port)
 
+abbrev pub is_among : Address → List Listened → Bool
+is_among address listened = list_any (λ one. is_address address one.address) listened
+
 -- the first address that is among those before it
-abbrev pub all_distinct : List Address → List Listened → Result (Unit {0}) LoadFault
+abbrev pub all_distinct : List Listened → List Listened → Result (Unit {0}) LoadFault
 all_distinct before [] = Ok tt
 all_distinct before (one ∷ others) =
-    if list_any (is_address one.0) before then Err (repeated_address (written one.0) one.1) else all_distinct (before ++ one.0 ∷ []) others
+    if is_among one.address before then Err (repeated_address (written one.address) one.at) else all_distinct (before ++ one ∷ []) others
 
 -- ---- the whole
 
--- what an object comes to: its ids come before its settings, these before limits, and limits before addresses
-abbrev pub of_object : Tree → Result Plan LoadFault
-of_object t =
-    of_ids (id_fault t) ▷ λ _.
-    configuration t root ▷ λ c.
+-- what is said of the whole: limits come before addresses
+abbrev pub judged : Configuration → Result (Unit {0}) LoadFault
+judged c =
     limits c ▷ λ _.
-    all_distinct [] (addresses_of c) ▷ λ _.
-    Ok (plan_of c)
+    all_distinct [] (addresses_of c)
+
+abbrev pub planned : Configuration → Loaded
+planned c = record { configuration = c; plan = plan_of c }
+
+abbrev pub accepted : Configuration → Result Loaded LoadFault
+accepted c = judged c ▷ λ _. Ok (planned c)
+
+-- settings come before all that is said of the whole
+abbrev pub of_settings : Tree → Result Loaded LoadFault
+of_settings t = configuration t root ▷ λ c. accepted c
+
+-- ids come before settings
+abbrev pub of_object : Tree → Result Loaded LoadFault
+of_object t = of_ids (id_fault t) ▷ λ _. of_settings t
 
 -- what null says: nothing
 abbrev pub nothing_said : Configuration
 nothing_said = record { admin = admin_or_usual None; apps = [] }
 
 -- null is a configuration, and all else is to be an object
-unfoldable pub loaded : Tree → Result Plan LoadFault
-loaded t = if is_null t then Ok (plan_of nothing_said) else (all_layer (out-Tree t) root ▷ λ _. of_object t)
+unfoldable pub loaded : Tree → Result Loaded LoadFault
+loaded t = if is_null t then Ok (planned nothing_said) else (all_layer (out-Tree t) root ▷ λ _. of_object t)
 
-abbrev pub fault_in : Result Plan LoadFault → Option LoadFault
-fault_in (Ok plan) = None
+abbrev pub fault_in : Result Loaded LoadFault → Option LoadFault
+fault_in (Ok loaded) = None
 fault_in (Err fault) = Some fault
 
 -- the first fault of a tree, if it has one

@@ -3,7 +3,6 @@ use Rattle.std.specs.Prelude.{ℕ, suc, if◌then◌else◌, List, [], ◌∷◌
 use Rattle.std.specs.List.{flat_map}
 use Rattle.cd_tree.specs.Path.{◌▸◌}
 use Rattle.cd_tree.specs.declared.path.Path.{Path}
-use Rattle.cd_outside.specs.declared.address.Address.{Address}
 use Rattle.cd_outside.specs.declared.key.Key.TheVariants as key
 use Rattle.cd_match.specs.Names.{kind_name, kind_layer}
 use Rattle.cd_match.specs.declared.matcher.Matcher.TheOpen.{Matcher-F, MatcherSet-F, NotMatcher-F}
@@ -12,6 +11,7 @@ use Rattle.cd_match.specs.declared.matcher.MatcherSet.{MatcherSet, fold-MatcherS
 use Rattle.cd_handlers.specs.Names.{handler_name}
 use Rattle.cd_routes.specs.Names.{subroute_name}
 use Rattle.cd_routes.specs.declared.listen.Listen.{Listen}
+use Rattle.cd_routes.specs.declared.listen.ListenText.{ListenText}
 use Rattle.cd_routes.specs.declared.route.Route.{Route, Route-F, fold-Route}
 use Rattle.cd_routes.specs.declared.route.Step.{Step, fold-Step}
 use Rattle.cd_routes.specs.declared.route.Step.TheOpen.{Step-F, Subroute-F}
@@ -20,6 +20,7 @@ use Rattle.cd_standard.specs.declared.admin.Admin.{Admin}
 use Rattle.cd_standard.specs.declared.app.App.{App}
 use Rattle.cd_standard.specs.declared.app.App.TheVariants.{Echo, Http}
 use Rattle.cd_standard.specs.declared.configuration.Configuration.{Configuration}
+use Rattle.cd_standard.specs.declared.listening.Listened.{Listened}
 use Rattle.cd_standard.specs.declared.plan.AppPlan.{AppPlan}
 use Rattle.cd_standard.specs.declared.plan.Plan.{Plan}
 use Rattle.cd_standard.specs.declared.plan.Planned.{Planned}
@@ -126,22 +127,25 @@ modules_of c = flat_map (app_modules (root ▸ codes "apps")) c.apps
 
 -- ---- what is listened on
 
--- an address with the path of its text
-abbrev pub Listened : Type 0
-Listened = Address × Path
+-- the addresses of a text, each with the place of the text
+abbrev pub text_addresses : ListenText → List Listened
+text_addresses text = map (λ address. record { address = address; at = text.at }) text.addresses
 
 -- text by text, and port by port
 abbrev pub listen_addresses : Listen → List Listened
-listen_addresses listen = flat_map (λ text. map (λ address. (address, text.at)) text.addresses) listen.texts
+listen_addresses listen = flat_map text_addresses listen.texts
+
+abbrev pub server_addresses : Server → List Listened
+server_addresses server = listen_addresses server.listen
 
 -- server after server
 abbrev pub app_addresses : App → List Listened
 app_addresses (Echo echo) = listen_addresses echo.listen
-app_addresses (Http http) = flat_map (λ server. listen_addresses server.listen) http.servers
+app_addresses (Http http) = flat_map server_addresses http.servers
 
 -- the admin API counts as an app, unless it is disabled
 abbrev pub admin_addresses : Admin → List Listened
-admin_addresses admin = if admin.disabled then [] else (admin.listen, root ▸ codes "admin" ▸ codes "listen") ∷ []
+admin_addresses admin = if admin.disabled then [] else record { address = admin.listen; at = root ▸ codes "admin" ▸ codes "listen" } ∷ []
 
 -- all addresses, in the order in which they are opened
 abbrev pub addresses_of : Configuration → List Listened
@@ -150,7 +154,7 @@ addresses_of c = admin_addresses c.admin ++ flat_map app_addresses c.apps
 -- ---- apps
 
 abbrev pub app_plan : List ℕ → List Listened → AppPlan
-app_plan name addresses = record { name = name; keys = map (λ one. key.Listen one.0) addresses }
+app_plan name addresses = record { name = name; keys = map (λ one. key.Listen one.address) addresses }
 
 abbrev pub admin_plans : Admin → List AppPlan
 admin_plans admin = if admin.disabled then [] else app_plan (codes "admin") (admin_addresses admin) ∷ []

@@ -2,8 +2,8 @@
 //!
 //! `Configuration` is read out of a tree as all settings are (specs/Configuration.antt): `admin`, and `apps` with `echo` and
 //! `http`. What a configuration plans is in specs/Plans.antt: which modules are made, and which apps are started, each in its
-//! order, with what each opens. `loaded` of specs/Loading.antt says what a tree comes to: a plan, or the first fault in this
-//! order: no object, ids, the settings, limits, addresses that are listened on twice.
+//! order, with what each opens. `load` gives what a tree comes to (`loaded` of specs/Loading.antt): what was read and its plan,
+//! or the first fault in this order: no object, ids, the settings, limits, addresses that are listened on twice.
 //!
 //! What modules do once they are made is left to the crates of the modules.
 #![tactic(auto)]
@@ -11,9 +11,12 @@
 mod admin;
 mod app;
 mod configuration;
+mod counting;
 mod echo;
 mod http;
+mod judging;
 mod listening;
+mod loading;
 mod plan;
 mod planning;
 mod walking;
@@ -23,6 +26,7 @@ pub use app::App;
 pub use configuration::Configuration;
 pub use echo::Echo;
 pub use http::Http;
-pub use listening::apps_of;
+pub use listening::{Listened, addresses_of, apps_of};
+pub use loading::{Loaded, load};
 pub use plan::{AppPlan, Plan, Planned};
 pub use planning::modules_of;

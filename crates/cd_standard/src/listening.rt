@@ -1,18 +1,27 @@
-//! The apps of a configuration, with what each listens on.
+//! What a configuration listens on, and its apps with that.
 ghost use Rattle.std.specs.Prelude.{◌≡◌, ◌++◌, map, IfOk, OnOk};
 ghost use Rattle.std.specs.List.{flat_map};
-ghost use Rattle.cd_outside.specs.declared.key.Key.TheVariants as key;
-ghost use Rattle.cd_standard.specs.Plans.{admin_plans, app_addresses, app_name, app_plan, apps_of};
-ghost use Rattle.cd_standard.specs.Listening.{app_keys, listen_keys, server_keys, text_keys};
+ghost use Rattle.cd_standard.specs.Plans.{addresses_of, admin_addresses, admin_plans, app_addresses, app_name, app_plan, apps_of, listen_addresses, server_addresses, text_addresses};
 
 use crate::admin::Admin;
 use crate::app::App;
 use crate::configuration::Configuration;
 use crate::plan::AppPlan;
-use cd_outside::Key;
+use cd_outside::{Address, Key};
 use cd_routes::{Listen, ListenText, Server};
 use cd_text::{List, NoMemory, Text};
+use cd_tree::Path;
 use std::alloc::Global;
+
+/// An address that is listened on.
+#[derive(Debug, Drop)]
+pub struct Listened {
+    pub address: Address,
+    /// Where its text is in the configuration.
+    pub at: Path,
+}
+
+// ---- apps
 
 /// The apps of a configuration, in the order in which they are started: the admin API first, unless it is disabled.
 pub fn apps_of(alloc: Global, configuration: &Configuration) -> Result<List<AppPlan>, NoMemory>
@@ -32,55 +41,111 @@ fn admin_plans(alloc: Global, admin: &Admin) -> Result<List<AppPlan>, NoMemory>
     if admin.disabled {
         return Ok(plans);
     }
-    let mut keys = List::new(alloc);
-    keys.push(Key::Listen(admin.listen.copy(alloc)?))?;
-    let name = Text::from_str(alloc, "admin")?;
-    plans.push(AppPlan { name, keys })?;
+    let mut listened = List::new(alloc);
+    add_admin(alloc, admin, &mut listened)?;
+    plans.push(planned_app(alloc, "admin", listened.as_slice())?)?;
     Ok(plans)
 }
 
-#[tactic(auto, using(crate::proofs::Keys::app_keys_are))]
 fn app_plan(alloc: Global, app: &App) -> Result<AppPlan, NoMemory>
     ensures { IfOk result (λ made. made ≡ app_plan (app_name app.now) (app_addresses app.now)) }
 {
-    let name = Text::from_str(alloc, app.name())?;
-    let mut keys = List::new(alloc);
-    add_app(alloc, app, &mut keys)?;
-    Ok(AppPlan { name, keys })
+    let mut listened = List::new(alloc);
+    add_app(alloc, app, &mut listened)?;
+    planned_app(alloc, app.name(), listened.as_slice())
 }
 
-fn add_app(alloc: Global, app: &App, keys: &mut List<Key>) -> Result<(), NoMemory>
-    ensures { OnOk result (keys.new ≡ keys.old ++ app_keys app.now) }
+fn planned_app(alloc: Global, name: &str, listened: &[Listened]) -> Result<AppPlan, NoMemory>
+    ensures { IfOk result (λ made. made ≡ app_plan name.now listened.now) }
+{
+    let mut keys = List::new(alloc);
+    for one in listened {
+        keys.push(Key::Listen(one.address.copy(alloc)?))?;
+    }
+    Ok(AppPlan {
+        name: Text::from_str(alloc, name)?,
+        keys,
+    })
+}
+
+// ---- addresses
+
+/// All addresses that a configuration listens on, in the order in which they are opened.
+pub fn addresses_of(
+    alloc: Global,
+    configuration: &Configuration,
+) -> Result<List<Listened>, NoMemory>
+    ensures { IfOk result (λ made. made ≡ addresses_of configuration.now) }
+{
+    let mut listened = List::new(alloc);
+    add_admin(alloc, &configuration.admin, &mut listened)?;
+    add_apps(alloc, configuration.apps.as_slice(), &mut listened)?;
+    Ok(listened)
+}
+
+fn add_admin(alloc: Global, admin: &Admin, listened: &mut List<Listened>) -> Result<(), NoMemory>
+    ensures { OnOk result (listened.new ≡ listened.old ++ admin_addresses admin.now) }
+{
+    if admin.disabled {
+        return Ok(());
+    }
+    let at = Path::root(alloc)
+        .member(alloc, "admin")?
+        .member(alloc, "listen")?;
+    listened.push(Listened {
+        address: admin.listen.copy(alloc)?,
+        at,
+    })
+}
+
+fn add_apps(alloc: Global, apps: &[App], listened: &mut List<Listened>) -> Result<(), NoMemory>
+    ensures { OnOk result (listened.new ≡ listened.old ++ flat_map app_addresses apps.now) }
+{
+    for app in apps {
+        add_app(alloc, app, listened)?;
+    }
+    Ok(())
+}
+
+fn add_app(alloc: Global, app: &App, listened: &mut List<Listened>) -> Result<(), NoMemory>
+    ensures { OnOk result (listened.new ≡ listened.old ++ app_addresses app.now) }
 {
     match app {
-        App::Echo(echo) => add_listen(alloc, &echo.listen, keys),
-        App::Http(http) => add_servers(alloc, http.servers.as_slice(), keys),
+        App::Echo(echo) => add_listen(alloc, &echo.listen, listened),
+        App::Http(http) => add_servers(alloc, http.servers.as_slice(), listened),
     }
 }
 
-fn add_servers(alloc: Global, servers: &[Server], keys: &mut List<Key>) -> Result<(), NoMemory>
-    ensures { OnOk result (keys.new ≡ keys.old ++ flat_map server_keys servers.now) }
+fn add_servers(
+    alloc: Global,
+    servers: &[Server],
+    listened: &mut List<Listened>,
+) -> Result<(), NoMemory>
+    ensures { OnOk result (listened.new ≡ listened.old ++ flat_map server_addresses servers.now) }
 {
     for server in servers {
-        add_listen(alloc, &server.listen, keys)?;
+        add_listen(alloc, &server.listen, listened)?;
     }
     Ok(())
 }
 
-fn add_listen(alloc: Global, listen: &Listen, keys: &mut List<Key>) -> Result<(), NoMemory>
-    ensures { OnOk result (keys.new ≡ keys.old ++ listen_keys listen.now) }
+fn add_listen(alloc: Global, listen: &Listen, listened: &mut List<Listened>) -> Result<(), NoMemory>
+    ensures { OnOk result (listened.new ≡ listened.old ++ listen_addresses listen.now) }
 {
     for text in listen.texts.as_slice() {
-        add_text(alloc, text, keys)?;
+        add_text(alloc, text, listened)?;
     }
     Ok(())
 }
 
-fn add_text(alloc: Global, text: &ListenText, keys: &mut List<Key>) -> Result<(), NoMemory>
-    ensures { OnOk result (keys.new ≡ keys.old ++ text_keys text.now) }
+fn add_text(alloc: Global, text: &ListenText, listened: &mut List<Listened>) -> Result<(), NoMemory>
+    ensures { OnOk result (listened.new ≡ listened.old ++ text_addresses text.now) }
 {
     for address in text.addresses.as_slice() {
-        keys.push(Key::Listen(address.copy(alloc)?))?;
+        listened.push(Listened {
+            address: address.copy(alloc)?,
+            at: text.at.copy(alloc)?,
+        })?;
     }
     Ok(())
 }

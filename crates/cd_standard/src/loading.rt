@@ -1,0 +1,103 @@
+//! What a tree comes to as a configuration.
+ghost use Rattle.std.specs.Prelude.{◌≡◌, IfOk};
+ghost use Rattle.cd_text.specs.Gives.{Gives};
+ghost use Rattle.cd_ids.specs.Ids.{id_fault};
+ghost use Rattle.cd_standard.specs.Loading.{accepted, loaded, nothing_said, of_ids, of_object, of_settings, planned};
+ghost use Rattle.cd_standard.specs.Plans.{modules_of};
+
+use crate::admin::Admin;
+use crate::configuration::Configuration;
+use crate::judging::judge;
+use crate::listening::apps_of;
+use crate::plan::{Plan, Planned};
+use crate::planning::modules_of;
+use cd_ids::{IdFault, Index};
+use cd_module::{LoadFault, LoadKind, Settings};
+use cd_text::{List, NoMemory};
+use cd_tree::{Path, Tree};
+use std::alloc::Global;
+
+/// A configuration without a fault, and what it plans.
+#[derive(Debug, Drop)]
+pub struct Loaded {
+    pub configuration: Configuration,
+    pub plan: Plan,
+}
+
+/// Loads a configuration: reads it and plans it, or gives its first fault. Null says nothing, and is fine.
+///
+/// The order of faults: a tree that is no object; its ids, where a repeated id has both paths; its settings, as they are read
+/// (Caddy, JSON Config Structure); too many modules, addresses, servers, and subroutes with errors in a server; an address
+/// that is listened on twice, at the second place in the order in which addresses are opened, the admin API's first.
+#[tactic(auto, unfolding(crate::specs::Loading::loaded))]
+pub fn load(alloc: Global, tree: &Tree) -> Result<Loaded, LoadFault>
+    ensures { Gives LoadFault.NoMemory result (loaded tree.now) }
+{
+    match tree {
+        Tree::Null => Ok(load_nothing(alloc)?),
+        Tree::Object(_) => load_object(alloc, tree),
+        _ => Err(LoadFault::refused(alloc, LoadKind::WrongKind, Path::root(alloc))),
+    }
+}
+
+fn load_nothing(alloc: Global) -> Result<Loaded, NoMemory>
+    ensures { IfOk result (λ made. made ≡ planned nothing_said) }
+{
+    let configuration = Configuration {
+        admin: Admin::usual(alloc)?,
+        apps: List::new(alloc),
+    };
+    let modules = modules_of(alloc, &configuration)?;
+    with_plan(alloc, configuration, modules)
+}
+
+fn load_object(alloc: Global, tree: &Tree) -> Result<Loaded, LoadFault>
+    ensures { Gives LoadFault.NoMemory result (of_object tree.now) }
+{
+    check_ids(alloc, tree)?;
+    load_settings(alloc, tree)
+}
+
+fn load_settings(alloc: Global, tree: &Tree) -> Result<Loaded, LoadFault>
+    ensures { Gives LoadFault.NoMemory result (of_settings tree.now) }
+{
+    let configuration = Configuration::read(alloc, tree, &Path::root(alloc))?;
+    accept(alloc, configuration)
+}
+
+fn check_ids(alloc: Global, tree: &Tree) -> Result<(), LoadFault>
+    ensures { Gives LoadFault.NoMemory result (of_ids (id_fault tree.now)) }
+{
+    match Index::build(alloc, tree) {
+        Ok(_) => Ok(()),
+        Err(IdFault::Repeated(id, first, second)) => {
+            Err(LoadFault::repeated_id(alloc, id.as_str(), &first, &second))
+        }
+        Err(IdFault::BadKind(at)) => Err(LoadFault::refused(alloc, LoadKind::WrongKind, at)),
+        Err(IdFault::NoMemory) => Err(LoadFault::NoMemory),
+    }
+}
+
+// The modules are made once, and counted as they are.
+fn accept(alloc: Global, configuration: Configuration) -> Result<Loaded, LoadFault>
+    ensures { Gives LoadFault.NoMemory result (accepted configuration) }
+{
+    let modules = modules_of(alloc, &configuration)?;
+    judge(alloc, &configuration, modules.len())?;
+    Ok(with_plan(alloc, configuration, modules)?)
+}
+
+fn with_plan(
+    alloc: Global,
+    configuration: Configuration,
+    modules: List<Planned>,
+) -> Result<Loaded, NoMemory>
+    requires { modules ≡ modules_of configuration }
+    ensures { IfOk result (λ made. made ≡ planned configuration) }
+{
+    let apps = apps_of(alloc, &configuration)?;
+    Ok(Loaded {
+        configuration,
+        plan: Plan { modules, apps },
+    })
+}
