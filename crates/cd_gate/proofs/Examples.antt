@@ -9,6 +9,7 @@ use Rattle.cd_legal.specs.Entry.{signed}
 use Rattle.cd_legal.specs.State.{opening_state}
 use Rattle.cd_gate.specs.declared.view.View.{View}
 use Rattle.cd_gate.specs.Duties.{duties_by}
+use Rattle.cd_gate.specs.Rule.{signs_all}
 use Rattle.cd_gate.specs.Steps.{leaves_room, is_due, may_note, longer, first_view, noted}
 
 -- halted at serial 1, with a request of pass 2 at the opening configuration
@@ -58,3 +59,12 @@ Longer =
 
 longest : Longer
 longest = (refl, refl)
+
+-- pass 2 has signed all entries of draft 0, and pass 1 has not; of draft 1 there is none
+abbrev Signed-by : Type 0
+Signed-by =
+    (signs_all 2 0 (signed 2 (Abandon 0) ∷ signed 1 (Halt 1) ∷ []) ≡ true) × (signs_all 1 0 (signed 2 (Abandon 0) ∷ []) ≡ false)
+    × (signs_all 1 1 (signed 2 (Abandon 0) ∷ []) ≡ true)
+
+signed-by : Signed-by
+signed-by = (refl, refl, refl)

@@ -10,4 +10,5 @@ pub mod Known
 pub mod Tables
 pub mod Rows
 pub mod Closing
+pub mod Drafts
 mod Examples

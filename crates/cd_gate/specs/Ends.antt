@@ -11,6 +11,7 @@ use Rattle.cd_legal.specs.Owing.{owes_of, owes_nothing}
 use Rattle.cd_legal.specs.Signing.{IsHistory}
 use Rattle.cd_legal.specs.Whole.{nothing_left}
 use Rattle.cd_gate.specs.declared.view.Gone.{Gone}
+use Rattle.cd_gate.specs.declared.gate.Gate.{Gate}
 use Rattle.cd_gate.specs.declared.pass.Pass.{Pass}
 use Rattle.cd_gate.specs.Words.{owed}
 use Rattle.cd_gate.specs.Steps.{gone_of}
@@ -22,6 +23,10 @@ module _ {T : Type 0} where
     pub some_pass : 0 < length passes
     pub each : (i : ℕ) (p : Pass T) → get_elem? passes i ≡ some p → IsIdle z o p × ((view p).number ≡ i)
     pub root : (p : Pass T) → get_elem? passes 0 ≡ some p → ((view p).made ≡ length passes) × ((view p).joined ≡ [])
+
+  -- all passes of this gate are here
+  abbrev pub IsRowOf : Gate T → List (Pass T) → Type 0
+  IsRowOf g passes = IsRow g.table.shared.table_id g.table.shared.key.value passes
 
   -- a pass that has no ticket, no draft and no duty
   abbrev pub IsFree : Pass T → Type 0

@@ -2,6 +2,7 @@
 use Rattle.std.specs.Prelude.{◌≡◌, true, false, [], ◌∷◌, Some, None}
 use Rattle.atomic_table.specs.Seated.{TableId}
 use Rattle.cd_gate.specs.declared.view.View.{View}
+use Rattle.cd_gate.specs.declared.gate.Gate.{Gate}
 use Rattle.cd_gate.specs.declared.pass.Pass.{Pass}
 
 module _ {T : Type 0} where
@@ -20,3 +21,15 @@ module _ {T : Type 0} where
   -- a pass of this table that has the turn, with the board taken out of the slot
   abbrev pub HasTurn : TableId → T → Pass T → Type 0
   HasTurn z o p = IsOf z o p × (p.seat.me.0.turn ≡ true) × (p.seat.me.1 ≡ (0, None) ∷ [])
+
+  -- an idle pass of this gate
+  abbrev pub IsIdleOf : Gate T → Pass T → Type 0
+  IsIdleOf g p = IsIdle g.table.shared.table_id g.table.shared.key.value p
+
+  -- a pass that has the turn of this gate
+  abbrev pub HasTurnOf : Gate T → Pass T → Type 0
+  HasTurnOf g p = HasTurn g.table.shared.table_id g.table.shared.key.value p
+
+  -- the value that this gate began with
+  abbrev pub opening_of : Gate T → T
+  opening_of g = g.table.shared.key.value

@@ -1,11 +1,13 @@
 -- The rule: how the words, the board and the views agree with one history.
-use Rattle.std.specs.Prelude.{◌≡◌, ◌≢◌, ◌⊎◌, ℕ, ◌+◌, ◌%◌, ◌^◌, ◌<◌, ◌≤◌, true, false, List, [], length, Option, Some}
+use Rattle.std.specs.Prelude.{◌≡◌, ◌≢◌, ◌⊎◌, ℕ, ◌+◌, ◌%◌, ◌^◌, ◌<◌, ◌≤◌, ◌==◌, ◌||◌, not, Bool, true, false, List, [], length, Option, Some}
+use Rattle.std.specs.List.{list_all}
 use mathlib.Core.Option.{some}
 use mathlib.Core.List.{IsPrefix}
 use lib.ListN.{get_elem?}
 use Rattle.cd_legal.specs.declared.entry.Signed.{Signed}
 use Rattle.cd_legal.specs.declared.limits.TheConstants.{LAST_SERIAL, MAX_PASSES}
 use Rattle.cd_legal.specs.declared.state.State.{State}
+use Rattle.cd_legal.specs.Abandoned.{is_entry_of}
 use Rattle.cd_legal.specs.Entry.{mine}
 use Rattle.cd_legal.specs.State.{has_number}
 use Rattle.cd_legal.specs.Legal.{state_at, may_retire}
@@ -91,3 +93,7 @@ pub record IsKept {T : Type 0} (stands : T → T → List Signed → Type 0) (op
   pub free : m.turn ≡ 0 → ((b : T) × (m.board ≡ Slot.Home b) × stands opening b log) × (nothing_left (state_at log) ≡ true)
   -- while it is not a view has it, and the slot of the board is held
   pub taken : 0 < m.turn → ((seat : ℕ) × (v : View T) × (get_elem? m.views seat ≡ some v) × (v.turn ≡ true)) × ((x : Option T) × (m.board ≡ Slot.Held x))
+
+-- each entry of the draft is signed by the pass
+abbrev pub signs_all : ℕ → ℕ → List Signed → Bool
+signs_all k draft log = list_all (λ x. not (is_entry_of draft x.entry) || (x.by == k)) log

@@ -2,7 +2,8 @@
 ghost use Rattle.std.specs.Prelude.{◌≡◌, ◌<◌, ◌≤◌, ◌∷◌, [], length, IfOk, IfErr, Some};
 ghost use Rattle.std.specs.Vec.{vec_capacity};
 ghost use Rattle.cd_legal.specs.declared.limits.TheConstants.{MAX_SEATS};
-ghost use Rattle.cd_gate.specs.Ends.{IsRow, AreFree, AreNew, Closes, Gathers};
+ghost use Rattle.cd_gate.specs.Ends.{IsRowOf, AreFree, AreNew, Closes, Gathers};
+ghost use Rattle.cd_gate.specs.Passes.{opening_of};
 
 use crate::gate::Gate;
 use crate::pass::Pass;
@@ -31,8 +32,8 @@ impl<T: Stands> Gate<T> {
     pub fn new(alloc: Global, value: T, seats: u32) -> Result<(Gate<T>, Vec<Pass<T>>), NoGate<T>>
         requires seats { (0 < seats) × (seats ≤ MAX_SEATS) }
         requires value { T.stands value value [] }
-        ensures gate { IfOk result (λ r. r.0.table.shared.key.value ≡ value) }
-        ensures passes { IfOk result (λ r. IsRow r.0.table.shared.table_id value r.1.items × AreNew r.1.items × (length r.1.items ≡ seats)) }
+        ensures gate { IfOk result (λ r. opening_of r.0 ≡ value) }
+        ensures passes { IfOk result (λ r. IsRowOf r.0 r.1.items × AreNew r.1.items × (length r.1.items ≡ seats)) }
         ensures err { IfErr result (λ r. r.value ≡ value) }
     {
         let Ok(mut passes) = Vec::with_capacity(alloc, seats as usize) else {
@@ -61,8 +62,8 @@ impl<T: Stands> Gate<T> {
     // Hands out the passes of the numbers from 1 on.
     fn fill(&self, passes: &mut Vec<Pass<T>>, seats: u32)
         requires seats { (0 < seats) × (seats ≤ MAX_SEATS) × (seats ≤ vec_capacity passes.old) }
-        requires first { (length passes.old.items ≡ 1) × IsRow self.now.table.shared.table_id self.now.table.shared.key.value passes.old.items × AreNew passes.old.items }
-        ensures { (length passes.new.items ≡ seats) × IsRow self.now.table.shared.table_id self.now.table.shared.key.value passes.new.items × AreNew passes.new.items }
+        requires first { (length passes.old.items ≡ 1) × IsRowOf self.now passes.old.items × AreNew passes.old.items }
+        ensures { (length passes.new.items ≡ seats) × IsRowOf self.now passes.new.items × AreNew passes.new.items }
     {
         for number in 1..seats {
             let other = self.hand_out(&mut passes[0], number);
@@ -72,9 +73,9 @@ impl<T: Stands> Gate<T> {
 
     // The pass of number 0, which has taken in all others.
     fn gather(&self, mut passes: Vec<Pass<T>>) -> Pass<T>
-        requires row { IsRow self.now.table.shared.table_id self.now.table.shared.key.value passes.items }
+        requires row { IsRowOf self.now passes.items }
         requires free { AreFree passes.items }
-        ensures { Gathers self.now.table.shared.table_id self.now.table.shared.key.value passes.items result [] }
+        ensures { Gathers self.now.table.shared.table_id (opening_of self.now) passes.items result [] }
     {
         let mut first = passes.remove(0);
         while let Some(other) = passes.pop() {
@@ -86,9 +87,9 @@ impl<T: Stands> Gate<T> {
 
     /// The board, which stands for one history of all passes.
     pub fn close(self, passes: Vec<Pass<T>>) -> T
-        requires row { IsRow self.table.shared.table_id self.table.shared.key.value passes.items }
+        requires row { IsRowOf self passes.items }
         requires free { AreFree passes.items }
-        ensures { Closes T.stands self.table.shared.key.value passes.items result }
+        ensures { Closes T.stands (opening_of self) passes.items result }
     {
         let Pass { number: _, seat } = self.gather(passes);
         let Gate { table } = self;

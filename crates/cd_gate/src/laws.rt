@@ -15,7 +15,7 @@ ghost use Rattle.cd_legal.specs.Whole.{nothing_left};
 ghost use Rattle.cd_gate.specs.declared.view.View.{View};
 ghost use Rattle.cd_gate.specs.declared.view.Gone.{Gone};
 ghost use Rattle.cd_gate.specs.Words.{Slot, Moment, owed};
-ghost use Rattle.cd_gate.specs.Rule.{IsKept};
+ghost use Rattle.cd_gate.specs.Rule.{IsKept, signs_all};
 ghost use Rattle.cd_gate.specs.Steps.{first_view, longer, may_note, with_view, acquire, move_board, note, release, split, join, copy, hand_over, compare};
 
 use cd_legal::Stands;
@@ -115,12 +115,15 @@ pub fn passes_sign_the_history<T: Stands>()
         ⊎ ((i : ℕ) × (gone : Gone) × (get_elem? rule.numbers.root.joined i ≡ some gone) × (gone.number ≡ k)) }
 {}
 
-/// By the rule the live drafts of the history are just those of the live views, each of one.
+/// By the rule the live drafts of the history are just those of the live views, each of one, whose
+/// number has signed all its entries.
 pub fn live_drafts_are_in_views<T: Stands>()
     ensures live { (o : T) (log : List Signed) (m : Moment T) (seat : ℕ) (v : View T) (draft : ℕ) → IsKept T.stands o log m →
         get_elem? m.views seat ≡ some v → IsTrue v.live → v.draft ≡ Some draft → IsTrue (is_live_in (state_at log) draft) }
     ensures one { (o : T) (log : List Signed) (m : Moment T) (i j draft : ℕ) (v w : View T) → IsKept T.stands o log m →
         get_elem? m.views i ≡ some v → get_elem? m.views j ≡ some w → IsTrue v.live → IsTrue w.live → v.draft ≡ Some draft → w.draft ≡ Some draft → i ≡ j }
+    ensures signed { (o : T) (log : List Signed) (m : Moment T) (seat : ℕ) (v : View T) (draft : ℕ) → IsKept T.stands o log m →
+        get_elem? m.views seat ≡ some v → IsTrue v.live → v.draft ≡ Some draft → IsTrue (signs_all v.number draft log) }
     ensures there { (o : T) (log : List Signed) (m : Moment T) (draft : ℕ) → IsKept T.stands o log m → IsTrue (is_live_in (state_at log) draft) →
         (seat : ℕ) × (v : View T) × (get_elem? m.views seat ≡ some v) × (v.live ≡ true) × (v.draft ≡ Some draft) }
 {}

@@ -5,14 +5,16 @@
 //! say, where the board is, and what each pass knows of it all is plain data (`Moment` of specs/Words.antt, `View`). The rule
 //! `IsKept` of specs/Rule.antt says how these agree with one history, which no value holds.
 //!
-//! The kinds of steps stand in specs/Steps.antt, and the laws (laws.rt) say of each that it keeps the rule. `Gate` (gate.rt, and
-//! ends.rt for its beginning and end) makes them on a table of two words and one slot (table.rt, plays.rt): specs/Tables.antt
+//! The kinds of steps stand in specs/Steps.antt, and the laws (laws.rt) say of each that it keeps the rule. `Gate`
+//! (entering.rt, handing.rt, and ends.rt for its beginning and end) makes them on a table of two words and one slot (table.rt, plays.rt): specs/Tables.antt
 //! says how such a table shows a moment, specs/Passes.antt and specs/Ends.antt what callers see. Of all calls only `enter` waits,
 //! and only `new` takes memory.
 #![tactic(auto)]
 
 mod ends;
+mod entering;
 mod gate;
+mod handing;
 mod laws;
 mod pass;
 mod plays;

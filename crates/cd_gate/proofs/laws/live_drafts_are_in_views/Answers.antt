@@ -1,3 +1,6 @@
+use Rattle.std.proofs.Common.{ap, ◌∙◌}
+use Rattle.cd_legal.specs.Owing.{Owes}
+use Rattle.cd_gate.proofs.Drafts.{owner-signs}
 use Rattle.cd_gate.proofs.Known.{draft_live, draft_one, draft_there}
 use Rattle.cd_gate.proofs.laws.live_drafts_are_in_views.Goals as goal
 
@@ -9,3 +12,7 @@ returns-clause-one g c o log m i j draft v w r ev ew lv lw is also = draft_one g
 
 pub returns-clause-there : goal.returns-clause-there
 returns-clause-there g c o log m draft r is = draft_there g.T.Stands.stands o log m r draft is
+
+pub returns-clause-signed : goal.returns-clause-signed
+returns-clause-signed g c o log m seat v draft r at live is =
+    owner-signs log v.number draft r.history (ap (λ (z : Owes). z.draft) ((r.each seat v at).owes live) ∙ is)

@@ -1,6 +1,6 @@
 use Rattle.std.proofs.Common.{rules, ap, sym, ◌∙◌, ◌≡◌, ◌+◌, true}
 use Rattle.cd_gate.proofs.Tables.{takes_the_turn}
-use Rattle.cd_gate.proofs.gate.wait_for_turn.Goals as goal
+use Rattle.cd_gate.proofs.entering.wait_for_turn.Goals as goal
 
 pub compare_exchange-requires : goal.compare_exchange-requires
 compare_exchange-requires g c =
