@@ -8,7 +8,7 @@ use Rattle.cd_wire.specs.declared.fault.WireFault.{WireFault}
 use Rattle.cd_wire.specs.declared.fault.WireFault.TheVariants.{BadHead, BadTarget, BadHost, BadLength, BodyTooLong, UnknownCoding}
 use Rattle.cd_wire.specs.declared.framing.Framing.{Framing}
 use Rattle.cd_wire.specs.declared.framing.Framing.TheVariants.{Length, Chunked}
-use Rattle.cd_wire.specs.Bodies.{BeginsLine, BeginsChunk, BeginsChunks, ChunksThen, joined, RefusesChunk, RefusesLine, NeverHasCrlf, HasSize, BeginsBody, RefusesBody}
+use Rattle.cd_wire.specs.Bodies.{BeginsLine, BeginsChunk, BeginsChunks, ChunksThen, joined, RefusesChunk, RefusesLine, NeverHasCrlf, BeginsBody, RefusesBody}
 use Rattle.cd_wire.specs.Chunks.{HasNoChunk, HasData, HasChunks, HasNoBody}
 use Rattle.cd_wire.proofs.RequestLaws.{BeginsLine-unique, BeginsChunk-unique}
 use Rattle.cd_wire.proofs.LineLemmas.{refused_is_no_line}

@@ -35,8 +35,14 @@ after_chunks : (text : List ℕ) (pieces : List (List ℕ)) (rest : List ℕ) �
 after_chunks text [] rest b =
     omega (arith, after_line text 0 (crlf_bytes ++ rest) b, length-append crlf_bytes rest)
 after_chunks text (piece ∷ pieces) rest b =
-    omega (arith, after_line text (length piece) b.1.after b.1.line, ap length b.1.is, length-append piece (crlf_bytes ++ b.0),
-    length-append crlf_bytes b.0, after_chunks b.0 pieces rest b.2)
+    omega (
+      arith,
+      after_line text (length piece) b.1.after b.1.line,
+      ap length b.1.is,
+      length-append piece (crlf_bytes ++ b.0),
+      length-append crlf_bytes b.0,
+      after_chunks b.0 pieces rest b.2,
+    )
 
 after_body : (framing : Framing) (text body rest : List ℕ) → BeginsBody framing text body rest → length rest ≤ length text
 after_body (Length size) text body rest b = omega (arith, ap length b.0, length-append body rest)

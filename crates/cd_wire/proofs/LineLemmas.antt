@@ -1,7 +1,7 @@
 -- What the front of a text says of the line of a chunk.
-use Rattle.std.proofs.Common.{◌≡◌, ℕ, ◌-◌, ◌<◌, ◌≤◌, List, [], ◌++◌, length, take, drop, sym, ap, ◌∙◌, subst, arith, length-append, inl, inr}
+use Rattle.std.proofs.Common.{◌≡◌, ℕ, ◌-◌, ◌<◌, ◌≤◌, List, [], ◌++◌, length, take, drop, ap, ◌∙◌, subst, arith, length-append, inl, inr}
 use Rattle.std.proofs.lemmas.List.{take-append-drop}
-use Rattle.httparse.specs.Grammar.{ChunkLine, ReadsChunkLine, print_chunk_line, NeverHasChunkLine, HasNoChunkLine, MayBecomeChunkLine}
+use Rattle.httparse.specs.Grammar.{ChunkLine, ReadsChunkLine, print_chunk_line, HasNoChunkLine, MayBecomeChunkLine}
 use Rattle.httparse.specs.Spans.{IsChunkLineAt}
 use Rattle.httparse.proofs.ChunkLemmas.{ReadsChunkLine-append}
 use Rattle.cd_wire.specs.declared.limits.TheConstants.{MAX_CHUNK_LINE_BYTES}

@@ -1,12 +1,9 @@
 -- An input has one list of requests, and one tail.
 use Rattle.std.proofs.Common.{inl, inr, ◌≡◌, ℕ, Bool, true, false, List, [], ◌∷◌, length, refl, sym, ap, ◌∙◌, subst, arith, Result, Ok, Err}
-use Rattle.cd_wire.specs.declared.head.Head.{Head}
 use Rattle.cd_wire.specs.declared.request.Request.{Request}
 use Rattle.cd_wire.specs.declared.fault.WireFault.{WireFault}
 use Rattle.cd_wire.specs.declared.framing.Framing.{Framing}
-use Rattle.cd_wire.specs.declared.framing.Framing.TheVariants.{Length, Chunked}
 use Rattle.cd_wire.specs.Heads.{BeginsHead}
-use Rattle.cd_wire.specs.Framing.{judge}
 use Rattle.cd_wire.specs.Bodies.{RefusesBody}
 use Rattle.cd_wire.specs.Requests.{BeginsRequest, Splits, HasNoRequest, HasRequests, Tail, HasTail, RefusesAfterHead, EndsInBody, clean, cut, refused, more_may_come}
 use Rattle.cd_wire.proofs.RequestLaws.{BeginsRequest-unique}

@@ -1,23 +1,19 @@
 -- What a head and a body say of every request at the front.
-use Rattle.std.proofs.Common.{◌≡◌, ℕ, ◌+◌, ◌<◌, ◌≤◌, List, [], ◌∷◌, ◌++◌, length, take, drop, refl, sym, ap, ◌∙◌, subst, arith, Result, Ok, Err, Bool, inl, inr, length-append}
+use Rattle.std.proofs.Common.{◌≡◌, ℕ, ◌<◌, List, [], ◌∷◌, length, drop, refl, sym, ap, ◌∙◌, subst, arith, Result, Ok, Err, Bool, inl, inr, length-append}
 use Rattle.std.proofs.lemmas.Bool.Decides.{nat_tests}
-use Rattle.std.proofs.lemmas.List.{take-append-drop, length-drop, length-take-le, drop-drop}
-use Rattle.std.specs.Prelude.{◌==◌, not, codes, true, false, nat_le, if◌then◌else◌}
+use Rattle.std.specs.Prelude.{◌==◌, not, codes, true, false, if◌then◌else◌}
 use Rattle.cd_wire.specs.declared.head.Head.{Head}
-use Rattle.cd_wire.specs.declared.request.Request.{Request}
 use Rattle.cd_wire.specs.declared.fault.WireFault.{WireFault}
 use Rattle.cd_wire.specs.declared.framing.Framing.{Framing}
-use Rattle.cd_wire.specs.declared.framing.Framing.TheVariants.{Length, Chunked}
-use Rattle.cd_wire.specs.declared.fault.WireFault.TheVariants.{BadTarget, BadHost, BadLength, BodyTooLong, UnknownCoding}
+use Rattle.cd_wire.specs.declared.framing.Framing.TheVariants.{Length}
+use Rattle.cd_wire.specs.declared.fault.WireFault.TheVariants.{BadTarget, BadHost}
 use Rattle.httparse.specs.Grammar.{print_request}
 use Rattle.cd_wire.specs.Heads.{BeginsHead, HasNoHead}
 use Rattle.cd_wire.specs.Fields.{values}
-use Rattle.std.specs.Str.Parse.{digits_value}
-use Rattle.cd_wire.specs.declared.limits.TheConstants.{MAX_BODY_BYTES}
-use Rattle.cd_wire.specs.Framing.{judge, request_of, is_host, sized, is_length, framing_by}
+use Rattle.cd_wire.specs.Framing.{judge, is_host}
 use Rattle.cd_wire.specs.Targets.{is_target}
 use Rattle.cd_wire.specs.Bodies.{BeginsBody, RefusesBody}
-use Rattle.cd_wire.specs.Requests.{BeginsRequest, HasNoRequest, RefusesAfterHead, EndsInBody}
+use Rattle.cd_wire.specs.Requests.{HasNoRequest, RefusesAfterHead, EndsInBody}
 use Rattle.cd_wire.specs.declared.taking.Front.{Front}
 use Rattle.cd_wire.specs.declared.bodies.Body.{Body}
 use Rattle.cd_wire.specs.Chunks.{HasNoBody, IsGoing, framing_of}

@@ -170,12 +170,7 @@ fn search_on(alloc: Global, bytes: &[u8], ended: bool, search: Search) -> Result
 }
 
 // The head at the front of an input of which this is known.
-fn find_front(
-    alloc: Global,
-    bytes: &[u8],
-    ended: bool,
-    known: Known,
-) -> Result<Begun, NoMemory>
+fn find_front(alloc: Global, bytes: &[u8], ended: bool, known: Known) -> Result<Begun, NoMemory>
     requires { IsKept bytes.now known }
     ensures { IfOk result (IsBegun bytes.now ended) }
 {
@@ -198,12 +193,7 @@ fn cut_or_more(ended: bool, front: Front) -> Taken
 }
 
 // The request of a head, as far as its body has come.
-fn take_front(
-    alloc: Global,
-    bytes: &[u8],
-    ended: bool,
-    front: Front,
-) -> Result<Taken, NoMemory>
+fn take_front(alloc: Global, bytes: &[u8], ended: bool, front: Front) -> Result<Taken, NoMemory>
     requires { HasFront bytes.now front }
     ensures { IfOk result (IsTaken bytes.now ended) }
 {

@@ -1,4 +1,4 @@
-use Rattle.std.proofs.Common.{ℕ, List, drop, take, subst, inl, inr}
+use Rattle.std.proofs.Common.{ℕ, List, drop, subst, inl, inr}
 use Rattle.httparse.specs.Grammar.{HasNoChunkLine, NeverHasChunkLine, MayBecomeChunkLine}
 use Rattle.cd_wire.proofs.LineLemmas.{line_found, no_line_in_front, short_may}
 use Rattle.cd_wire.proofs.chunks.read_line.Goals as goal
