@@ -1,4 +1,4 @@
-//! The body behind a head: so many bytes, or chunks.
+//! The body after a head: so many bytes, or chunks.
 ghost use Rattle.std.specs.Prelude.{◌≡◌, ℕ, ◌≤◌, ◌+◌, List, length, take, drop, IfOk};
 ghost use Rattle.cd_wire.specs.Chunks.{HasChunks, framing_of, IsBodyKept, IsBodyRead};
 ghost use Rattle.cd_wire.specs.declared.framing.Framing.TheVariants.{Length, Chunked};
