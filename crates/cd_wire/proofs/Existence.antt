@@ -1,6 +1,7 @@
 -- No input that has ended is without requests and a tail.
-use Rattle.std.proofs.Common.{inl, inr, ◌≡◌, ℕ, zero, suc, ◌<◌, ◌≤◌, true, List, [], ◌∷◌, length, refl, ap, arith, length-append, Result, Ok, Err}
-use Rattle.httparse.specs.Grammar.{print_request}
+use Rattle.std.proofs.Common.{inl, inr, ◌≡◌, ℕ, zero, suc, ◌<◌, ◌≤◌, true, List, [], ◌∷◌, ◌++◌, length, refl, ap, arith, length-append, Result, Ok, Err}
+use Rattle.httparse.specs.Grammar.{print_request, print_chunk_line}
+use Rattle.httparse.specs.Ascii.{crlf_bytes}
 use Rattle.cd_wire.specs.declared.head.Head.{Head}
 use Rattle.cd_wire.specs.declared.request.Request.{Request}
 use Rattle.cd_wire.specs.declared.fault.WireFault.{WireFault}
@@ -9,9 +10,9 @@ use Rattle.cd_wire.specs.declared.framing.Framing.{Framing}
 use Rattle.cd_wire.specs.declared.framing.Framing.TheVariants.{Length, Chunked}
 use Rattle.cd_wire.specs.Heads.{BeginsHead, HasNoHead}
 use Rattle.cd_wire.specs.Framing.{judge}
-use Rattle.cd_wire.specs.Bodies.{BeginsBody, RefusesBody}
+use Rattle.cd_wire.specs.Bodies.{BeginsLine, BeginsChunks, BeginsBody, RefusesBody}
 use Rattle.cd_wire.specs.Requests.{BeginsRequest, HasNoRequest, HasRequests, Tail, clean, cut, refused}
-use Rattle.cd_wire.proofs.TakingLemmas.{ends_in_body, never_chunked}
+use Rattle.cd_wire.proofs.TakingLemmas.{ends_in_body}
 
 -- no requests and no tail are those of the input
 abbrev pub IsWithout : List ℕ → Type 0
@@ -26,14 +27,31 @@ less_after_head input head rest b =
     let whole = ap length b.reads.1 in
     omega (arith, simp length-append at whole)
 
+after_line : (text : List ℕ) (size : ℕ) (rest : List ℕ) → BeginsLine text size rest → length rest ≤ length text
+after_line text size rest b = omega (arith, ap length b.reads.1, length-append (print_chunk_line b.line) rest)
+
+after_chunks : (text : List ℕ) (pieces : List (List ℕ)) (rest : List ℕ) → BeginsChunks text pieces rest
+    → length rest ≤ length text
+after_chunks text [] rest b =
+    omega (arith, after_line text 0 (crlf_bytes ++ rest) b, length-append crlf_bytes rest)
+after_chunks text (piece ∷ pieces) rest b =
+    omega (
+      arith,
+      after_line text (length piece) b.1.after b.1.line,
+      ap length b.1.is,
+      length-append piece (crlf_bytes ++ b.0),
+      length-append crlf_bytes b.0,
+      after_chunks b.0 pieces rest b.2,
+    )
+
+after_body : (framing : Framing) (text body rest : List ℕ) → BeginsBody framing text body rest → length rest ≤ length text
+after_body (Length size) text body rest b = omega (arith, ap length b.0, length-append body rest)
+after_body Chunked text body rest b = after_chunks text b.0 rest b.1
+
 less_after_request : (input : List ℕ) (request : Request) (rest : List ℕ) → BeginsRequest input request rest
     → length rest < length input
-less_after_request input request rest b = by_framing b.framing b.judged b.delimited where
-  by_framing : (framing : Framing) → judge b.head ≡ Ok framing → BeginsBody framing b.after b.body rest
-      → length rest < length input
-  by_framing (Length size) judged body =
-      omega (arith, less_after_head input b.head b.after b.begins, ap length body.0, length-append b.body rest)
-  by_framing Chunked judged body = absurd (never_chunked b.head judged)
+less_after_request input request rest b =
+    omega (arith, less_after_head input b.head b.after b.begins, after_body b.framing b.after b.body rest b.delimited)
 
 -- ---- what begins with no request has a tail
 

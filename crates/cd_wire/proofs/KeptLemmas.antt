@@ -11,10 +11,14 @@ use Rattle.cd_wire.specs.declared.taking.Front.{Front}
 use Rattle.cd_wire.specs.declared.taking.Search.{Search}
 use Rattle.cd_wire.specs.declared.taking.Known.{Known}
 use Rattle.cd_wire.specs.declared.taking.Known.TheVariants as known
+use Rattle.cd_wire.specs.declared.bodies.Body.{Body}
+use Rattle.cd_wire.specs.declared.bodies.Body.TheVariants as body
 use Rattle.cd_wire.specs.Heads.{BeginsHead, MayBecomeHead}
+use Rattle.cd_wire.specs.Bodies.{ChunksThen}
+use Rattle.cd_wire.specs.Chunks.{HasChunks, IsBodyKept}
 use Rattle.cd_wire.specs.Scanning.{scan}
 use Rattle.cd_wire.specs.Taking.{IsScanned, IsSearch, HasFront, IsKept}
-use Rattle.cd_wire.proofs.RequestLaws.{BeginsHead-append}
+use Rattle.cd_wire.proofs.RequestLaws.{BeginsHead-append, ChunksThen-append}
 
 -- ---- what may become a head
 
@@ -82,13 +86,31 @@ all_searched input scanned is may = record {
 
 -- ---- a piece was appended
 
-front_push : (input piece : List ℕ) (front : Front) → HasFront input front → HasFront (input ++ piece) front
-front_push input piece front f = record {
-  within = omega (arith, f.within, length-append input piece);
-  begins = subst (λ (rest : List ℕ). BeginsHead (input ++ piece) front.head rest) (sym (drop-append-le front.len input piece f.within))
-      (BeginsHead-append input front.head (drop front.len input) piece f.begins);
-  judged = f.judged;
+chunks_push : (text piece : List ℕ) (at : ℕ) (found : List ℕ) → HasChunks text at found → HasChunks (text ++ piece) at found
+chunks_push text piece at found h = record {
+  within = omega (arith, h.within, length-append text piece);
+  pieces = h.pieces;
+  chunks = subst (λ (t : List ℕ). ChunksThen (text ++ piece) h.pieces t) (sym (drop-append-le at text piece h.within))
+      (ChunksThen-append text h.pieces (drop at text) piece h.chunks);
+  is = h.is;
+  fits = h.fits;
 }
+
+body_push : (text piece : List ℕ) (kept : Body) → IsBodyKept text kept → IsBodyKept (text ++ piece) kept
+body_push text piece (body.Sized size) k = k
+body_push text piece (body.Chunks chunks) k = chunks_push text piece chunks.at chunks.found k
+
+front_push : (input piece : List ℕ) (front : Front) → HasFront input front → HasFront (input ++ piece) front
+front_push input piece front f =
+    let rest : drop front.len input ++ piece ≡ drop front.len (input ++ piece) =
+    sym (drop-append-le front.len input piece f.within) in
+    record {
+      within = omega (arith, f.within, length-append input piece);
+      begins = subst (λ (t : List ℕ). BeginsHead (input ++ piece) front.head t) rest
+          (BeginsHead-append input front.head (drop front.len input) piece f.begins);
+      judged = f.judged;
+      kept = subst (λ (t : List ℕ). IsBodyKept t front.body) rest (body_push (drop front.len input) piece front.body f.kept);
+    }
 
 search_push : (input piece : List ℕ) (search : Search) → IsSearch input search → IsSearch (input ++ piece) search
 search_push input piece search s = record {

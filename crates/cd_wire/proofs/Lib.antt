@@ -11,3 +11,5 @@ pub mod TailLaws
 pub mod Existence
 pub mod ScanLemmas
 pub mod KeptLemmas
+pub mod LineLemmas
+pub mod BodyLemmas

@@ -12,7 +12,7 @@ use Rattle.cd_wire.specs.declared.framing.Framing.{Framing}
 use Rattle.cd_wire.specs.declared.framing.Framing.TheVariants.{Length, Chunked}
 use Rattle.cd_wire.specs.Heads.{BeginsHead, head_of}
 use Rattle.cd_wire.specs.Framing.{judge, request_of}
-use Rattle.cd_wire.specs.Bodies.{BeginsLine, BeginsChunk, BeginsChunks, joined, BeginsBody}
+use Rattle.cd_wire.specs.Bodies.{BeginsLine, BeginsChunk, BeginsChunks, ChunksThen, joined, BeginsBody}
 use Rattle.cd_wire.specs.Requests.{BeginsRequest, Splits, HasNoRequest, HasRequests, Tail}
 
 -- ---- more bytes change nothing of what has begun
@@ -50,6 +50,12 @@ pub BeginsChunks-append : (text : List ℕ) (pieces : List (List ℕ)) (rest mor
 BeginsChunks-append text [] rest more b = BeginsLine-append text 0 (crlf_bytes ++ rest) more b
 BeginsChunks-append text (piece ∷ pieces) rest more b =
     (b.0 ++ more, BeginsChunk-append text piece b.0 more b.1, BeginsChunks-append b.0 pieces rest more b.2)
+
+pub ChunksThen-append : (text : List ℕ) (pieces : List (List ℕ)) (rest more : List ℕ)
+    → ChunksThen text pieces rest → ChunksThen (text ++ more) pieces (rest ++ more)
+ChunksThen-append text [] rest more so = ap (λ t. t ++ more) so
+ChunksThen-append text (piece ∷ pieces) rest more so =
+    (so.0 ++ more, BeginsChunk-append text piece so.0 more so.1, ChunksThen-append so.0 pieces rest more so.2)
 
 pub BeginsBody-append : (framing : Framing) (text body rest more : List ℕ)
     → BeginsBody framing text body rest → BeginsBody framing (text ++ more) body (rest ++ more)

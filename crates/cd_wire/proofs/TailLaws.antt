@@ -1,16 +1,14 @@
 -- An input has one list of requests, and one tail.
 use Rattle.std.proofs.Common.{inl, inr, ◌≡◌, ℕ, Bool, true, false, List, [], ◌∷◌, length, refl, sym, ap, ◌∙◌, subst, arith, Result, Ok, Err}
-use Rattle.cd_wire.specs.declared.head.Head.{Head}
 use Rattle.cd_wire.specs.declared.request.Request.{Request}
 use Rattle.cd_wire.specs.declared.fault.WireFault.{WireFault}
 use Rattle.cd_wire.specs.declared.framing.Framing.{Framing}
-use Rattle.cd_wire.specs.declared.framing.Framing.TheVariants.{Length, Chunked}
 use Rattle.cd_wire.specs.Heads.{BeginsHead}
-use Rattle.cd_wire.specs.Framing.{judge}
 use Rattle.cd_wire.specs.Bodies.{RefusesBody}
 use Rattle.cd_wire.specs.Requests.{BeginsRequest, Splits, HasNoRequest, HasRequests, Tail, HasTail, RefusesAfterHead, EndsInBody, clean, cut, refused, more_may_come}
 use Rattle.cd_wire.proofs.RequestLaws.{BeginsRequest-unique}
-use Rattle.cd_wire.proofs.TakingLemmas.{empty_no_head, never_chunked, same_verdict}
+use Rattle.cd_wire.proofs.BodyLemmas.{one_body_fault}
+use Rattle.cd_wire.proofs.TakingLemmas.{empty_no_head, same_verdict}
 
 -- ---- requests
 
@@ -45,23 +43,32 @@ no_fault_at_end rest ended fault t e =
 both_ways : (ended : Bool) → ended ≡ true → ended ≡ false → ⊥
 both_ways ended is is_not = cc
 
--- a fault behind a head is one of the head
-of_the_head : (head : Head) (after : List ℕ) (framing : Framing) (fault : WireFault)
-    → judge head ≡ Ok framing → RefusesBody framing after fault → ⊥
-of_the_head head after (Length size) fault judged refuses = refuses
-of_the_head head after Chunked fault judged refuses = never_chunked head judged
-
-head_fault : (rest : List ℕ) (fault : WireFault) (r : RefusesAfterHead rest fault) → judge r.0 ≡ Err fault
-head_fault rest fault r =
-    elim r.3 [ inl refuses ↦ refuses | inr body ↦ absurd (of_the_head r.0 r.1 body.0 fault body.1 body.2) ]
+-- a head is refused or not
+not_both : {f : WireFault} {g : Framing} → ◌≡◌ {A = Result Framing WireFault} (Err f) (Ok g) → ⊥
+not_both {f} {g} e = cc
 
 err_same : {f g : WireFault} → ◌≡◌ {A = Result Framing WireFault} (Err f) (Err g) → f ≡ g
 err_same {f} {g} e = cc
 
+ok_same : {f g : Framing} → ◌≡◌ {A = Result Framing WireFault} (Ok f) (Ok g) → f ≡ g
+ok_same {f} {g} e = cc
+
 one_fault : (rest : List ℕ) (fault other : WireFault) → RefusesAfterHead rest fault → RefusesAfterHead rest other → fault ≡ other
 one_fault rest fault other r q =
     let same = same_verdict rest r.0 q.0 r.1 q.1 r.2 q.2 in
-    err_same (sym (head_fault rest fault r) ∙ same.0 ∙ head_fault rest other q)
+    elim r.3 [
+      | inl head ↦ elim q.3 [
+        | inl head-too ↦ err_same (sym head ∙ same.0 ∙ head-too)
+        | inr body ↦ absurd (not_both (sym head ∙ same.0 ∙ body.1))
+      ]
+      | inr body ↦ elim q.3 [
+        | inl head ↦ absurd (not_both (sym head ∙ sym same.0 ∙ body.1))
+        | inr body-too ↦
+            let framings : body.0 ≡ body-too.0 = ok_same (sym body.1 ∙ same.0 ∙ body-too.1) in
+            one_body_fault body-too.0 q.1 fault other
+            (subst (λ f. RefusesBody f q.1 fault) framings (subst (λ t. RefusesBody body.0 t fault) same.1 body.2)) body-too.2
+      ]
+    ]
 
 same_refusal : (rest : List ℕ) (ended : Bool) (fault other : WireFault)
     → HasTail rest ended (refused fault) → HasTail rest ended (refused other) → fault ≡ other

@@ -1,5 +1,4 @@
--- The bodies of requests (RFC 9112, sections 6 and 7.1): when a text begins with one, and when it never will. No head asks
--- for chunks yet.
+-- The bodies of requests (RFC 9112, sections 6 and 7.1): when a text begins with one, and when it never will.
 use Rattle.std.specs.Prelude.{◌≡◌, ℕ, ◌≤◌, ◌+◌, ◌<◌, ◌⊎◌, List, [], ◌∷◌, ◌++◌, length, take, drop}
 use Rattle.httparse.specs.Grammar.{ChunkLine, print_chunk_line, ReadsChunkLine, HasNoChunkLine, NeverHasChunkLine, chunk_size}
 use Rattle.httparse.specs.Ascii.{crlf_bytes}

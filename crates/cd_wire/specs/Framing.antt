@@ -13,7 +13,7 @@ use Rattle.cd_wire.specs.declared.request.Request.{Request}
 use Rattle.cd_wire.specs.declared.fault.WireFault.{WireFault}
 use Rattle.cd_wire.specs.declared.fault.WireFault.TheVariants.{BadTarget, BadHost, BadLength, BodyTooLong, UnknownCoding}
 use Rattle.cd_wire.specs.declared.framing.Framing.{Framing}
-use Rattle.cd_wire.specs.declared.framing.Framing.TheVariants.{Length}
+use Rattle.cd_wire.specs.declared.framing.Framing.TheVariants.{Length, Chunked}
 use Rattle.cd_wire.specs.Fields.{is_named, values}
 use Rattle.cd_wire.specs.Targets.{has_scheme, authority_of, raw_path, query_of, is_target}
 
@@ -39,12 +39,22 @@ framing_by_length [] = Ok (Length 0)
 framing_by_length (value ∷ []) = if is_length value then sized (digits_value 10 value) else Err BadLength
 framing_by_length (value ∷ other ∷ more) = Err BadLength
 
+-- the coding is `chunked`, in any case (RFC 9112, section 7)
+abbrev pub is_chunked : List ℕ → Bool
+is_chunked coding = bytes_eq (str_to_ascii_lowercase coding) (codes "chunked")
+
+-- by the values of Transfer-Encoding alone: one field that has the one coding `chunked`, since no other is known (RFC 9112,
+-- section 6.1)
+abbrev pub framing_by_codings : List ℕ → List (List ℕ) → Result Framing WireFault
+framing_by_codings coding [] = if is_chunked coding then Ok Chunked else Err UnknownCoding
+framing_by_codings coding (other ∷ more) = Err UnknownCoding
+
 -- by the values of Transfer-Encoding and Content-Length: never by both, and no coding in HTTP/1.0 (RFC 9112, sections 6.1 and
--- 6.3). No coding is known yet
+-- 6.3)
 abbrev pub framing_by : ℕ → List (List ℕ) → List (List ℕ) → Result Framing WireFault
 framing_by minor [] lengths = framing_by_length lengths
 framing_by minor (coding ∷ codings) (length ∷ lengths) = Err BadLength
-framing_by minor (coding ∷ codings) [] = if minor == 0 then Err BadLength else Err UnknownCoding
+framing_by minor (coding ∷ codings) [] = if minor == 0 then Err BadLength else framing_by_codings coding codings
 
 -- the first fault of the head, or how its body is delimited
 unfoldable pub judge : Head → Result Framing WireFault

@@ -5,6 +5,7 @@ pub mod Framing
 pub mod Bodies
 pub mod Requests
 pub mod Scanning
+pub mod Chunks
 pub mod Taking
 pub mod Intake
 pub mod Faults

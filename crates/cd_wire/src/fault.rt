@@ -11,11 +11,12 @@ pub enum WireFault {
     BadTarget,
     /// There is not the one Host that the version wants, or its value has a byte that it may not have (RFC 9112, section 3.2).
     BadHost,
-    /// What says how long the body is says it in no way, or in more than one (RFC 9112, section 6.3).
+    /// What says how long the body is says it in no way, or in more than one (RFC 9112, section 6.3); or a chunk of it is
+    /// malformed (section 7.1).
     BadLength,
-    /// The body is longer than `MAX_BODY_BYTES`.
+    /// The body is longer than `MAX_BODY_BYTES`, by its length or by the sizes of its chunks so far.
     BodyTooLong,
-    /// The body has a coding that is not known (RFC 9112, section 6.1).
+    /// The body has another coding than `chunked` alone (RFC 9112, section 6.1).
     UnknownCoding,
 }
 

@@ -3,6 +3,6 @@
 pub(crate) enum Framing {
     /// It has so many bytes.
     Length(usize),
-    /// It comes in chunks, which no head asks for yet.
+    /// It comes in chunks, up to one without data.
     Chunked,
 }

@@ -1,10 +1,11 @@
-ghost use Rattle.std.specs.Prelude.{◌≡◌, ◌≤◌, length, map, take, IfOk};
+ghost use Rattle.std.specs.Prelude.{◌≡◌, ◌≤◌, length, map, IfOk};
 ghost use Rattle.httparse.specs.Borrowed.{header_parts};
 ghost use Rattle.cd_wire.specs.Heads.{field_of};
 ghost use Rattle.cd_wire.specs.Taking.{IsHeadRead, IsFrontRead};
 
 use crate::Field;
 use crate::limits::{MAX_HEAD_BYTES, MAX_HEAD_FIELDS};
+use crate::texts::front_of;
 use cd_text::{List, NoMemory, Octets, Text};
 use httparse::{EMPTY_HEADER, Header, Status};
 use std::alloc::Global;
@@ -75,19 +76,6 @@ fn read_head(alloc: Global, bytes: &[u8]) -> Result<HeadRead, NoMemory>
         }
         Ok(Status::Partial) => Ok(HeadRead::Partial),
         Err(_) => Ok(HeadRead::Hopeless),
-    }
-}
-
-// The first bytes of the text, so many at most.
-fn front_of(text: &[u8], most: usize) -> &[u8]
-    ensures value { result.now ≡ take most text.now }
-    ensures short { length result.now ≤ most }
-    ensures within { length result.now ≤ length text.now }
-{
-    if text.len() <= most {
-        text
-    } else {
-        &text[..most]
     }
 }
 

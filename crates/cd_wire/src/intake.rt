@@ -1,11 +1,10 @@
 ghost use Rattle.std.specs.Prelude.{◌≡◌, ◌==◌, ◌≤◌, ◌+◌, [], ◌++◌, length, drop, IfOk, OnErr, if◌then◌else◌, is_ok};
 ghost use Rattle.std.specs.Vec.{vec_len, vec_capacity};
 ghost use Rattle.cd_wire.specs.Intake.{IsNext};
-ghost use Rattle.cd_wire.specs.declared.intake.Next.TheVariants as next;
 
 use crate::fault::WireFault;
 use crate::request::Request;
-use crate::taking::{Begun, Known, find_front, is_whole, no_search, take_front};
+use crate::taking::{Known, Taken, no_search, take_request};
 use crate::texts::rest_from;
 use cd_text::NoMemory;
 use std::alloc::Global;
@@ -29,8 +28,8 @@ pub enum Next {
 
 /// The bytes of a connection that have come and that no request has taken yet.
 ///
-/// What was read of the head at their front is kept, so that bytes that come one by one are not read again and again. What
-/// was taken is dropped: it is never more than what is left.
+/// What was read of the request at their front is kept: its head, and the data of its whole chunks. So bytes that come one by
+/// one are not read again and again. What was taken is dropped: it is never more than what is left.
 ///
 ///     buffer:   taken bytes   bytes that are left
 ///               0             start                 buffer.len()
@@ -78,13 +77,6 @@ fn drop_taken(buffer: &mut Vec<u8>, taken: usize) -> usize
     0
 }
 
-// An input that ends in a body.
-fn cut_or_more(ended: bool) -> Next
-    ensures { result ≡ (if ended then next.Cut else next.More) }
-{
-    if ended { Next::Cut } else { Next::More }
-}
-
 impl Intake {
     /// No bytes. It takes no memory.
     pub fn new(alloc: Global) -> Intake
@@ -123,23 +115,19 @@ impl Intake {
     {
         let rest = rest_from(self.buffer.as_slice(), self.start);
         let known = mem::replace(&mut self.known, Known::Search(no_search()));
-        let begun = find_front(self.alloc, rest, ended, known)?;
-        match begun {
-            Begun::Front(front) => {
-                if !is_whole(rest, &front) {
-                    self.known = Known::Front(front);
-                    return Ok(cut_or_more(ended));
-                }
-                let (request, len) = take_front(self.alloc, rest, front)?;
+        let taken = take_request(self.alloc, rest, ended, known)?;
+        match taken {
+            Taken::Request(request, len) => {
                 self.start = drop_taken(&mut self.buffer, self.start + len);
                 Ok(Next::Request(request))
             }
-            Begun::More(search) => {
-                self.known = Known::Search(search);
+            Taken::More(known) => {
+                self.known = known;
                 Ok(Next::More)
             }
-            Begun::End => Ok(Next::End),
-            Begun::Refused(fault) => Ok(Next::Refused(fault)),
+            Taken::End => Ok(Next::End),
+            Taken::Cut => Ok(Next::Cut),
+            Taken::Refused(fault) => Ok(Next::Refused(fault)),
         }
     }
 }

@@ -4,7 +4,7 @@ ghost use Rattle.std.specs.List.{list_all};
 ghost use Rattle.std.specs.Char.{is_ascii_graphic, is_ascii_digit};
 ghost use Rattle.std.specs.Str.Parse.{digits_value};
 ghost use Rattle.cd_wire.specs.Fields.{values};
-ghost use Rattle.cd_wire.specs.Framing.{is_host, sized, framing_by_length, framing_by, judge};
+ghost use Rattle.cd_wire.specs.Framing.{is_host, sized, framing_by_length, framing_by_codings, framing_by, judge};
 ghost use Rattle.cd_wire.specs.declared.limits.TheConstants.{MAX_BODY_BYTES};
 
 use crate::fault::WireFault;
@@ -13,6 +13,7 @@ use crate::framing::Framing;
 use crate::head::Head;
 use crate::limits::MAX_BODY_BYTES;
 use crate::targets::is_target;
+use crate::texts::is_text;
 
 fn all_visible(bytes: &[u8]) -> bool
     ensures { result ≡ list_all is_ascii_graphic bytes.now }
@@ -81,9 +82,24 @@ fn framing_by_length(fields: &[Field]) -> Result<Framing, WireFault>
     }
 }
 
-// Where there is a Transfer-Encoding.
-fn framing_by_coding(minor: u8, fields: &[Field]) -> Result<Framing, WireFault>
-    ensures { (coding : List ℕ) (codings : List (List ℕ))
+// By one Transfer-Encoding alone.
+fn framing_by_coding(coding: &[u8]) -> Result<Framing, WireFault>
+    ensures { result ≡ framing_by_codings coding.now [] }
+{
+    if is_text(coding, b"chunked") {
+        Ok(Framing::Chunked)
+    } else {
+        Err(WireFault::UnknownCoding)
+    }
+}
+
+// Where there is a Transfer-Encoding, which alone gives this framing.
+fn framing_if_alone(
+    minor: u8,
+    fields: &[Field],
+    alone: Result<Framing, WireFault>,
+) -> Result<Framing, WireFault>
+    ensures { (coding : List ℕ) (codings : List (List ℕ)) → alone ≡ framing_by_codings coding codings
         → result ≡ framing_by minor (coding ∷ codings) (values (codes "content-length") fields.now) }
 {
     match find_field(fields, "content-length") {
@@ -91,7 +107,7 @@ fn framing_by_coding(minor: u8, fields: &[Field]) -> Result<Framing, WireFault>
             if minor == 0 {
                 Err(WireFault::BadLength)
             } else {
-                Err(WireFault::UnknownCoding)
+                alone
             }
         }
         Found::One(_) => Err(WireFault::BadLength),
@@ -105,8 +121,8 @@ fn framing_by(minor: u8, fields: &[Field]) -> Result<Framing, WireFault>
 {
     match find_field(fields, "transfer-encoding") {
         Found::Nothing => framing_by_length(fields),
-        Found::One(_) => framing_by_coding(minor, fields),
-        Found::Several => framing_by_coding(minor, fields),
+        Found::One(coding) => framing_if_alone(minor, fields, framing_by_coding(coding)),
+        Found::Several => framing_if_alone(minor, fields, Err(WireFault::UnknownCoding)),
     }
 }
 

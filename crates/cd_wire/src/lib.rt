@@ -2,8 +2,8 @@
 //!
 //! `Intake` takes the bytes of a connection in any pieces and gives its requests, one after another: what a call finds is
 //! specs/Intake.antt. The requests of an input are a relation over all its bytes (specs/Requests.antt), where the grammar of
-//! a head is `httparse`'s. `requests_are_unique`, `requests_exist`, `requests_stay` and `splits_stay` are its laws. Bodies are
-//! read by their length; a coding is not known yet.
+//! a head is `httparse`'s. `requests_are_unique`, `requests_exist`, `requests_stay` and `splits_stay` are its laws. A body has the
+//! length that its head gives, or comes in chunks; no other coding is known.
 //!
 //! `render` gives exactly the bytes that specs/Render.antt defines for an answer. `fields_go_by_name` says of the order of
 //! fields there what a reader wants to know of it. `refusal` gives the fixed answers, which take no memory.
@@ -15,6 +15,8 @@
 
 mod answer;
 mod asking;
+mod bodies;
+mod chunks;
 mod fault;
 mod fields;
 mod framing;

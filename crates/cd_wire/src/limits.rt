@@ -7,5 +7,5 @@ pub const MAX_HEAD_FIELDS: usize = 64;
 /// The most bytes of a body.
 pub const MAX_BODY_BYTES: usize = 1_048_576;
 
-/// The most bytes of the line before the data of a chunk, with its line end (RFC 9112, section 7.1). No head asks for chunks yet.
+/// The most bytes of the line before the data of a chunk, with its line end (RFC 9112, section 7.1).
 pub const MAX_CHUNK_LINE_BYTES: usize = 1_024;

@@ -20,7 +20,8 @@ pub struct Request {
     pub minor: u8,
     /// The fields of the head, in their order. Host is among them as sent, also where an absolute target has another host.
     pub fields: List<Field>,
-    /// The body, which is empty where there is none: at most `MAX_BODY_BYTES`.
+    /// The body, which is empty where there is none: at most `MAX_BODY_BYTES`. Of one in chunks it is their data (RFC 9112,
+    /// section 7.1).
     pub body: Octets,
     /// Whether the client wants the connection closed after the answer: with HTTP/1.0, or by `close` in a Connection field
     /// (RFC 9112, section 9.6).

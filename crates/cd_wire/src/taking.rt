@@ -1,29 +1,30 @@
 //! The request at the front of an input: its head, once that has come, and then its body.
-ghost use Rattle.std.specs.Prelude.{◌≡◌, ℕ, ◌≤◌, ◌<◌, ◌+◌, List, [], true, false, nat_lt, length, drop, IfOk, IfSome};
+ghost use Rattle.std.specs.Prelude.{◌≡◌, ℕ, ◌≤◌, ◌<◌, ◌+◌, List, [], true, false, nat_lt, length, drop, IfOk};
 ghost use Rattle.cd_wire.specs.Heads.{BeginsHead};
-ghost use Rattle.cd_wire.specs.Requests.{BeginsRequest};
 ghost use Rattle.cd_wire.specs.Scanning.{scan, is_over};
-ghost use Rattle.cd_wire.specs.Taking.{IsScanned, IsSearch, HasFront, IsKept, IsBegun};
+ghost use Rattle.cd_wire.specs.Taking.{IsScanned, IsSearch, HasFront, IsKept, IsBegun, IsTaken};
 ghost use Rattle.cd_wire.specs.declared.scanning.Line.TheVariants as place;
+ghost use Rattle.cd_wire.specs.declared.taking.Known.TheVariants as known;
+ghost use Rattle.cd_wire.specs.declared.taking.Taken.TheVariants as taken;
 
 use crate::asking::request_of;
+use crate::bodies::{Body, BodyRead, read_body, unread};
 use crate::fault::WireFault;
-use crate::framing::Framing;
 use crate::head::{Head, HeadRead, read_front};
 use crate::judging::judge;
 use crate::limits::MAX_HEAD_BYTES;
 use crate::request::Request;
 use crate::scanning::{Line, Scanned, is_over, scan_on};
 use crate::texts::rest_from;
-use cd_text::{NoMemory, Octets};
+use cd_text::NoMemory;
 use std::alloc::Global;
 
-/// The head at the front of an input, which is not refused: how many bytes it has, and how many its body has.
+/// The head at the front of an input, which is not refused: how many bytes it has, and what is known of its body.
 #[derive(Drop)]
 pub(crate) struct Front {
     pub head: Head,
     pub len: usize,
-    pub size: usize,
+    pub body: Body,
 }
 
 /// How far the head at the front of an input was looked for.
@@ -35,21 +36,31 @@ pub(crate) struct Search {
     pub parsed: usize,
 }
 
-/// What is known of the head at the front of an input.
+/// What is known of the request at the front of an input.
 #[derive(Drop)]
 pub(crate) enum Known {
-    /// It has not come.
+    /// Its head has not come.
     Search(Search),
-    /// It was read and is not refused, and its body has not come whole.
+    /// Its head was read and is not refused, and its body has not come whole.
     Front(Front),
 }
 
-/// What an input begins with: a head that is not refused, or why there is none.
+// What an input begins with: a head that is not refused, or why there is none.
 #[derive(Drop)]
 pub(crate) enum Begun {
     Front(Front),
     More(Search),
     End,
+    Refused(WireFault),
+}
+
+/// What an input begins with: a request and how many bytes it has, or why there is none.
+#[derive(Drop)]
+pub(crate) enum Taken {
+    Request(Request, usize),
+    More(Known),
+    End,
+    Cut,
     Refused(WireFault),
 }
 
@@ -67,15 +78,18 @@ pub(crate) fn no_search() -> Search
 }
 
 // A head that was read, or its fault.
-fn judged(bytes: &[u8], ended: bool, head: Head, len: usize) -> Begun
+fn judged(alloc: Global, bytes: &[u8], ended: bool, head: Head, len: usize) -> Begun
     requires within { len ≤ length bytes.now }
     requires begins { BeginsHead bytes.now head (drop len bytes.now) }
     ensures { IsBegun bytes.now ended result }
 {
     match judge(&head) {
         Err(fault) => Begun::Refused(fault),
-        Ok(Framing::Length(size)) => Begun::Front(Front { head, len, size }),
-        Ok(Framing::Chunked) => unreachable!(),
+        Ok(framing) => Begun::Front(Front {
+            head,
+            len,
+            body: unread(alloc, framing),
+        }),
     }
 }
 
@@ -92,7 +106,7 @@ fn parse_front(
 {
     let read = read_front(alloc, bytes)?;
     match read {
-        HeadRead::Whole(head, len) => Ok(judged(bytes, ended, head, len)),
+        HeadRead::Whole(head, len) => Ok(judged(alloc, bytes, ended, head, len)),
         HeadRead::Partial if ended => Ok(Begun::Refused(WireFault::BadHead)),
         HeadRead::Partial => Ok(Begun::More(Search {
             scanned,
@@ -155,13 +169,8 @@ fn search_on(alloc: Global, bytes: &[u8], ended: bool, search: Search) -> Result
     Ok(without_head(bytes, ended, Search { scanned, parsed }))
 }
 
-/// What an input begins with, where this is known of it.
-pub(crate) fn find_front(
-    alloc: Global,
-    bytes: &[u8],
-    ended: bool,
-    known: Known,
-) -> Result<Begun, NoMemory>
+// The head at the front of an input of which this is known.
+fn find_front(alloc: Global, bytes: &[u8], ended: bool, known: Known) -> Result<Begun, NoMemory>
     requires { IsKept bytes.now known }
     ensures { IfOk result (IsBegun bytes.now ended) }
 {
@@ -171,29 +180,50 @@ pub(crate) fn find_front(
     }
 }
 
-/// Whether the whole body has come.
-pub(crate) fn is_whole(bytes: &[u8], front: &Front) -> bool
-    requires { front.now.len ≤ length bytes.now }
-    ensures value { result ≡ true → front.now.len + front.now.size ≤ length bytes.now }
-    ensures other { result ≡ false → length bytes.now < front.now.len + front.now.size }
+// An input that ends in a body.
+fn cut_or_more(ended: bool, front: Front) -> Taken
+    ensures cut { ended ≡ true → result ≡ taken.Cut }
+    ensures more { ended ≡ false → result ≡ taken.More (known.Front front) }
 {
-    bytes.len() - front.len >= front.size
+    if ended {
+        Taken::Cut
+    } else {
+        Taken::More(Known::Front(front))
+    }
 }
 
-/// The request of a head whose body has come, and how many bytes both have.
-pub(crate) fn take_front(
+// The request of a head, as far as its body has come.
+fn take_front(alloc: Global, bytes: &[u8], ended: bool, front: Front) -> Result<Taken, NoMemory>
+    requires { HasFront bytes.now front }
+    ensures { IfOk result (IsTaken bytes.now ended) }
+{
+    let Front { head, len, body } = front;
+    let read = read_body(alloc, rest_from(bytes, len), body)?;
+    match read {
+        BodyRead::Whole(body, size) => {
+            let request = request_of(alloc, head, body)?;
+            Ok(Taken::Request(request, len + size))
+        }
+        BodyRead::Going(body) => Ok(cut_or_more(ended, Front { head, len, body })),
+        BodyRead::Refused(fault) => Ok(Taken::Refused(fault)),
+    }
+}
+
+/// The request at the front of an input of which this is known.
+pub(crate) fn take_request(
     alloc: Global,
     bytes: &[u8],
-    front: Front,
-) -> Result<(Request, usize), NoMemory>
-    requires has { HasFront bytes.now front }
-    requires whole { front.len + front.size ≤ length bytes.now }
-    ensures len { IfOk result (λ taken. taken.1 ≤ length bytes.now) }
-    ensures begins { IfOk result (λ taken. BeginsRequest bytes.now taken.0 (drop taken.1 bytes.now)) }
+    ended: bool,
+    known: Known,
+) -> Result<Taken, NoMemory>
+    requires { IsKept bytes.now known }
+    ensures { IfOk result (IsTaken bytes.now ended) }
 {
-    let Front { head, len, size } = front;
-    let rest = rest_from(bytes, len);
-    let body = Octets::from_slice(alloc, &rest[..size])?;
-    let request = request_of(alloc, head, body)?;
-    Ok((request, len + size))
+    let begun = find_front(alloc, bytes, ended, known)?;
+    match begun {
+        Begun::Front(front) => take_front(alloc, bytes, ended, front),
+        Begun::More(search) => Ok(Taken::More(Known::Search(search))),
+        Begun::End => Ok(Taken::End),
+        Begun::Refused(fault) => Ok(Taken::Refused(fault)),
+    }
 }

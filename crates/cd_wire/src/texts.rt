@@ -1,5 +1,5 @@
 //! Parts of texts, texts whose case does not count, and white space around them.
-ghost use Rattle.std.specs.Prelude.{◌≡◌, ◌≤◌, length, drop, reverse};
+ghost use Rattle.std.specs.Prelude.{◌≡◌, ◌≤◌, length, take, drop, reverse};
 ghost use Rattle.std.specs.Str.{bytes_eq, str_to_ascii_lowercase};
 ghost use Rattle.httparse.specs.Grammar.{is_ows, skip_ows, trim_ows};
 
@@ -9,6 +9,19 @@ pub(crate) fn rest_from(bytes: &[u8], at: usize) -> &[u8]
     ensures { result.now ≡ drop at bytes.now }
 {
     &bytes[at..]
+}
+
+/// The first bytes of the text, so many at most.
+pub(crate) fn front_of(text: &[u8], most: usize) -> &[u8]
+    ensures value { result.now ≡ take most text.now }
+    ensures short { length result.now ≤ most }
+    ensures within { length result.now ≤ length text.now }
+{
+    if text.len() <= most {
+        text
+    } else {
+        &text[..most]
+    }
 }
 
 /// Whether the bytes are this text of lower case, in any case.
