@@ -1,10 +1,9 @@
 -- Fields by name in settings, with texts for their values.
-use Rattle.std.specs.Prelude.{ℕ, Bool, codes, Option, Some, None, if◌then◌else◌, List, [], ◌∷◌, map, fold, Ok, Err}
-use Rattle.std.specs.Ordering.{nat_cmp, is_le}
+use Rattle.std.specs.Prelude.{ℕ, codes, Option, Some, None, if◌then◌else◌, List, [], map, Ok, Err}
 use Rattle.std.specs.Str.{bytes_eq}
-use Rattle.std.specs.Cmp.Lexicographic.{slice_cmp}
 use Rattle.http_header.specs.Token.{lowercase}
 use Rattle.http_header.specs.FieldName.{is_field_name}
+use Rattle.cd_text.specs.ByKey.{by_key}
 use Rattle.cd_text.specs.Steps.{◌▷◌}
 use Rattle.cd_module.specs.Faults.{refused}
 use Rattle.cd_module.specs.Settings.{Reader, text, list_of, object_of}
@@ -21,19 +20,9 @@ field_values name t at =
     then (list_of text t at ▷ λ values. Ok (record { name = lowercase name; values = values }))
     else Err (refused BadValue at)
 
--- the first field's name is not greater than the second's
-abbrev pub name_le : FieldValues → FieldValues → Bool
-name_le one other = is_le (slice_cmp nat_cmp one.name other.name)
-
--- one more field among fields by rising name: behind all whose names are not greater
-abbrev pub put_by_name : FieldValues → List FieldValues → List FieldValues
-put_by_name field [] = field ∷ []
-put_by_name field (other ∷ others) =
-    if name_le other field then other ∷ put_by_name field others else field ∷ (other ∷ others)
-
 -- the fields by rising name, and equal names in their order
 abbrev pub by_name : List FieldValues → List FieldValues
-by_name fields = fold (λ sorted field. put_by_name field sorted) [] fields
+by_name fields = by_key (λ field. field.name) fields
 
 -- an object of fields, which are read as their names rise as written
 unfoldable pub field_list : Reader FieldList

@@ -1,9 +1,9 @@
 //! Fields by name, with texts for their values.
-ghost use Rattle.std.specs.Prelude.{◌≡◌, ◌≤◌, ◌&&◌, nat_lt, nat_le, length, OnOk, IfOk};
-ghost use Rattle.std.specs.List.{list_all, prefix_len};
+ghost use Rattle.std.specs.Prelude.{◌≡◌, ◌&&◌, nat_lt, nat_le, length, IfOk};
+ghost use Rattle.std.specs.List.{list_all};
 ghost use Rattle.http_header.specs.Token.{token_test};
 ghost use Rattle.http_header.specs.FieldName.{is_field_name};
-ghost use Rattle.cd_handlers.specs.FieldValues.{field_values, field_list, request_field, request_field_list, name_le, put_by_name, by_name, fields_or_none, bare, request_fields_or_none};
+ghost use Rattle.cd_handlers.specs.FieldValues.{field_values, field_list, request_field, request_field_list, by_name, fields_or_none, bare, request_fields_or_none};
 
 use cd_module::{LoadFault, LoadKind, Named, Settings, object_by_name};
 use cd_text::{List, NoMemory, Text};
@@ -68,43 +68,12 @@ impl Named for FieldValues {
     }
 }
 
-fn is_name_le(one: &FieldValues, other: &FieldValues) -> bool
-    ensures { result ≡ name_le one.now other.now }
-{
-    one.name.cmp(&other.name).is_le()
-}
-
-// How many fields at the front have names that are not greater.
-fn place_of(sorted: &[FieldValues], field: &FieldValues) -> usize
-    ensures within { result ≤ length sorted.now }
-    ensures place { result ≡ prefix_len (λ other. name_le other field.now) sorted.now }
-{
-    let mut place = 0;
-    for other in sorted {
-        if !is_name_le(other, field) {
-            return place;
-        }
-        place += 1;
-    }
-    place
-}
-
-fn put_by_name(sorted: &mut List<FieldValues>, field: FieldValues) -> Result<(), NoMemory>
-    ensures { OnOk result (sorted.new ≡ put_by_name field sorted.old) }
-{
-    let place = place_of(sorted.as_slice(), &field);
-    sorted.insert(place, field)?;
-    Ok(())
-}
-
-fn by_name(alloc: Global, fields: List<FieldValues>) -> Result<List<FieldValues>, NoMemory>
+fn by_name(fields: List<FieldValues>) -> Result<List<FieldValues>, NoMemory>
     ensures { IfOk result (λ sorted. sorted ≡ by_name fields) }
 {
-    let mut sorted = List::new(alloc);
-    for field in fields.into_vec() {
-        put_by_name(&mut sorted, field)?;
-    }
-    Ok(sorted)
+    let mut sorted = fields.into_vec();
+    sorted.sort_by(|one, other| one.name.cmp(&other.name))?;
+    Ok(List::from_vec(sorted))
 }
 
 impl Settings for FieldList {
@@ -113,7 +82,7 @@ impl Settings for FieldList {
     #[tactic(auto, unfolding(crate::specs::FieldValues::field_list))]
     fn read(alloc: Global, tree: &Tree, at: &Path) -> Result<FieldList, LoadFault> {
         let fields = object_by_name::<FieldValues>(alloc, tree, at)?;
-        let fields = by_name(alloc, fields)?;
+        let fields = by_name(fields)?;
         Ok(FieldList { fields })
     }
 }
@@ -175,7 +144,7 @@ impl Settings for RequestFieldList {
     #[tactic(auto, unfolding(crate::specs::FieldValues::request_field_list))]
     fn read(alloc: Global, tree: &Tree, at: &Path) -> Result<RequestFieldList, LoadFault> {
         let fields = object_by_name::<RequestField>(alloc, tree, at)?;
-        let fields = by_name(alloc, bare(alloc, fields)?)?;
+        let fields = by_name(bare(alloc, fields)?)?;
         Ok(RequestFieldList { fields })
     }
 }

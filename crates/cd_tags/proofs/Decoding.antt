@@ -4,8 +4,9 @@ use Rattle.std.specs.Prelude.{if◌then◌else◌}
 use Rattle.std.specs.Str.{IsUtf8, is_utf8}
 use Rattle.std.proofs.lemmas.Str.{IsUtf8-from_is_utf8, is_utf8-from_IsUtf8}
 use Rattle.percent_encoding.specs.Percent.{percent_decode}
+use Rattle.cd_text.specs.Escapes.{escapes_are_whole}
 use Rattle.cd_text.specs.Steps.{◌▷◌}
-use Rattle.cd_tags.specs.IfMatch.{whole_escapes, decoded, all_decoded}
+use Rattle.cd_tags.specs.IfMatch.{decoded, all_decoded}
 use Rattle.cd_tags.specs.declared.fault.IfMatchFault.{IfMatchFault}
 use Rattle.cd_tags.specs.declared.fault.IfMatchFault.TheVariants.{Malformed}
 
@@ -19,12 +20,12 @@ not_utf8 : (bytes : List ℕ) → (b : Bool) → is_utf8 bytes ≡ b → (IsUtf8
 not_utf8 bytes true e never = absurd (never (IsUtf8-from_is_utf8 bytes e))
 not_utf8 bytes false e never = e
 
-pub is_text : (part bytes : List ℕ) → whole_escapes part ≡ true → bytes ≡ percent_decode part → IsUtf8 bytes → decoded part ≡ Ok bytes
+pub is_text : (part bytes : List ℕ) → escapes_are_whole part ≡ true → bytes ≡ percent_decode part → IsUtf8 bytes → decoded part ≡ Ok bytes
 is_text part bytes whole is utf8 =
     ap (λ b. chosen b (is_utf8 (percent_decode part)) (percent_decode part)) whole ∙ ap (λ bs. chosen true (is_utf8 bs) bs) (sym is)
     ∙ ap (λ b. chosen true b bytes) (is_utf8-from_IsUtf8 bytes utf8)
 
-pub is_no_text : (part bytes : List ℕ) → whole_escapes part ≡ true → bytes ≡ percent_decode part → (IsUtf8 bytes → ⊥) → decoded part ≡ Err Malformed
+pub is_no_text : (part bytes : List ℕ) → escapes_are_whole part ≡ true → bytes ≡ percent_decode part → (IsUtf8 bytes → ⊥) → decoded part ≡ Err Malformed
 is_no_text part bytes whole is never =
     ap (λ b. chosen b (is_utf8 (percent_decode part)) (percent_decode part)) whole ∙ ap (λ bs. chosen true (is_utf8 bs) bs) (sym is)
     ∙ ap (λ b. chosen true b bytes) (not_utf8 bytes (is_utf8 bytes) refl never)

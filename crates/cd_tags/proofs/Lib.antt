@@ -3,5 +3,4 @@ pub mod Parts
 pub mod Ascii
 pub mod Decoding
 pub mod Forms
-pub mod Owed
 pub mod ReadBack

@@ -1,5 +1,5 @@
 -- What a tag is written of is read back.
-use Rattle.std.proofs.Common.{◌≡◌, ◌≢◌, ℕ, zero, suc, ◌*◌, ◌/◌, ◌%◌, ◌^◌, ◌<◌, ◌==◌, ◌&&◌, ◌||◌, Bool, true, false, cond, nat_lt, List, [], ◌∷◌, ◌++◌, length, map, Result, Ok, Err, Option, refl, sym, ap, ap₂, ◌∙◌, subst, arith, length-append, inl, inr, true≢false}
+use Rattle.std.proofs.Common.{◌≡◌, ◌≢◌, ℕ, zero, suc, ◌*◌, ◌/◌, ◌%◌, ◌^◌, ◌<◌, ◌==◌, ◌&&◌, ◌||◌, Bool, true, false, not, cond, nat_lt, List, [], ◌∷◌, ◌++◌, length, map, Result, Ok, Err, Option, refl, sym, ap, ap₂, ◌∙◌, subst, arith, length-append, inl, inr, true≢false}
 use Rattle.std.specs.Prelude.{All, slice_index}
 use Rattle.std.specs.Char.{is_ascii_hexdigit}
 use Rattle.std.specs.Fmt.{digit_glyph}
@@ -18,6 +18,7 @@ use Rattle.sha2.specs.Sha256.{sha256, digest_bytes}
 use Rattle.sha2.proofs.Facts256.{length-sha256}
 use Rattle.percent_encoding.specs.Percent.{percent_encode_byte, percent_decode}
 use Rattle.percent_encoding.proofs.PercentLemmas.{percent_decode-percent_encode_byte, percent_decode_not_percent, percent_decode-nil}
+use Rattle.cd_text.specs.Escapes.{begins_with_digits, escapes_are_whole}
 use Rattle.cd_text.specs.Steps.{◌▷◌}
 use Rattle.cd_tree.proofs.Outcomes.{chained}
 use Rattle.cd_tree.specs.Tree.{text}
@@ -26,7 +27,6 @@ use Rattle.cd_tree.specs.declared.tree.Tree.{Tree}
 use Rattle.cd_path.specs.Looking.{look, or_null}
 use Rattle.cd_path.specs.declared.fault.EditFault.{EditFault}
 use Rattle.cd_tags.specs.Encoding.{is_unreserved, encoded_byte, encoded, encoded_parts, tag_text}
-use Rattle.cd_tags.specs.Framed.{escapes_owed}
 use Rattle.cd_tags.specs.IfMatch.{is_lower_hex, IsDigest, is_path_byte, decoded, all_decoded, split_path, parts_of_path, IsTagOf}
 use Rattle.cd_tags.specs.Parts.{are_bytes, is_text, are_texts}
 use Rattle.cd_tags.specs.Tags.{digest, digest_found, digest_at, tag_of, is_digest, tag_holds}
@@ -34,7 +34,6 @@ use Rattle.cd_tags.specs.declared.fault.IfMatchFault.TheVariants.{Malformed}
 use Rattle.cd_tags.specs.declared.fault.TagFault.{TagFault}
 use Rattle.cd_tags.specs.declared.if_match.Tag.{Tag}
 use Rattle.cd_tags.proofs.Forms.{one_tag}
-use Rattle.cd_tags.proofs.Owed.{whole_is_owed}
 
 -- ---- bytes
 
@@ -49,10 +48,25 @@ glyph_is d h =
 plain_is : (b : ℕ) → is_unreserved b ≡ true → (b ≢ 37) × ((b == 37) ≡ false)
 plain_is b h = elim (cases_eq b 37) [ inl e ↦ absurd (true≢false (sym h ∙ ap is_unreserved e)) | inr n ↦ (n, ne_eqb b 37 n) ]
 
+-- a byte other than `%` needs no digits after it
+no_escape : (b : ℕ) (rest : List ℕ) → (b == 37) ≡ false → escapes_are_whole (b ∷ rest) ≡ escapes_are_whole rest
+no_escape b rest other = ap (λ t. (not t || begins_with_digits rest) && escapes_are_whole rest) other
+
+-- a digit is such a byte
+digit_first : (c : ℕ) (rest : List ℕ) → is_ascii_hexdigit c ≡ true → escapes_are_whole (c ∷ rest) ≡ escapes_are_whole rest
+digit_first c rest h =
+    no_escape c rest (elim (cases_eq c 37) [ inl e ↦ absurd (true≢false (sym h ∙ ap is_ascii_hexdigit e)) | inr n ↦ ne_eqb c 37 n ])
+
+-- an escape is whole, and what follows it decides
+escape_first : (c d : ℕ) (rest : List ℕ) → is_ascii_hexdigit c ≡ true → is_ascii_hexdigit d ≡ true
+    → escapes_are_whole (37 ∷ c ∷ d ∷ rest) ≡ escapes_are_whole rest
+escape_first c d rest h k =
+    ap₂ (λ u v. (u && v) && escapes_are_whole (c ∷ d ∷ rest)) h k ∙ digit_first c (d ∷ rest) h ∙ digit_first d rest k
+
 -- what a written byte says of the text that goes on after it
 record Written (b : ℕ) (written rest : List ℕ) : Type 0 where
   pub parts : list_all is_part_byte written ≡ true
-  pub whole : escapes_owed 0 (written ++ rest) ≡ escapes_owed 0 rest
+  pub whole : escapes_are_whole (written ++ rest) ≡ escapes_are_whole rest
   pub back : percent_decode (written ++ rest) ≡ b ∷ percent_decode rest
   pub some : 0 < length written
 
@@ -61,7 +75,7 @@ kept b rest h =
     let p = plain_is b h in
     record {
       parts = ap (λ u. (u || (b == 37)) && true) h;
-      whole = ap (λ e. escapes_owed (cond e 2 0) rest) p.1;
+      whole = no_escape b rest p.1;
       back = percent_decode_not_percent b rest p.0;
       some = omega arith;
     }
@@ -73,7 +87,7 @@ escaped b rest small =
     let low = glyph_is (b % 16) (omega arith) in
     record {
       parts = rw (high.0, low.0) refl;
-      whole = rw (high.1, low.1) refl;
+      whole = escape_first (digit_glyph true (b / 16 % 16)) (digit_glyph true (b % 16)) rest high.1 low.1;
       back = percent_decode-percent_encode_byte b rest small;
       some = omega arith;
     }
@@ -89,7 +103,7 @@ all_both p xs ys h k = list_all-append p xs ys ∙ ap₂ (λ a b. a && b) h k
 
 record Part (s : List ℕ) : Type 0 where
   pub parts : list_all is_part_byte (encoded s) ≡ true
-  pub whole : escapes_owed 0 (encoded s) ≡ true
+  pub whole : escapes_are_whole (encoded s) ≡ true
   pub back : percent_decode (encoded s) ≡ s
 
 part_written : (s : List ℕ) → are_bytes s ≡ true → Part s
@@ -109,7 +123,7 @@ part_back : (s : List ℕ) → is_text s ≡ true → decoded (encoded s) ≡ Ok
 part_back s h =
     let both = and_parts (is_utf8 s) _ h in
     let p = part_written s both.1 in
-    ap (λ w. cond (w && is_utf8 (percent_decode (encoded s))) (Ok (percent_decode (encoded s))) (Err Malformed)) (whole_is_owed (encoded s) ∙ p.whole)
+    ap (λ w. cond (w && is_utf8 (percent_decode (encoded s))) (Ok (percent_decode (encoded s))) (Err Malformed)) p.whole
     ∙ ap (λ t. cond (is_utf8 t) (Ok t) (Err Malformed)) p.back ∙ ap (λ u. cond u (Ok s) (Err Malformed)) both.0
 
 all_back : (parts : List (List ℕ)) → are_texts parts ≡ true → all_decoded (map encoded parts) ≡ Ok parts

@@ -1,6 +1,5 @@
 -- A value taken apart at its places, for the clauses of private functions.
-use Rattle.std.specs.Prelude.{ℕ, ◌+◌, ◌-◌, ◌==◌, ◌&&◌, Bool, nat_le, nat_lt, nat_eq, if◌then◌else◌, List, [], ◌∷◌, length, slice_index, codes, Result, Ok, Err}
-use Rattle.std.specs.Char.{is_ascii_hexdigit}
+use Rattle.std.specs.Prelude.{ℕ, ◌+◌, ◌-◌, ◌==◌, ◌&&◌, Bool, nat_le, nat_eq, if◌then◌else◌, List, length, slice_index, codes, Result, Ok, Err}
 use Rattle.std.specs.List.{list_all, slice_range, starts_with}
 use Rattle.cd_text.specs.Steps.{◌▷◌}
 use Rattle.cd_tags.specs.IfMatch.{is_lower_hex, parts_of_path}
@@ -39,8 +38,3 @@ framed_tag value = parts_of_path (path_in value) ▷ λ parts. Ok (record { path
 -- the tag that the value gives, or that it has another form
 abbrev pub tag_in : List ℕ → Result Tag IfMatchFault
 tag_in value = if is_framed value then framed_tag value else Err Malformed
-
--- the escapes of a part are whole where so many digits are still owed to the last `%`
-abbrev pub escapes_owed : ℕ → List ℕ → Bool
-escapes_owed owed [] = owed == 0
-escapes_owed owed (b ∷ rest) = if nat_lt 0 owed then is_ascii_hexdigit b && escapes_owed (owed - 1) rest else escapes_owed (if b == 37 then 2 else 0) rest

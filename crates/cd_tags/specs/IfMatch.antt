@@ -1,9 +1,9 @@
 -- The form of an If-Match value, and the tag that it gives.
-use Rattle.std.specs.Prelude.{◌≡◌, ℕ, ◌==◌, ◌&&◌, ◌||◌, Bool, nat_le, if◌then◌else◌, List, [], ◌∷◌, length, Result, Ok, Err, IsTrue, not, true, false}
-use Rattle.std.specs.Char.{is_ascii_hexdigit}
+use Rattle.std.specs.Prelude.{◌≡◌, ℕ, ◌==◌, ◌&&◌, ◌||◌, Bool, nat_le, if◌then◌else◌, List, [], ◌∷◌, length, Result, Ok, Err, IsTrue}
 use Rattle.std.specs.List.{list_all, slice_split}
 use Rattle.std.specs.Str.{is_utf8}
 use Rattle.percent_encoding.specs.Percent.{percent_decode}
+use Rattle.cd_text.specs.Escapes.{escapes_are_whole}
 use Rattle.cd_text.specs.Steps.{◌▷◌}
 use Rattle.cd_tags.specs.Encoding.{is_unreserved, framed}
 use Rattle.cd_tags.specs.declared.fault.IfMatchFault.{IfMatchFault}
@@ -28,20 +28,9 @@ pub record IsDigest (hex : List ℕ) : Type 0 where
 abbrev pub is_path_byte : ℕ → Bool
 is_path_byte b = is_unreserved b || ((b == 37) || (b == 47))
 
--- two hexadecimal digits come first
-abbrev pub begins_with_digits : List ℕ → Bool
-begins_with_digits [] = false
-begins_with_digits (a ∷ []) = false
-begins_with_digits (a ∷ b ∷ rest) = is_ascii_hexdigit a && is_ascii_hexdigit b
-
--- each `%` has two hexadecimal digits after it
-abbrev pub whole_escapes : List ℕ → Bool
-whole_escapes [] = true
-whole_escapes (b ∷ rest) = (not (b == 37) || begins_with_digits rest) && whole_escapes rest
-
 -- what a part decodes to, which is a text
 abbrev pub decoded : List ℕ → Result (List ℕ) IfMatchFault
-decoded part = if whole_escapes part && is_utf8 (percent_decode part) then Ok (percent_decode part) else Err Malformed
+decoded part = if escapes_are_whole part && is_utf8 (percent_decode part) then Ok (percent_decode part) else Err Malformed
 
 -- part by part
 abbrev pub all_decoded : List (List ℕ) → Result (List (List ℕ)) IfMatchFault

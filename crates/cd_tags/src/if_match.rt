@@ -1,15 +1,15 @@
 ghost use Rattle.std.specs.Prelude.{◌≡◌, ◌==◌, length, Err, IfOk, IsTrue};
 ghost use Rattle.std.specs.List.{list_all, slice_split};
 ghost use Rattle.cd_text.specs.Gives.{Gives};
-ghost use Rattle.cd_tags.specs.IfMatch.{IsTagOf, is_lower_hex, is_path_byte, whole_escapes, decoded, all_decoded, parts_of_path};
+ghost use Rattle.cd_tags.specs.IfMatch.{IsTagOf, is_lower_hex, is_path_byte, decoded, all_decoded, parts_of_path};
 ghost use Rattle.cd_tags.specs.Encoding.{is_unreserved};
-ghost use Rattle.cd_tags.specs.Framed.{tag_in, is_framed, is_closing, escapes_owed};
+ghost use Rattle.cd_tags.specs.Framed.{tag_in, is_framed, is_closing};
 ghost use Rattle.cd_tags.specs.declared.fault.IfMatchFault.TheVariants.{Malformed};
 ghost use Rattle.cd_tags.specs.declared.if_match.Tag.{Tag};
 
 use crate::fault::IfMatchFault;
 use crate::limits::{CLOSING_BYTES, OPENING_BYTES};
-use cd_text::{List, NoMemory, Text, parts_of};
+use cd_text::{List, NoMemory, Text, escapes_are_whole, parts_of};
 use cd_tree::Path;
 use percent_encoding::percent_decode;
 use std::alloc::Global;
@@ -153,7 +153,7 @@ fn all_decoded(alloc: Global, path: &str) -> Result<List<Text>, IfMatchFault>
 fn decoded(alloc: Global, part: &str) -> Result<Text, IfMatchFault>
     ensures { Gives IfMatchFault.NoMemory result (decoded part.now) }
 {
-    if !has_whole_escapes(part.as_bytes()) {
+    if !escapes_are_whole(part.as_bytes()) {
         return Err(IfMatchFault::Malformed);
     }
     let mut bytes = Vec::new(alloc);
@@ -162,29 +162,4 @@ fn decoded(alloc: Global, part: &str) -> Result<Text, IfMatchFault>
         Ok(text) => Ok(Text::from_str(alloc, text)?),
         Err(_) => Err(IfMatchFault::Malformed),
     }
-}
-
-/// Whether each `%` has two hexadecimal digits after it.
-fn has_whole_escapes(part: &[u8]) -> bool
-    ensures { result ≡ whole_escapes part.now }
-{
-    owes_no_digit(part)
-}
-
-/// The same by a count of the digits that are owed to the last `%`.
-fn owes_no_digit(part: &[u8]) -> bool
-    ensures { result ≡ escapes_owed 0 part.now }
-{
-    let mut owed: u8 = 0;
-    for byte in part {
-        if owed > 0 {
-            if !byte.is_ascii_hexdigit() {
-                return false;
-            }
-            owed -= 1;
-        } else if *byte == b'%' {
-            owed = 2;
-        }
-    }
-    owed == 0
 }

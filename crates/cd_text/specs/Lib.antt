@@ -2,3 +2,5 @@ pub mod formers
 pub mod Gives
 pub mod Steps
 pub mod Numbers
+pub mod ByKey
+pub mod Escapes

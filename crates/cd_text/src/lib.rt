@@ -9,6 +9,7 @@
 //! such definitions, with `refused_where` for a test and `some_or` for a value that may not be there.
 #![tactic(auto)]
 
+mod escapes;
 mod list;
 mod memory;
 mod numbers;
@@ -16,6 +17,7 @@ mod octets;
 mod parts;
 mod text;
 
+pub use escapes::escapes_are_whole;
 pub use list::List;
 pub use memory::NoMemory;
 pub use numbers::{decimal, number_of};

@@ -4,8 +4,6 @@ pub mod FrontLemmas
 pub mod TakingLemmas
 pub mod NumberLemmas
 pub mod FieldLemmas
-pub mod OrderLemmas
-pub mod RenderLemmas
 pub mod MemberLemmas
 pub mod TailLaws
 pub mod Existence

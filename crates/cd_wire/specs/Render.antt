@@ -3,10 +3,9 @@ use Rattle.std.specs.Prelude.{◌≡◌, ℕ, ◌⊎◌, Bool, true, false, ◌&
 use Rattle.std.specs.List.{flat_map}
 use Rattle.std.specs.Char.{to_ascii_uppercase}
 use Rattle.std.specs.Str.{bytes_eq, str_to_ascii_lowercase}
-use Rattle.std.specs.Ordering.{nat_cmp, is_le}
-use Rattle.std.specs.Cmp.Lexicographic.{slice_cmp}
 use Rattle.httparse.specs.Ascii.{tab, space, del, crlf_bytes}
 use Rattle.http.specs.StatusCode.{reason_phrase}
+use Rattle.cd_text.specs.ByKey.{by_key}
 use Rattle.cd_wire.specs.declared.fields.Field.{Field}
 use Rattle.cd_wire.specs.declared.answer.Answer.{Answer}
 
@@ -21,20 +20,9 @@ is_sent field =
     && not (has_name (codes "connection") field)
     && not (has_name (codes "transfer-encoding") field)
 
--- the first field's name is not greater than the second's
-abbrev pub name_le : Field → Field → Bool
-name_le one other = is_le (slice_cmp nat_cmp one.name other.name)
-
--- one more field among fields by rising name: before the first whose name is not less
-abbrev pub put_by_name : Field → List Field → List Field
-put_by_name field [] = field ∷ []
-put_by_name field (other ∷ others) =
-    if name_le field other then field ∷ (other ∷ others) else other ∷ put_by_name field others
-
 -- the fields by rising name, and equal names in their order: what that says is the law `fields_go_by_name`
 abbrev pub by_name : List Field → List Field
-by_name [] = []
-by_name (field ∷ fields) = put_by_name field (by_name fields)
+by_name fields = by_key (λ field. field.name) fields
 
 -- a letter that begins the name or follows `-` in upper case; any other byte there stays
 abbrev pub titled : Bool → List ℕ → List ℕ

@@ -1,8 +1,9 @@
 -- The target of a request, and its parts (RFC 9112, section 3.2; RFC 3986, sections 2.1 and 3).
-use Rattle.std.specs.Prelude.{ℕ, ◌+◌, Bool, true, false, ◌&&◌, ◌||◌, not, List, [], ◌∷◌, length, drop, take, codes, ◌==◌, nat_eq, nat_lt, if◌then◌else◌, Option, Some, None}
+use Rattle.std.specs.Prelude.{ℕ, ◌+◌, Bool, ◌&&◌, ◌||◌, not, List, [], ◌∷◌, length, drop, take, codes, ◌==◌, nat_eq, nat_lt, if◌then◌else◌, Option, Some, None}
 use Rattle.std.specs.List.{list_all, starts_with, before_first, after_first, position_or_len}
-use Rattle.std.specs.Char.{is_ascii_graphic, is_ascii_hexdigit}
+use Rattle.std.specs.Char.{is_ascii_graphic}
 use Rattle.std.specs.Str.{bytes_eq, str_to_ascii_lowercase}
+use Rattle.cd_text.specs.Escapes.{escapes_are_whole}
 
 -- `?`
 abbrev pub is_question_mark : ℕ → Bool
@@ -47,17 +48,6 @@ abbrev pub query_of : List ℕ → Option (List ℕ)
 query_of target =
     if nat_lt (position_or_len is_question_mark target) (length target)
     then Some (after_first is_question_mark target) else None
-
--- two hexadecimal digits come first
-abbrev pub begins_with_digits : List ℕ → Bool
-begins_with_digits [] = false
-begins_with_digits (a ∷ []) = false
-begins_with_digits (a ∷ b ∷ bytes) = is_ascii_hexdigit a && is_ascii_hexdigit b
-
--- each `%` has two hexadecimal digits behind it
-abbrev pub escapes_are_whole : List ℕ → Bool
-escapes_are_whole [] = true
-escapes_are_whole (byte ∷ bytes) = (not (byte == 37) || begins_with_digits bytes) && escapes_are_whole bytes
 
 -- the origin form, the absolute form with an authority, or the asterisk form, which OPTIONS alone has
 abbrev pub has_form : List ℕ → List ℕ → Bool

@@ -1,10 +1,10 @@
 //! The target of a request, and its parts.
 ghost use Rattle.std.specs.Prelude.{◌≡◌, ℕ, true, length, IfOk};
 ghost use Rattle.std.specs.List.{list_all, before_first, position};
-ghost use Rattle.cd_wire.specs.Targets.{is_question_mark, is_target_byte, scheme_length, has_scheme, ends_authority, authority_of, local_part, raw_path, query_of, escapes_are_whole, begins_with_digits, has_form, is_target};
+ghost use Rattle.cd_wire.specs.Targets.{is_question_mark, is_target_byte, scheme_length, has_scheme, ends_authority, authority_of, local_part, raw_path, query_of, has_form, is_target};
 
 use crate::texts::is_text;
-use cd_text::{NoMemory, Octets, Text};
+use cd_text::{NoMemory, Octets, Text, escapes_are_whole};
 use std::alloc::Global;
 
 /// Whether the target begins with `http://`.
@@ -73,29 +73,6 @@ pub(crate) fn query_of(alloc: Global, target: &[u8]) -> Result<Option<Octets>, N
     match question_mark(target) {
         Some(end) => Ok(Some(Octets::from_slice(alloc, &target[end + 1..])?)),
         None => Ok(None),
-    }
-}
-
-// Whether each `%` has two hexadecimal digits behind it.
-fn escapes_are_whole(mut path: &[u8]) -> bool
-    ensures { result ≡ escapes_are_whole path.now }
-{
-    while let [first, rest @ ..] = path {
-        if *first == b'%' && !begins_with_digits(rest) {
-            return false;
-        }
-        path = rest;
-    }
-    true
-}
-
-// Whether two hexadecimal digits come first.
-fn begins_with_digits(text: &[u8]) -> bool
-    ensures { result ≡ begins_with_digits text.now }
-{
-    match text {
-        [first, second, ..] => first.is_ascii_hexdigit() && second.is_ascii_hexdigit(),
-        _ => false,
     }
 }
 
