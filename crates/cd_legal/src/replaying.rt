@@ -8,7 +8,7 @@ ghost use Rattle.cd_legal.specs.Steps.{Steps};
 use crate::drafting::{abandon, draft, halt, publish};
 use crate::making::{end_part, open_part};
 use crate::part::Part;
-use crate::tickets::{begin, finish, retire};
+use crate::tickets::retire;
 use crate::{Entry, ReplayFault, State};
 use cd_text::{List, NoMemory};
 use std::alloc::Global;
@@ -18,7 +18,7 @@ use std::alloc::Global;
 pub fn replay(alloc: Global, entries: &[Entry]) -> Result<State, ReplayFault>
     ensures { Gives OutOfMemory result (replayed entries.now) }
 {
-    let mut state = opening(alloc);
+    let mut state = State::opening(alloc);
     for place in 0..entries.len() {
         if !step(alloc, &mut state, &entries[place])? {
             return Err(ReplayFault::NotAllowed(place));
@@ -27,17 +27,20 @@ pub fn replay(alloc: Global, entries: &[Entry]) -> Result<State, ReplayFault>
     Ok(state)
 }
 
-fn opening(alloc: Global) -> State
-    ensures { result ≡ opening_state }
-{
-    State {
-        serial: 0,
-        halted: false,
-        published: List::new(alloc),
-        drafts: List::new(alloc),
-        tickets: List::new(alloc),
-        retired: List::new(alloc),
-        pairs: List::new(alloc),
+impl State {
+    /// The state of the empty history.
+    pub fn opening(alloc: Global) -> State
+        ensures { result ≡ opening_state }
+    {
+        State {
+            serial: 0,
+            halted: false,
+            published: List::new(alloc),
+            drafts: List::new(alloc),
+            tickets: List::new(alloc),
+            retired: List::new(alloc),
+            pairs: List::new(alloc),
+        }
     }
 }
 
@@ -58,8 +61,8 @@ fn step(alloc: Global, state: &mut State, entry: &Entry) -> Result<bool, NoMemor
         }
         Entry::Abandon(draft) => abandon(alloc, state, *draft),
         Entry::Stopped(draft, place) => end_part(alloc, state, Part::App, *draft, *place),
-        Entry::Begin(caller, serial) => begin(state, *caller, *serial),
-        Entry::Finish(caller) => finish(alloc, state, *caller),
+        Entry::Begin(caller, serial) => state.begin(*caller, *serial),
+        Entry::Finish(caller) => Ok(state.finish(alloc, *caller)),
         Entry::Retire(serial) => retire(state, *serial),
         Entry::Cleaned(draft, place) => end_part(alloc, state, Part::Instance, *draft, *place),
         Entry::Halt(serial) => halt(state, *serial),

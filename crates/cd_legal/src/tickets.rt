@@ -1,4 +1,4 @@
-ghost use Rattle.std.specs.Prelude.{◌≡◌};
+ghost use Rattle.std.specs.Prelude.{◌≡◌, OnErr, Ok};
 ghost use Rattle.cd_legal.specs.declared.entry.Entry.TheVariants.{Begin, Finish, Retire};
 ghost use Rattle.cd_legal.specs.State.{all_stopped, apps_stopped, has_ticket, is_ticketed, without_ticket, draft_of, of_draft};
 ghost use Rattle.cd_legal.specs.Legal.{may_retire};
@@ -73,26 +73,31 @@ fn may_retire(state: &State, serial: u32) -> bool
         && !is_ticketed(serial, state.tickets.as_slice())
 }
 
-/// The step of `Entry::Begin`.
-pub(crate) fn begin(state: &mut State, caller: u32, serial: u32) -> Result<bool, NoMemory>
-    ensures { Steps state.old (Begin caller serial) result state.new }
-{
-    if serial != state.serial || has_ticket(caller, state.tickets.as_slice()) {
-        return Ok(false);
+impl State {
+    /// Makes the change of `Entry::Begin`, and answers whether it is allowed: where the serial is the current one and the caller
+    /// has no open ticket. Where it is not, and after `NoMemory`, the state is as before.
+    pub fn begin(&mut self, caller: u32, serial: u32) -> Result<bool, NoMemory>
+        ensures step { Steps self.old (Begin caller serial) result self.new }
+        ensures err { OnErr result (self.new ≡ self.old) }
+    {
+        if serial != self.serial || has_ticket(caller, self.tickets.as_slice()) {
+            return Ok(false);
+        }
+        self.tickets.push(OpenTicket { caller, serial })?;
+        Ok(true)
     }
-    state.tickets.push(OpenTicket { caller, serial })?;
-    Ok(true)
-}
 
-/// The step of `Entry::Finish`.
-pub(crate) fn finish(alloc: Global, state: &mut State, caller: u32) -> Result<bool, NoMemory>
-    ensures { Steps state.old (Finish caller) result state.new }
-{
-    if !has_ticket(caller, state.tickets.as_slice()) {
-        return Ok(false);
+    /// Makes the change of `Entry::Finish`, and answers whether it is allowed: where the caller has an open ticket. Where it is
+    /// not the state is as before.
+    pub fn finish(&mut self, alloc: Global, caller: u32) -> bool
+        ensures { Steps self.old (Finish caller) (Ok result) self.new }
+    {
+        if !has_ticket(caller, self.tickets.as_slice()) {
+            return false;
+        }
+        drop_ticket(alloc, &mut self.tickets, caller);
+        true
     }
-    drop_ticket(alloc, &mut state.tickets, caller);
-    Ok(true)
 }
 
 /// The step of `Entry::Retire`.
