@@ -2,10 +2,11 @@
 //! addresses that it opens; each on a line.
 use crate::servers::refused;
 use cd_addr::write;
+use cd_legal::{Plan, PlanApp, PlanModule};
 use cd_module::LoadFault;
 use cd_outside::Key;
 use cd_rows::{Outcome, RowFault, bytes_at, only, tree_of};
-use cd_standard::{AppPlan, Plan, Planned, load};
+use cd_standard::load;
 use cd_text::{NoMemory, Octets};
 use cd_tree::Tree;
 use std::alloc::Global;
@@ -35,16 +36,15 @@ fn planned(alloc: Global, plan: &Plan) -> Result<Outcome, NoMemory> {
     })
 }
 
-fn put_module(alloc: Global, module: &Planned, out: &mut Octets) -> Result<(), NoMemory> {
-    let id = module.id.to_text(alloc)?;
+fn put_module(alloc: Global, module: &PlanModule, out: &mut Octets) -> Result<(), NoMemory> {
     let at = module.at.to_text(alloc)?;
-    out.append(id.as_str().as_bytes())?;
+    out.append(module.name.as_str().as_bytes())?;
     out.push(b' ')?;
     out.append(at.as_str().as_bytes())?;
     out.push(b'\n')
 }
 
-fn put_app(alloc: Global, app: &AppPlan, out: &mut Octets) -> Result<(), NoMemory> {
+fn put_app(alloc: Global, app: &PlanApp, out: &mut Octets) -> Result<(), NoMemory> {
     out.append(app.name.as_str().as_bytes())?;
     for key in app.keys.as_slice() {
         put_key(alloc, key, out)?;

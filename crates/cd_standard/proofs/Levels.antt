@@ -16,12 +16,12 @@ use Rattle.cd_routes.specs.declared.route.Route as ring
 use Rattle.cd_routes.specs.declared.route.Step.{Step}
 use Rattle.cd_routes.specs.declared.route.Step.TheVariants as step
 use Rattle.cd_routes.specs.declared.route.Subroute.{Subroute, out-Subroute}
-use Rattle.cd_standard.specs.Plans.{planned, in_elements, matcher_modules, set_modules, step_modules, route_modules, routes_modules, errors_modules, handler_module}
+use Rattle.cd_standard.specs.Plans.{planned, matcher_id, in_elements, matcher_modules, set_modules, step_modules, route_modules, routes_modules, errors_modules, handler_module}
 use Rattle.cd_standard.specs.Walking.{in_layer, in_matcher}
-use Rattle.cd_standard.specs.declared.plan.Planned.{Planned}
+use Rattle.cd_legal.specs.declared.plan.PlanModule.{PlanModule}
 
 matcher_rolled : (x : Matcher-F Matcher MatcherSet NotMatcher) (at : Path) → matcher_modules (roll-Matcher x) at
-    ≡ planned (codes "http" ∷ codes "matchers" ∷ kind_name (kind_layer x) ∷ []) (at ▸ kind_name (kind_layer x)) ∷ in_layer x (at ▸ kind_name (kind_layer x))
+    ≡ planned (matcher_id (kind_name (kind_layer x))) (at ▸ kind_name (kind_layer x)) ∷ in_layer x (at ▸ kind_name (kind_layer x))
 unfolding matcher_modules set_modules
 matcher_rolled (Matcher-F.Host m) at = search (rules, the_lemmas)
 matcher_rolled (Matcher-F.Path m) at = search (rules, the_lemmas)
@@ -32,7 +32,7 @@ matcher_rolled (Matcher-F.Vars m) at = search (rules, the_lemmas)
 matcher_rolled (Matcher-F.Not m) at = search (rules, the_lemmas)
 
 pub matcher_modules_is : (m : Matcher) (at : Path) → matcher_modules m at
-    ≡ planned (codes "http" ∷ codes "matchers" ∷ matcher_name m ∷ []) (at ▸ matcher_name m) ∷ in_matcher m (at ▸ matcher_name m)
+    ≡ planned (matcher_id (matcher_name m)) (at ▸ matcher_name m) ∷ in_matcher m (at ▸ matcher_name m)
 matcher_modules_is m at = ap (λ u. matcher_modules u at) (sym (roll-out-Matcher m)) ∙ matcher_rolled (out-Matcher m) at
 
 one_by_one : (ms : List Matcher) (at : Path) → flat_map (λ m. m at) (map matcher_modules ms) ≡ flat_map (λ m. matcher_modules m at) ms
@@ -68,7 +68,7 @@ handler_named h = search (rules, ring.the_lemmas)
 subroute_named : (s : Subroute) → step_name (step.Subroute s) ≡ subroute_name
 subroute_named s = search (rules, ring.the_lemmas)
 
-abbrev pub in_subroute : Subroute → Path → List Planned
+abbrev pub in_subroute : Subroute → Path → List PlanModule
 in_subroute s at = routes_modules (out-Subroute s).routes (at ▸ codes "routes") ++ errors_modules (out-Subroute s).errors at
 
 pub handler_step : (s : Step) (h : Handler) (at : Path) → s ≡ step.Handler h → handler_module (step_name s) at ∷ [] ≡ step_modules s at

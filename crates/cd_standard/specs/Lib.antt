@@ -2,3 +2,4 @@ pub mod Configuration
 pub mod Plans
 pub mod Loading
 pub mod Walking
+pub mod Acting

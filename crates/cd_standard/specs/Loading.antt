@@ -24,7 +24,7 @@ use Rattle.cd_standard.specs.declared.app.App.{App}
 use Rattle.cd_standard.specs.declared.app.App.TheVariants.{Echo, Http}
 use Rattle.cd_standard.specs.declared.configuration.Configuration.{Configuration}
 use Rattle.cd_standard.specs.declared.listening.Listened.{Listened}
-use Rattle.cd_standard.specs.declared.loading.Loaded.{Loaded}
+use Rattle.cd_standard.specs.declared.loading.Configured.{Configured}
 
 -- ---- ids
 
@@ -80,18 +80,18 @@ judged c =
     limits c ▷ λ _.
     all_distinct [] (addresses_of c)
 
-abbrev pub planned : Configuration → Loaded
+abbrev pub planned : Configuration → Configured
 planned c = record { configuration = c; plan = plan_of c }
 
-abbrev pub accepted : Configuration → Result Loaded LoadFault
+abbrev pub accepted : Configuration → Result Configured LoadFault
 accepted c = judged c ▷ λ _. Ok (planned c)
 
 -- settings come before all that is said of the whole
-abbrev pub of_settings : Tree → Result Loaded LoadFault
+abbrev pub of_settings : Tree → Result Configured LoadFault
 of_settings t = configuration t root ▷ λ c. accepted c
 
 -- ids come before settings
-abbrev pub of_object : Tree → Result Loaded LoadFault
+abbrev pub of_object : Tree → Result Configured LoadFault
 of_object t = of_ids (id_fault t) ▷ λ _. of_settings t
 
 -- what null says: nothing
@@ -99,13 +99,5 @@ abbrev pub nothing_said : Configuration
 nothing_said = record { admin = admin_or_usual None; apps = [] }
 
 -- null is a configuration, and all else is to be an object
-unfoldable pub loaded : Tree → Result Loaded LoadFault
+unfoldable pub loaded : Tree → Result Configured LoadFault
 loaded t = if is_null t then Ok (planned nothing_said) else (all_layer (out-Tree t) root ▷ λ _. of_object t)
-
-abbrev pub fault_in : Result Loaded LoadFault → Option LoadFault
-fault_in (Ok loaded) = None
-fault_in (Err fault) = Some fault
-
--- the first fault of a tree, if it has one
-abbrev pub verdict : Tree → Option LoadFault
-verdict t = fault_in (loaded t)

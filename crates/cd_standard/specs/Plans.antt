@@ -21,24 +21,31 @@ use Rattle.cd_standard.specs.declared.app.App.{App}
 use Rattle.cd_standard.specs.declared.app.App.TheVariants.{Echo, Http}
 use Rattle.cd_standard.specs.declared.configuration.Configuration.{Configuration}
 use Rattle.cd_standard.specs.declared.listening.Listened.{Listened}
-use Rattle.cd_standard.specs.declared.plan.AppPlan.{AppPlan}
-use Rattle.cd_standard.specs.declared.plan.Plan.{Plan}
-use Rattle.cd_standard.specs.declared.plan.Planned.{Planned}
+use Rattle.cd_legal.specs.declared.plan.PlanApp.{PlanApp}
+use Rattle.cd_legal.specs.declared.plan.Plan.{Plan}
+use Rattle.cd_legal.specs.declared.plan.PlanModule.{PlanModule}
 
 -- ---- modules
 
 -- the modules in a value, by the path of the value
 abbrev pub Modules : Type 0
-Modules = Path → List Planned
+Modules = Path → List PlanModule
 
 -- those in the elements of a list, from this place on
 abbrev pub in_elements : ℕ → List Modules → Modules
 in_elements place [] at = []
 in_elements place (first ∷ others) at = first (at ▸ decimal place) ++ in_elements (suc place) others at
 
--- a module that opens nothing
-abbrev pub planned : List (List ℕ) → Path → Planned
-planned labels at = record { id = record { labels = labels }; at = at; keys = [] }
+-- a module of this id, which opens nothing
+abbrev pub planned : List ℕ → Path → PlanModule
+planned id at = record { name = id; at = at; keys = [] }
+
+-- the ids of matchers and handlers, by their names
+abbrev pub matcher_id : List ℕ → List ℕ
+matcher_id name = codes "http.matchers." ++ name
+
+abbrev pub handler_id : List ℕ → List ℕ
+handler_id name = codes "http.handlers." ++ name
 
 -- ---- the modules of a route's matchers: a `not` before those of its sets
 
@@ -55,7 +62,7 @@ inside_matcher (Matcher-F.Not sets) at = sets at
 abbrev pub matcher_level : Matcher-F Modules Modules Modules → Modules
 matcher_level m at =
     let name = kind_name (kind_layer m) in
-    planned (codes "http" ∷ codes "matchers" ∷ name ∷ []) (at ▸ name) ∷ inside_matcher m (at ▸ name)
+    planned (matcher_id name) (at ▸ name) ∷ inside_matcher m (at ▸ name)
 
 abbrev pub set_level : MatcherSet-F Modules Modules Modules → Modules
 set_level set at = flat_map (λ m. m at) set.matchers
@@ -71,8 +78,8 @@ set_modules = fold-MatcherSet Modules Modules Modules matcher_level set_level no
 
 -- ---- the modules of a route: its matchers, then its handlers; a subroute before its routes, and those before its errors
 
-abbrev pub handler_module : List ℕ → Path → Planned
-handler_module name at = planned (codes "http" ∷ codes "handlers" ∷ name ∷ []) at
+abbrev pub handler_module : List ℕ → Path → PlanModule
+handler_module name at = planned (handler_id name) at
 
 abbrev pub step_level : Step-F Modules Modules Modules → Modules
 step_level (Step-F.Handler handler) at = handler_module (handler_name handler) at ∷ []
@@ -104,7 +111,7 @@ abbrev pub errors_modules : Option (List Route) → Modules
 errors_modules errors = in_errors (option_map (map route_modules) errors)
 
 -- its routes, then its error routes; a server itself is no module
-abbrev pub server_modules : Path → Server → List Planned
+abbrev pub server_modules : Path → Server → List PlanModule
 server_modules servers s = routes_modules s.routes (servers ▸ s.name ▸ codes "routes") ++ errors_modules s.errors (servers ▸ s.name)
 
 abbrev pub app_name : App → List ℕ
@@ -115,14 +122,14 @@ abbrev pub inside_app : App → Modules
 inside_app (Echo echo) at = []
 inside_app (Http http) at = flat_map (server_modules (at ▸ codes "servers")) http.servers
 
-abbrev pub app_modules : Path → App → List Planned
-app_modules apps app = planned (app_name app ∷ []) (apps ▸ app_name app) ∷ inside_app app (apps ▸ app_name app)
+abbrev pub app_modules : Path → App → List PlanModule
+app_modules apps app = planned (app_name app) (apps ▸ app_name app) ∷ inside_app app (apps ▸ app_name app)
 
 abbrev pub root : Path
 root = record { parts = [] }
 
 -- app after app
-abbrev pub modules_of : Configuration → List Planned
+abbrev pub modules_of : Configuration → List PlanModule
 modules_of c = flat_map (app_modules (root ▸ codes "apps")) c.apps
 
 -- ---- what is listened on
@@ -153,14 +160,14 @@ addresses_of c = admin_addresses c.admin ++ flat_map app_addresses c.apps
 
 -- ---- apps
 
-abbrev pub app_plan : List ℕ → List Listened → AppPlan
+abbrev pub app_plan : List ℕ → List Listened → PlanApp
 app_plan name addresses = record { name = name; keys = map (λ one. key.Listen one.address) addresses }
 
-abbrev pub admin_plans : Admin → List AppPlan
+abbrev pub admin_plans : Admin → List PlanApp
 admin_plans admin = if admin.disabled then [] else app_plan (codes "admin") (admin_addresses admin) ∷ []
 
 -- the admin API, then app after app
-abbrev pub apps_of : Configuration → List AppPlan
+abbrev pub apps_of : Configuration → List PlanApp
 apps_of c = admin_plans c.admin ++ map (λ app. app_plan (app_name app) (app_addresses app)) c.apps
 
 abbrev pub plan_of : Configuration → Plan

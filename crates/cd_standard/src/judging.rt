@@ -122,7 +122,8 @@ fn is_among(address: &Address, listened: &[Listened]) -> bool
     false
 }
 
-fn is_address(one: &Address, other: &Address) -> bool
+/// Whether two addresses have the same host and the same port. It takes no memory.
+pub fn is_address(one: &Address, other: &Address) -> bool
     ensures { result ≡ is_address one.now other.now }
 {
     one.host.equals(other.host.as_str()) && one.port == other.port

@@ -1,13 +1,16 @@
-//! The standard modules: what a whole configuration says, its first fault, and its plan of modules and apps.
+//! The standard modules: what a whole configuration says, its first fault, its plan of modules and apps, and what it does.
 //!
 //! `Configuration` is read out of a tree as all settings are (specs/Configuration.antt): `admin`, and `apps` with `echo` and
 //! `http`. What a configuration plans is in specs/Plans.antt: which modules are made, and which apps are started, each in its
 //! order, with what each opens. `load` gives what a tree comes to (`loaded` of specs/Loading.antt): what was read and its plan,
 //! or the first fault in this order: no object, ids, the settings, limits, addresses that are listened on twice.
 //!
-//! What modules do once they are made is left to the crates of the modules.
+//! `Standard` is the set of these modules (`ModuleSet`). What a configuration does is in specs/Acting.antt: who answers at an
+//! address, the admin API, a server, or `echo`; a server's answers are those of cd_routes. The addresses are compared one after
+//! another.
 #![tactic(auto)]
 
+mod acting;
 mod admin;
 mod app;
 mod configuration;
@@ -17,8 +20,8 @@ mod http;
 mod judging;
 mod listening;
 mod loading;
-mod plan;
 mod planning;
+mod standard;
 mod walking;
 
 pub use admin::Admin;
@@ -27,6 +30,6 @@ pub use configuration::Configuration;
 pub use echo::Echo;
 pub use http::Http;
 pub use listening::{Listened, addresses_of, apps_of};
-pub use loading::{Loaded, load};
-pub use plan::{AppPlan, Plan, Planned};
+pub use loading::{Configured, load};
 pub use planning::modules_of;
+pub use standard::Standard;

@@ -6,7 +6,7 @@ ghost use Rattle.cd_standard.specs.Plans.{addresses_of, admin_addresses, admin_p
 use crate::admin::Admin;
 use crate::app::App;
 use crate::configuration::Configuration;
-use crate::plan::AppPlan;
+use cd_legal::PlanApp;
 use cd_outside::{Address, Key};
 use cd_routes::{Listen, ListenText, Server};
 use cd_text::{List, NoMemory, Text};
@@ -24,7 +24,7 @@ pub struct Listened {
 // ---- apps
 
 /// The apps of a configuration, in the order in which they are started: the admin API first, unless it is disabled.
-pub fn apps_of(alloc: Global, configuration: &Configuration) -> Result<List<AppPlan>, NoMemory>
+pub fn apps_of(alloc: Global, configuration: &Configuration) -> Result<List<PlanApp>, NoMemory>
     ensures { IfOk result (λ made. made ≡ apps_of configuration.now) }
 {
     let mut plans = admin_plans(alloc, &configuration.admin)?;
@@ -34,7 +34,7 @@ pub fn apps_of(alloc: Global, configuration: &Configuration) -> Result<List<AppP
     Ok(plans)
 }
 
-fn admin_plans(alloc: Global, admin: &Admin) -> Result<List<AppPlan>, NoMemory>
+fn admin_plans(alloc: Global, admin: &Admin) -> Result<List<PlanApp>, NoMemory>
     ensures { IfOk result (λ made. made ≡ admin_plans admin.now) }
 {
     let mut plans = List::new(alloc);
@@ -47,7 +47,7 @@ fn admin_plans(alloc: Global, admin: &Admin) -> Result<List<AppPlan>, NoMemory>
     Ok(plans)
 }
 
-fn app_plan(alloc: Global, app: &App) -> Result<AppPlan, NoMemory>
+fn app_plan(alloc: Global, app: &App) -> Result<PlanApp, NoMemory>
     ensures { IfOk result (λ made. made ≡ app_plan (app_name app.now) (app_addresses app.now)) }
 {
     let mut listened = List::new(alloc);
@@ -55,14 +55,14 @@ fn app_plan(alloc: Global, app: &App) -> Result<AppPlan, NoMemory>
     planned_app(alloc, app.name(), listened.as_slice())
 }
 
-fn planned_app(alloc: Global, name: &str, listened: &[Listened]) -> Result<AppPlan, NoMemory>
+fn planned_app(alloc: Global, name: &str, listened: &[Listened]) -> Result<PlanApp, NoMemory>
     ensures { IfOk result (λ made. made ≡ app_plan name.now listened.now) }
 {
     let mut keys = List::new(alloc);
     for one in listened {
         keys.push(Key::Listen(one.address.copy(alloc)?))?;
     }
-    Ok(AppPlan {
+    Ok(PlanApp {
         name: Text::from_str(alloc, name)?,
         keys,
     })

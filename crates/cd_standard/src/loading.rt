@@ -9,7 +9,7 @@ use crate::admin::Admin;
 use crate::configuration::Configuration;
 use crate::judging::judge;
 use crate::listening::apps_of;
-use crate::plan::{Plan, Planned};
+use cd_legal::{Plan, PlanModule};
 use crate::planning::modules_of;
 use cd_ids::{IdFault, Index};
 use cd_module::{LoadFault, LoadKind, Settings};
@@ -18,8 +18,8 @@ use cd_tree::{Path, Tree};
 use std::alloc::Global;
 
 /// A configuration without a fault, and what it plans.
-#[derive(Debug, Drop)]
-pub struct Loaded {
+#[derive(Drop)]
+pub struct Configured {
     pub configuration: Configuration,
     pub plan: Plan,
 }
@@ -30,7 +30,7 @@ pub struct Loaded {
 /// (Caddy, JSON Config Structure); too many modules, addresses, servers, and subroutes with errors in a server; an address
 /// that is listened on twice, at the second place in the order in which addresses are opened, the admin API's first.
 #[tactic(auto, unfolding(crate::specs::Loading::loaded))]
-pub fn load(alloc: Global, tree: &Tree) -> Result<Loaded, LoadFault>
+pub fn load(alloc: Global, tree: &Tree) -> Result<Configured, LoadFault>
     ensures { Gives LoadFault.NoMemory result (loaded tree.now) }
 {
     match tree {
@@ -40,7 +40,7 @@ pub fn load(alloc: Global, tree: &Tree) -> Result<Loaded, LoadFault>
     }
 }
 
-fn load_nothing(alloc: Global) -> Result<Loaded, NoMemory>
+fn load_nothing(alloc: Global) -> Result<Configured, NoMemory>
     ensures { IfOk result (λ made. made ≡ planned nothing_said) }
 {
     let configuration = Configuration {
@@ -51,14 +51,14 @@ fn load_nothing(alloc: Global) -> Result<Loaded, NoMemory>
     with_plan(alloc, configuration, modules)
 }
 
-fn load_object(alloc: Global, tree: &Tree) -> Result<Loaded, LoadFault>
+fn load_object(alloc: Global, tree: &Tree) -> Result<Configured, LoadFault>
     ensures { Gives LoadFault.NoMemory result (of_object tree.now) }
 {
     check_ids(alloc, tree)?;
     load_settings(alloc, tree)
 }
 
-fn load_settings(alloc: Global, tree: &Tree) -> Result<Loaded, LoadFault>
+fn load_settings(alloc: Global, tree: &Tree) -> Result<Configured, LoadFault>
     ensures { Gives LoadFault.NoMemory result (of_settings tree.now) }
 {
     let configuration = Configuration::read(alloc, tree, &Path::root(alloc))?;
@@ -79,7 +79,7 @@ fn check_ids(alloc: Global, tree: &Tree) -> Result<(), LoadFault>
 }
 
 // The modules are made once, and counted as they are.
-fn accept(alloc: Global, configuration: Configuration) -> Result<Loaded, LoadFault>
+fn accept(alloc: Global, configuration: Configuration) -> Result<Configured, LoadFault>
     ensures { Gives LoadFault.NoMemory result (accepted configuration) }
 {
     let modules = modules_of(alloc, &configuration)?;
@@ -90,13 +90,13 @@ fn accept(alloc: Global, configuration: Configuration) -> Result<Loaded, LoadFau
 fn with_plan(
     alloc: Global,
     configuration: Configuration,
-    modules: List<Planned>,
-) -> Result<Loaded, NoMemory>
+    modules: List<PlanModule>,
+) -> Result<Configured, NoMemory>
     requires { modules ≡ modules_of configuration }
     ensures { IfOk result (λ made. made ≡ planned configuration) }
 {
     let apps = apps_of(alloc, &configuration)?;
-    Ok(Loaded {
+    Ok(Configured {
         configuration,
         plan: Plan { modules, apps },
     })

@@ -5,7 +5,7 @@ ghost use Rattle.cd_standard.specs.Plans.{app_name, app_modules, inside_app, mod
 
 use crate::app::App;
 use crate::configuration::Configuration;
-use crate::plan::Planned;
+use cd_legal::PlanModule;
 use crate::walking::{add_module, add_servers, enter, leave};
 use cd_text::{List, NoMemory, Text};
 use cd_tree::Path;
@@ -24,7 +24,7 @@ impl App {
 }
 
 /// The modules of a configuration, in the order in which instances are made.
-pub fn modules_of(alloc: Global, configuration: &Configuration) -> Result<List<Planned>, NoMemory>
+pub fn modules_of(alloc: Global, configuration: &Configuration) -> Result<List<PlanModule>, NoMemory>
     ensures { IfOk result (λ made. made ≡ modules_of configuration.now) }
 {
     let mut out = List::new(alloc);
@@ -38,7 +38,7 @@ fn add_apps(
     alloc: Global,
     apps: &[App],
     at: &mut Path,
-    out: &mut List<Planned>,
+    out: &mut List<PlanModule>,
 ) -> Result<(), NoMemory>
     ensures { OnOk result (out.new ≡ out.old ++ flat_map (app_modules at.old) apps.now) }
 {
@@ -48,24 +48,16 @@ fn add_apps(
     Ok(())
 }
 
-fn add_app(alloc: Global, app: &App, at: &mut Path, out: &mut List<Planned>) -> Result<(), NoMemory>
+fn add_app(alloc: Global, app: &App, at: &mut Path, out: &mut List<PlanModule>) -> Result<(), NoMemory>
     ensures added { OnOk result (out.new ≡ out.old ++ app_modules at.old app.now) }
     ensures path { OnOk result (at.new ≡ at.old) }
 {
     let name = app.name();
     enter(alloc, at, name)?;
-    add_module(alloc, label(alloc, name)?, at, out)?;
+    add_module(alloc, Text::from_str(alloc, name)?, at, out)?;
     add_inside(alloc, app, at, out)?;
     leave(at);
     Ok(())
-}
-
-fn label(alloc: Global, name: &str) -> Result<List<Text>, NoMemory>
-    ensures { IfOk result (λ made. made ≡ name.now ∷ []) }
-{
-    let mut labels = List::new(alloc);
-    labels.push(Text::from_str(alloc, name)?)?;
-    Ok(labels)
 }
 
 // What is inside an app.
@@ -73,7 +65,7 @@ fn add_inside(
     alloc: Global,
     app: &App,
     at: &mut Path,
-    out: &mut List<Planned>,
+    out: &mut List<PlanModule>,
 ) -> Result<(), NoMemory>
     ensures added { OnOk result (out.new ≡ out.old ++ inside_app app.now at.old) }
     ensures path { OnOk result (at.new ≡ at.old) }

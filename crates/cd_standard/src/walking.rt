@@ -9,9 +9,8 @@ ghost use Rattle.cd_routes.specs.declared.route.Subroute.{out-Subroute};
 ghost use Rattle.cd_standard.specs.Plans.{planned, in_elements, matcher_modules, set_modules, step_modules, route_modules, routes_modules, errors_modules, server_modules};
 ghost use Rattle.cd_standard.specs.Walking.{in_matcher};
 
-use crate::plan::Planned;
+use cd_legal::PlanModule;
 use cd_match::{Matcher, MatcherSet};
-use cd_module::ModuleId;
 use cd_routes::{Route, Server, Step, Subroute};
 use cd_text::{List, NoMemory, Text, decimal};
 use cd_tree::Path;
@@ -39,27 +38,25 @@ pub fn leave(at: &mut Path)
 
 // ---- a module
 
-fn labels(alloc: Global, kind: &str, name: &str) -> Result<List<Text>, NoMemory>
-    ensures { IfOk result (λ made. made ≡ codes "http" ∷ kind.now ∷ name.now ∷ []) }
+// The id of a module, in its namespace, which ends in a dot.
+fn module_id(alloc: Global, namespace: &str, name: &str) -> Result<Text, NoMemory>
+    ensures { IfOk result (λ id. id ≡ namespace.now ++ name.now) }
 {
-    let mut labels = List::new(alloc);
-    labels.push(Text::from_str(alloc, "http")?)?;
-    labels.push(Text::from_str(alloc, kind)?)?;
-    labels.push(Text::from_str(alloc, name)?)?;
-    Ok(labels)
+    let id = format!(in alloc; "{namespace}{name}")?;
+    Ok(Text::from_string(id))
 }
 
 pub fn add_module(
     alloc: Global,
-    labels: List<Text>,
+    id: Text,
     at: &Path,
-    out: &mut List<Planned>,
+    out: &mut List<PlanModule>,
 ) -> Result<(), NoMemory>
-    ensures { OnOk result (out.new ≡ out.old ++ planned labels at.now ∷ []) }
+    ensures { OnOk result (out.new ≡ out.old ++ planned id at.now ∷ []) }
 {
     let at = at.copy(alloc)?;
-    out.push(Planned {
-        id: ModuleId { labels },
+    out.push(PlanModule {
+        name: id,
         at,
         keys: List::new(alloc),
     })
@@ -72,7 +69,7 @@ fn add_sets(
     alloc: Global,
     sets: &[MatcherSet],
     at: &mut Path,
-    out: &mut List<Planned>,
+    out: &mut List<PlanModule>,
 ) -> Result<(), NoMemory>
     ensures added { OnOk result (out.new ≡ out.old ++ in_elements 0 (map set_modules sets.now) at.old) }
     ensures path { OnOk result (at.new ≡ at.old) }
@@ -90,7 +87,7 @@ fn add_set(
     alloc: Global,
     set: &MatcherSet,
     at: &mut Path,
-    out: &mut List<Planned>,
+    out: &mut List<PlanModule>,
 ) -> Result<(), NoMemory>
     ensures added { OnOk result (out.new ≡ out.old ++ set_modules set.now at.old) }
     ensures path { OnOk result (at.new ≡ at.old) }
@@ -106,14 +103,14 @@ fn add_matcher(
     alloc: Global,
     matcher: &Matcher,
     at: &mut Path,
-    out: &mut List<Planned>,
+    out: &mut List<PlanModule>,
 ) -> Result<(), NoMemory>
     ensures added { OnOk result (out.new ≡ out.old ++ matcher_modules matcher.now at.old) }
     ensures path { OnOk result (at.new ≡ at.old) }
 {
     let name = matcher.name();
     enter(alloc, at, name)?;
-    add_module(alloc, labels(alloc, "matchers", name)?, at, out)?;
+    add_module(alloc, module_id(alloc, "http.matchers.", name)?, at, out)?;
     add_inside(alloc, matcher, at, out)?;
     leave(at);
     Ok(())
@@ -125,7 +122,7 @@ fn add_inside(
     alloc: Global,
     matcher: &Matcher,
     at: &mut Path,
-    out: &mut List<Planned>,
+    out: &mut List<PlanModule>,
 ) -> Result<(), NoMemory>
     ensures added { OnOk result (out.new ≡ out.old ++ in_matcher matcher.now at.old) }
     ensures path { OnOk result (at.new ≡ at.old) }
@@ -143,7 +140,7 @@ fn add_routes(
     alloc: Global,
     routes: &[Route],
     at: &mut Path,
-    out: &mut List<Planned>,
+    out: &mut List<PlanModule>,
 ) -> Result<(), NoMemory>
     ensures added { OnOk result (out.new ≡ out.old ++ routes_modules routes.now at.old) }
     ensures path { OnOk result (at.new ≡ at.old) }
@@ -161,7 +158,7 @@ fn add_route(
     alloc: Global,
     route: &Route,
     at: &mut Path,
-    out: &mut List<Planned>,
+    out: &mut List<PlanModule>,
 ) -> Result<(), NoMemory>
     ensures added { OnOk result (out.new ≡ out.old ++ route_modules route.now at.old) }
     ensures path { OnOk result (at.new ≡ at.old) }
@@ -176,7 +173,7 @@ fn add_match(
     alloc: Global,
     sets: &[MatcherSet],
     at: &mut Path,
-    out: &mut List<Planned>,
+    out: &mut List<PlanModule>,
 ) -> Result<(), NoMemory>
     ensures added { OnOk result (out.new ≡ out.old ++ in_elements 0 (map set_modules sets.now) (at.old ▸ codes "match")) }
     ensures path { OnOk result (at.new ≡ at.old) }
@@ -193,7 +190,7 @@ fn add_handle(
     alloc: Global,
     steps: &[Step],
     at: &mut Path,
-    out: &mut List<Planned>,
+    out: &mut List<PlanModule>,
 ) -> Result<(), NoMemory>
     ensures added { OnOk result (out.new ≡ out.old ++ in_elements 0 (map step_modules steps.now) (at.old ▸ codes "handle")) }
     ensures path { OnOk result (at.new ≡ at.old) }
@@ -209,7 +206,7 @@ fn add_steps(
     alloc: Global,
     steps: &[Step],
     at: &mut Path,
-    out: &mut List<Planned>,
+    out: &mut List<PlanModule>,
 ) -> Result<(), NoMemory>
     ensures added { OnOk result (out.new ≡ out.old ++ in_elements 0 (map step_modules steps.now) at.old) }
     ensures path { OnOk result (at.new ≡ at.old) }
@@ -227,12 +224,12 @@ fn add_step(
     alloc: Global,
     step: &Step,
     at: &mut Path,
-    out: &mut List<Planned>,
+    out: &mut List<PlanModule>,
 ) -> Result<(), NoMemory>
     ensures added { OnOk result (out.new ≡ out.old ++ step_modules step.now at.old) }
     ensures path { OnOk result (at.new ≡ at.old) }
 {
-    add_module(alloc, labels(alloc, "handlers", step.name())?, at, out)?;
+    add_module(alloc, module_id(alloc, "http.handlers.", step.name())?, at, out)?;
     match step {
         Step::Handler(_) => Ok(()),
         Step::Subroute(inside) => add_inside_subroute(alloc, inside, at, out),
@@ -244,7 +241,7 @@ fn add_inside_subroute(
     alloc: Global,
     inside: &Subroute,
     at: &mut Path,
-    out: &mut List<Planned>,
+    out: &mut List<PlanModule>,
 ) -> Result<(), NoMemory>
     ensures added { OnOk result (out.new ≡ out.old ++ (routes_modules (out-Subroute inside.now).routes (at.old ▸ codes "routes")
         ++ errors_modules (out-Subroute inside.now).errors at.old)) }
@@ -265,7 +262,7 @@ fn add_error_routes(
     alloc: Global,
     routes: &[Route],
     at: &mut Path,
-    out: &mut List<Planned>,
+    out: &mut List<PlanModule>,
 ) -> Result<(), NoMemory>
     ensures added { OnOk result (out.new ≡ out.old ++ routes_modules routes.now (at.old ▸ codes "errors" ▸ codes "routes")) }
     ensures path { OnOk result (at.new ≡ at.old) }
@@ -282,7 +279,7 @@ fn add_errors(
     alloc: Global,
     errors: &Option<List<Route>>,
     at: &mut Path,
-    out: &mut List<Planned>,
+    out: &mut List<PlanModule>,
 ) -> Result<(), NoMemory>
     ensures added { OnOk result (out.new ≡ out.old ++ errors_modules errors.now at.old) }
     ensures path { OnOk result (at.new ≡ at.old) }
@@ -300,7 +297,7 @@ pub fn add_servers(
     alloc: Global,
     servers: &[Server],
     at: &mut Path,
-    out: &mut List<Planned>,
+    out: &mut List<PlanModule>,
 ) -> Result<(), NoMemory>
     ensures added { OnOk result (out.new ≡ out.old ++ flat_map (server_modules at.old) servers.now) }
     ensures path { OnOk result (at.new ≡ at.old) }
@@ -315,7 +312,7 @@ fn add_server(
     alloc: Global,
     server: &Server,
     at: &mut Path,
-    out: &mut List<Planned>,
+    out: &mut List<PlanModule>,
 ) -> Result<(), NoMemory>
     ensures added { OnOk result (out.new ≡ out.old ++ server_modules at.old server.now) }
     ensures path { OnOk result (at.new ≡ at.old) }

@@ -1,7 +1,7 @@
 use Rattle.std.proofs.Common.{◌∷◌, ◌++◌, [], codes, ap, sym, ◌∙◌, arith}
 use Rattle.std.specs.List.{flat_map}
 use Rattle.cd_tree.specs.Path.{◌▸◌}
-use Rattle.cd_standard.specs.Plans.{matcher_modules}
+use Rattle.cd_standard.specs.Plans.{matcher_id, matcher_modules}
 use Rattle.cd_standard.specs.Walking.{in_matcher}
 use Rattle.cd_standard.proofs.Adding.{members_done, module_and_inside}
 use Rattle.cd_standard.proofs.Levels.{matcher_modules_is, set_modules_is}
@@ -13,7 +13,7 @@ add_matcher-returns-clause-added t c =
     let at = c.args.at.now in
     let is = c.name-name.ensures in
     module_and_inside (in_matcher m) _ _ _ _ _ _ _ c.in_ok-add_module.ensures c.in_ok-add_inside.ensures.added
-    (c.in_ok-labels.ensures ∙ ap (λ n. codes "http" ∷ codes "matchers" ∷ n ∷ []) is)
+    (c.in_ok-module_id.ensures ∙ ap matcher_id is)
     (c.in_ok-enter.ensures ∙ ap (λ n. at ▸ n) is)
     ∙ ap (λ r. c.args.out.now ++ r) (sym (matcher_modules_is m at))
 

@@ -1,7 +1,7 @@
 use Rattle.std.proofs.Common.{◌≡◌, List, ◌∷◌, ◌++◌, [], codes, map, OnOk, refl, ap, ap₂, sym, subst, ◌∙◌}
 use Rattle.cd_tree.specs.Path.{◌▸◌}
-use Rattle.cd_standard.specs.Plans.{planned, in_elements, set_modules, step_modules}
-use Rattle.cd_standard.specs.declared.plan.Planned.{Planned}
+use Rattle.cd_standard.specs.Plans.{planned, handler_id, in_elements, set_modules, step_modules}
+use Rattle.cd_legal.specs.declared.plan.PlanModule.{PlanModule}
 use Rattle.cd_standard.proofs.Adding.{module_and_inside, two_added}
 use Rattle.cd_standard.proofs.Levels.{route_modules_is, handler_step, subroute_step, in_subroute}
 use Rattle.cd_standard.proofs.walking.+adding_routes.Goals as goal
@@ -20,7 +20,7 @@ add_step-returns-in-Handler-clause-added t c =
     let s = c.args.step.now in
     let at = c.args.at.now in
     c.in_ok-add_module.ensures
-    ∙ ap (λ labels. c.args.out.now ++ (planned labels at ∷ [])) (c.in_ok-labels.ensures ∙ ap (λ n. codes "http" ∷ codes "handlers" ∷ n ∷ []) c.name.ensures)
+    ∙ ap (λ id. c.args.out.now ++ (planned id at ∷ [])) (c.in_ok-module_id.ensures ∙ ap handler_id c.name.ensures)
     ∙ ap (λ all. c.args.out.now ++ all) (handler_step s c.in-Handler.field-0 at c.in-Handler.is)
 
 pub add_step-returns-in-Subroute-clause-added : goal.add_step-returns-in-Subroute-clause-added
@@ -29,6 +29,6 @@ add_step-returns-in-Subroute-clause-added t c =
     let at = c.args.at.now in
     let inside = c.in-Subroute.inside in
     let whole = module_and_inside (in_subroute inside) c.args.out.now c.add_module.new.out (c.add_module.new.out ++ in_subroute inside at) _ _ at at c.in_ok-add_module.ensures refl
-    (c.in_ok-labels.ensures ∙ ap (λ n. codes "http" ∷ codes "handlers" ∷ n ∷ []) c.name.ensures) refl
+    (c.in_ok-module_id.ensures ∙ ap handler_id c.name.ensures) refl
     ∙ ap (λ all. c.args.out.now ++ all) (subroute_step s inside at c.in-Subroute.is) in
-    subst (λ (all : List Planned). OnOk c.add_inside_subroute.result (c.add_inside_subroute.new.out ≡ all)) whole c.add_inside_subroute.ensures.added
+    subst (λ (all : List PlanModule). OnOk c.add_inside_subroute.result (c.add_inside_subroute.new.out ≡ all)) whole c.add_inside_subroute.ensures.added

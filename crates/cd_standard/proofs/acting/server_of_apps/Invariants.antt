@@ -1,0 +1,8 @@
+use Rattle.std.proofs.Common.{◌≡◌, drop}
+use Rattle.std.specs.List.{find, flat_map}
+use Rattle.cd_standard.specs.Acting.{has_address}
+use Rattle.cd_standard.specs.Loading.{app_servers}
+use Rattle.cd_standard.proofs.acting.server_of_apps.Given as goal
+
+abbrev pub invariant-loop-app : goal.invariant-loop-app
+invariant-loop-app l = find (has_address l.at) (flat_map app_servers (drop l.app-index l.apps)) ≡ find (has_address l.at) (flat_map app_servers l.apps)

@@ -1,0 +1,86 @@
+//! The set of the standard modules.
+ghost use Rattle.std.specs.Prelude.{◌≡◌, IfOk, None};
+ghost use Rattle.cd_standard.specs.Acting.{acts_of, acts_of_tree, plan_of_tree};
+
+use crate::admin::Admin;
+use crate::configuration::Configuration;
+use crate::loading::{Configured, load};
+use cd_echo::echo_answer;
+use cd_module::LoadFault;
+use cd_module_set::{Line, Loaded, ModuleSet, Target};
+use cd_outside::Address;
+use cd_routes::server_answer;
+use cd_text::{List, NoMemory};
+use cd_tree::Tree;
+use cd_wire::{Answer, Request};
+use std::alloc::Global;
+
+/// The set of the standard modules: the admin API, the apps `echo` and `http`, and the matchers and handlers of `http`.
+///
+/// No request changes a configuration yet, and no line is logged.
+pub struct Standard;
+
+impl ModuleSet for Standard {
+    type Compiled = Configuration;
+
+    ghost plan = { plan_of_tree };
+
+    ghost acts = { acts_of_tree };
+
+    ghost form = { acts_of };
+
+    ghost change = { λ tree request. None };
+
+    #[tactic(auto, using(crate::proofs::Doing::idle_does_nothing))]
+    fn nothing(alloc: Global) -> Result<Configuration, NoMemory> {
+        let mut admin = Admin::usual(alloc)?;
+        admin.disabled = true;
+        Ok(Configuration {
+            admin,
+            apps: List::new(alloc),
+        })
+    }
+
+    #[tactic(auto, using(crate::proofs::Doing::plans_as_loaded, crate::proofs::Doing::few_modules, crate::proofs::Doing::few_apps, crate::proofs::Doing::does_as_loaded))]
+    fn load(alloc: Global, tree: Tree) -> Result<Loaded<Standard>, LoadFault> {
+        let Configured {
+            configuration,
+            plan,
+        } = load(alloc, &tree)?;
+        Ok(Loaded {
+            tree,
+            plan,
+            compiled: configuration,
+        })
+    }
+
+    fn target(compiled: &Configuration, at: &Address) -> Target {
+        compiled.target_at(at)
+    }
+
+    fn answer(
+        alloc: Global,
+        compiled: &Configuration,
+        at: &Address,
+        request: &Request,
+    ) -> Result<Option<Answer>, NoMemory> {
+        if compiled.admin_at(at) {
+            return Ok(None);
+        }
+        match compiled.server_at(at) {
+            Some(server) => Ok(Some(server_answer(alloc, server, request)?)),
+            None if compiled.echo_at(at) => Ok(Some(echo_answer(alloc, request)?)),
+            None => Ok(None),
+        }
+    }
+
+    fn lines(
+        alloc: Global,
+        _compiled: &Configuration,
+        _at: &Address,
+        _request: &Request,
+        _answer: &Answer,
+    ) -> Result<List<Line>, NoMemory> {
+        Ok(List::new(alloc))
+    }
+}
