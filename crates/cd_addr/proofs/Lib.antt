@@ -2,3 +2,4 @@ mod Ports
 mod Cuts
 mod Hosts
 mod ReadBack
+pub mod Ranges

@@ -14,9 +14,10 @@ use Rattle.std.proofs.lemmas.Str.Parse.{digit_at}
 use Rattle.cd_text.specs.Steps.{◌▷◌}
 use Rattle.cd_outside.specs.declared.address.Address.{Address}
 use Rattle.cd_addr.specs.declared.limits.TheConstants.{MAX_PORT, MAX_RANGE_PORTS}
+use Rattle.cd_addr.specs.declared.range.AddressRange.{AddressRange}
 use Rattle.cd_addr.specs.declared.fault.AddrFault.{AddrFault}
 use Rattle.cd_addr.specs.declared.fault.AddrFault.TheVariants.{BadNetwork, BadRange}
-use Rattle.cd_addr.specs.Addresses.{Parts, HostAndPorts, cut_at, after_leading, of_network, without_network, is_host_byte, is_ip_byte, is_ip_text, in_brackets, no_brackets, either_host, host_of, port, from_to, one_or_two, ports, address_of, each_port, addresses, has_colon, written}
+use Rattle.cd_addr.specs.Addresses.{Parts, HostAndPorts, cut_at, after_leading, of_network, without_network, is_host_byte, is_ip_byte, is_ip_text, in_brackets, no_brackets, either_host, host_of, port, from_to, one_or_two, ports, listed, range_of, addresses, has_colon, written}
 use Rattle.cd_addr.proofs.Ports.{own, port_decimal, is_le, lt_is, le_is}
 use Rattle.cd_addr.proofs.Cuts.{other_than, without, both_parts, uncut, cut_there, no_lead}
 use Rattle.cd_addr.proofs.Hosts.{IsHost, lower_twice, from_plain, from_brackets}
@@ -38,15 +39,22 @@ ports_one p some most =
 
 -- ---- the steps of a text that is written
 
-chain : (s text host : List ℕ) (rest : Option (List ℕ)) (p : ℕ) → without_network s ≡ Ok text → host_of text ≡ Ok (host, rest) → ports rest ≡ Ok (p, p) → addresses s ≡ Ok (each_port host p p)
-unfolding addresses
+-- the range of a host as it is kept
+abbrev range_at : List ℕ → ℕ → ℕ → AddressRange
+range_at host first last = record { host = map to_ascii_lowercase host; first = first; last = last }
+
+chain : (s text host : List ℕ) (rest : Option (List ℕ)) (p : ℕ) → without_network s ≡ Ok text → host_of text ≡ Ok (host, rest) → ports rest ≡ Ok (p, p) → addresses s ≡ Ok (listed (range_at host p p))
+unfolding addresses range_of
 chain s text host rest p a b c = rw (a, b, c) refl
 
 one : List ℕ → ℕ → List Address
 one host p = record { host = host; port = p } ∷ []
 
-only_one : (host : List ℕ) (p : ℕ) → map to_ascii_lowercase host ≡ host → each_port host p p ≡ record { host = host; port = p } ∷ []
-unfolding one
+address_of : List ℕ → ℕ → Address
+address_of host port = record { host = map to_ascii_lowercase host; port = port }
+
+only_one : (host : List ℕ) (p : ℕ) → map to_ascii_lowercase host ≡ host → listed (range_at host p p) ≡ record { host = host; port = p } ∷ []
+unfolding one address_of
 only_one host p lower =
     let single : p - p + 1 ≡ 1 = omega arith in
     ap (λ n. map (address_of host) (range_with_len p n)) single
@@ -179,21 +187,24 @@ ports_read (Some s) x h = one_or_two_read (cut_at 45 s) s x h
 abbrev pub ReadsBack : Address → Type 0
 ReadsBack address = addresses (written address) ≡ Ok (address ∷ [])
 
-each_reads : (host : List ℕ) (first last : ℕ) → IsHost (map to_ascii_lowercase host) → IsPort first → IsPort last → All ReadsBack (each_port host first last)
+each_reads : (host : List ℕ) (first last : ℕ) → IsHost (map to_ascii_lowercase host) → IsPort first → IsPort last → All ReadsBack (listed (range_at host first last))
+unfolding address_of
 each_reads host first last is p q =
     let n = last - first + 1 in
-    All-from_get_or ReadsBack (each_port host first last) (address_of host first) (λ i within.
+    All-from_get_or ReadsBack (listed (range_at host first last)) (address_of host first) (λ i within.
     let inside : i < n = omega (arith, length-map-range_with_len (address_of host) first n) in
     subst ReadsBack (sym (get_or-map-range_with_len (address_of host) first n i (first + i) (address_of host first) inside refl))
     (reads (map to_ascii_lowercase host) (first + i) (lower_twice host) is (omega (arith, p.some)) (omega (arith, p.most, q.most))))
 
 -- each address that was read
 pub each_reads_back : (s : List ℕ) (found : List Address) → addresses s ≡ Ok found → All ReadsBack found
-unfolding addresses
+unfolding addresses range_of
 each_reads_back s found h =
-    let text = went (without_network s) _ found h in
-    let host = went (host_of text.value) _ found text.rest in
-    let range = went (ports host.value.1) _ found host.rest in
-    let same : each_port host.value.0 range.value.0 range.value.1 ≡ found = cc in
-    let within = ports_read host.value.1 range.value range.is in
-    subst (All ReadsBack) same (each_reads host.value.0 range.value.0 range.value.1 (host_read text.value host.value host.is) within.first within.last)
+    let whole = went (range_of s) _ found h in
+    let text = went (without_network s) _ whole.value whole.is in
+    let host = went (host_of text.value) _ whole.value text.rest in
+    let ends = went (ports host.value.1) _ whole.value host.rest in
+    let range : range_at host.value.0 ends.value.0 ends.value.1 ≡ whole.value = cc in
+    let same : listed whole.value ≡ found = cc in
+    let within = ports_read host.value.1 ends.value ends.is in
+    subst (All ReadsBack) (ap listed range ∙ same) (each_reads host.value.0 ends.value.0 ends.value.1 (host_read text.value host.value host.is) within.first within.last)

@@ -7,6 +7,7 @@ use Rattle.std.specs.Str.Parse.{digits_value}
 use Rattle.cd_text.specs.Steps.{◌▷◌}
 use Rattle.cd_outside.specs.declared.address.Address.{Address}
 use Rattle.cd_addr.specs.declared.limits.TheConstants.{MAX_PORT, MAX_RANGE_PORTS}
+use Rattle.cd_addr.specs.declared.range.AddressRange.{AddressRange}
 use Rattle.cd_addr.specs.declared.fault.AddrFault.{AddrFault}
 use Rattle.cd_addr.specs.declared.fault.AddrFault.TheVariants.{BadNetwork, BadPort, BadRange}
 
@@ -104,21 +105,25 @@ ports (Some s) = one_or_two (cut_at 45 s) s
 
 -- ---- the addresses
 
--- a host is kept in lower case
-abbrev pub address_of : List ℕ → ℕ → Address
-address_of host port = record { host = map to_ascii_lowercase host; port = port }
+-- an address for each port of a range, by rising port; a range has its first port at least
+abbrev pub listed : AddressRange → List Address
+listed range = map (λ port. record { host = range.host; port = port }) (range_with_len range.first (range.last - range.first + 1))
 
--- an address for each port of a range
-abbrev pub each_port : List ℕ → ℕ → ℕ → List Address
-each_port host first last = map (address_of host) (range_with_len first (last - first + 1))
-
--- the addresses that a text writes, or the first fault: of the network and the host, of a port, of the range
-unfoldable pub addresses : List ℕ → Result (List Address) AddrFault
-addresses s =
+-- the range that a text writes, or the first fault: of the network and the host, of a port, of the range. A host is kept in lower case
+unfoldable pub range_of : List ℕ → Result AddressRange AddrFault
+range_of s =
     without_network s ▷ λ text.
     host_of text ▷ λ host.
-    ports host.1 ▷ λ range.
-    Ok (each_port host.0 range.0 range.1)
+    ports host.1 ▷ λ ends.
+    Ok (record { host = map to_ascii_lowercase host.0; first = ends.0; last = ends.1 })
+
+-- the addresses that a text writes
+unfoldable pub addresses : List ℕ → Result (List Address) AddrFault
+addresses s = range_of s ▷ λ range. Ok (listed range)
+
+-- the same host and the same port
+abbrev pub is_address : Address → Address → Bool
+is_address one other = bytes_eq one.host other.host && (one.port == other.port)
 
 -- ---- the text of an address
 

@@ -1,31 +1,44 @@
-ghost use Rattle.std.specs.Prelude.{◌≡◌, ◌<◌, ◌≤◌, ◌-◌, ◌+◌, Ok, IfOk, option_map};
+ghost use Rattle.std.specs.Prelude.{◌≡◌, ◌<◌, ◌≤◌, ◌-◌, IfOk, option_map};
 ghost use Rattle.std.specs.List.{list_all};
 ghost use Rattle.std.specs.Option.{option_copied};
 ghost use Rattle.std.specs.Result.{result_map_both};
 ghost use Rattle.cd_text.specs.Gives.{Gives};
 ghost use Rattle.cd_addr.specs.declared.limits.TheConstants.{MAX_RANGE_PORTS};
-ghost use Rattle.cd_addr.specs.Addresses.{addresses, cut_at, after_leading, without_network, host_of, in_brackets, no_brackets, is_host_byte, is_ip_byte, is_ip_text, port, ports, from_to, each_port};
+ghost use Rattle.cd_addr.specs.Addresses.{addresses, range_of, cut_at, after_leading, without_network, host_of, in_brackets, no_brackets, is_host_byte, is_ip_byte, is_ip_text, port, ports, from_to};
 
 use crate::fault::AddrFault;
 use crate::limits::{MAX_PORT, MAX_RANGE_PORTS};
+use crate::range::AddressRange;
 use cd_outside::Address;
 use cd_text::{List, Text, number_of};
 use std::alloc::Global;
 
-/// The addresses that a text writes: one, or one for each port of a range, by rising port.
+/// The addresses that a text writes, as a range: one host, and one port or those of a range.
 ///
 /// A text is an optional network and `/`, a host, `:`, and a port or two joined by `-`, as `tcp/localhost:8080-8089`. The
 /// network is `tcp`. A host is empty, or has letters, digits, `.`, `-` and `_`, or is in brackets and has hexadecimal digits, `:` and
 /// `.`. BadNetwork says that the network or the host is not so, BadPort that a port is none, and BadRange that a range is
 /// empty or has more than `MAX_RANGE_PORTS` ports; the first of these that holds is reported.
-#[tactic(auto, unfolding(crate::specs::Addresses::addresses))]
-pub fn read(alloc: Global, text: &Text) -> Result<List<Address>, AddrFault>
-    ensures { Gives AddrFault.NoMemory result (addresses text.now) }
+#[tactic(auto, unfolding(crate::specs::Addresses::range_of))]
+pub fn read_range(alloc: Global, text: &Text) -> Result<AddressRange, AddrFault>
+    ensures value { Gives AddrFault.NoMemory result (range_of text.now) }
+    ensures rising { IfOk result (λ range. range.first ≤ range.last) }
+    ensures few { IfOk result (λ range. range.last - range.first < MAX_RANGE_PORTS) }
 {
     let text = without_network(text.as_str())?;
     let (host, ports) = split_host(text)?;
     let (first, last) = port_range(ports)?;
-    each_port(alloc, host, first, last)
+    let host = Text::folded(alloc, host)?;
+    Ok(AddressRange { host, first, last })
+}
+
+/// The addresses that a text writes, by rising port. The text is as for `read_range`, and so are the errors.
+#[tactic(auto, unfolding(crate::specs::Addresses::addresses))]
+pub fn read(alloc: Global, text: &Text) -> Result<List<Address>, AddrFault>
+    ensures { Gives AddrFault.NoMemory result (addresses text.now) }
+{
+    let range = read_range(alloc, text)?;
+    Ok(range.list(alloc)?)
 }
 
 // What stands before and after the first such character.
@@ -147,18 +160,4 @@ fn from_to(first: Option<u16>, last: Option<u16>) -> Result<(u16, u16), AddrFaul
         return Err(AddrFault::BadRange);
     }
     Ok((first, last))
-}
-
-fn each_port(alloc: Global, host: &str, first: u16, last: u16) -> Result<List<Address>, AddrFault>
-    requires rising { first ≤ last }
-    requires few { last - first < MAX_RANGE_PORTS }
-    ensures { Gives AddrFault.NoMemory result (Ok (each_port host.now first last)) }
-{
-    let mut made = List::new(alloc);
-    for place in 0..last - first + 1 {
-        let host = Text::folded(alloc, host)?;
-        let port = first + place;
-        made.push(Address { host, port })?;
-    }
-    Ok(made)
 }
