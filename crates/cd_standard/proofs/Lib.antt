@@ -3,3 +3,4 @@ pub mod Counts
 pub mod Errors
 pub mod Levels
 pub mod Examples
+pub mod Tallies
