@@ -8,10 +8,8 @@ use Rattle.cd_tree.specs.declared.path.Path.{Path}
 use Rattle.cd_tree.specs.declared.tree.Member.{Member}
 use Rattle.cd_tree.specs.declared.tree.Tree.{Tree, out-Tree}
 use Rattle.cd_tree.specs.declared.tree.Tree.TheOpen.{Tree-F}
-use Rattle.cd_outside.specs.declared.address.Address.{Address}
-use Rattle.std.proofs.lemmas.List.FromFn.{length-map-range_with_len}
-use Rattle.cd_addr.specs.Addresses.{addresses, address_of, without_network, host_of, ports, each_port}
-use Rattle.cd_addr.specs.declared.fault.AddrFault.{AddrFault}
+use Rattle.cd_addr.specs.Addresses.{listed}
+use Rattle.cd_addr.proofs.Ranges.{count_is}
 use Rattle.cd_module.specs.Settings.{text, each, list_layer, members, needed, must_be_there, optional}
 use Rattle.cd_routes.specs.Reading.{routes, error_routes}
 use Rattle.cd_routes.specs.Server.{placed, listen_text, some_text, listen, listened, timeouts, protocols, server}
@@ -31,36 +29,15 @@ same-value x y e = cc
 
 -- ---- addresses
 
--- a range has a port
-ports-some : (host : List ℕ) (first last : ℕ) → 1 ≤ length (each_port host first last)
-ports-some host first last = omega (arith, length-map-range_with_len (address_of host) first (last - first + 1))
+-- a range has an address
+text-some : (x : ListenText) → 1 ≤ length (listed x.range)
+text-some x = omega (arith, count_is x.range)
 
-addresses-some : (s : List ℕ) (found : List Address) → addresses s ≡ Ok found → 1 ≤ length found
-unfolding addresses
-addresses-some s found e =
-    after (without_network s) _ (λ found. 1 ≤ length found) found (λ text is e.
-    after (host_of text) _ (λ found. 1 ≤ length found) found (λ host is e.
-    after (ports host.1) _ (λ found. 1 ≤ length found) found (λ range is e.
-    let some = ports-some host.0 range.0 range.1 in
-    let same : each_port host.0 range.0 range.1 ≡ found = same-value _ _ e in
-    omega (arith, ap length same, some)) e) e) e
-
-placed-some : (r : Result (List Address) AddrFault) (at : Path) (x : ListenText) → ((found : List Address) → r ≡ Ok found → 1 ≤ length found) → placed r at ≡ Ok x → 1 ≤ length x.addresses
-placed-some (Ok found) at x some e =
-    let more = some found refl in
-    let same : record { addresses = found; at = at } ≡ x = same-value _ _ e in
-    omega (arith, ap (λ z. length z.addresses) same, more)
-placed-some (Err fault) at x some e = absurd (let no : ⊥ = cc in no)
-
-text-some : (t : Tree) (at : Path) (x : ListenText) → listen_text t at ≡ Ok x → 1 ≤ length x.addresses
-unfolding listen_text
-text-some t at x e = after (text t at) _ (λ x. 1 ≤ length x.addresses) x (λ s is e. placed-some (addresses s) at x (addresses-some s) e) e
-
-first-some : (x : ListenText) (xs all : List ListenText) (l : Listen) (place : Path) → 1 ≤ length x.addresses → x ∷ xs ≡ all → some_text all place ≡ Ok l → 1 ≤ length (listened l)
-first-some x xs all l place some is e =
+first-some : (x : ListenText) (xs all : List ListenText) (l : Listen) (place : Path) → x ∷ xs ≡ all → some_text all place ≡ Ok l → 1 ≤ length (listened l)
+first-some x xs all l place is e =
     let whole : some_text (x ∷ xs) place ≡ Ok l = ap (λ z. some_text z place) is ∙ e in
     let same : record { texts = x ∷ xs } ≡ l = same-value _ _ whole in
-    omega (arith, ap (λ z. length (listened z)) same, length-append x.addresses (flat_map (λ text. text.addresses) xs), some)
+    omega (arith, ap (λ z. length (listened z)) same, length-append (listed x.range) (flat_map (λ text. listed text.range) xs), text-some x)
 
 -- the first text has an address
 each-some : (n : ℕ) (ts : List Tree) (at : Path) (l : Listen) (place : Path) → (each listen_text n ts at ▷ λ texts. some_text texts place) ≡ Ok l → 1 ≤ length (listened l)
@@ -69,7 +46,7 @@ each-some n (t ∷ ts) at l place e =
     after (each listen_text n (t ∷ ts) at) (λ texts. some_text texts place) (λ l. 1 ≤ length (listened l)) l (λ all is e.
     after (listen_text t (at ▸ decimal n)) _ (λ all. some_text all place ≡ Ok l → 1 ≤ length (listened l)) all (λ x x-is rest.
     after (each listen_text (suc n) ts at) _ (λ all. some_text all place ≡ Ok l → 1 ≤ length (listened l)) all (λ xs xs-is made. λ whole.
-    first-some x xs all l place (text-some t (at ▸ decimal n) x x-is) (same-value _ _ made) whole) rest) is e) e
+    first-some x xs all l place (same-value _ _ made) whole) rest) is e) e
 
 listen-layer : (x : Tree-F Tree Member) (at : Path) (l : Listen) → (list_layer listen_text x at ▷ λ texts. some_text texts at) ≡ Ok l → 1 ≤ length (listened l)
 listen-layer Tree-F.Null at l e = absurd (let no : ⊥ = cc in no)

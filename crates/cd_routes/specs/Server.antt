@@ -6,7 +6,8 @@ use Rattle.cd_tree.specs.Tree.{is_below}
 use Rattle.cd_tree.specs.declared.path.Path.{Path}
 use Rattle.cd_tree.specs.declared.tree.Member.{Member}
 use Rattle.cd_outside.specs.declared.address.Address.{Address}
-use Rattle.cd_addr.specs.Addresses.{addresses}
+use Rattle.cd_addr.specs.Addresses.{range_of, listed}
+use Rattle.cd_addr.specs.declared.range.AddressRange.{AddressRange}
 use Rattle.cd_addr.specs.declared.fault.AddrFault.{AddrFault}
 use Rattle.cd_addr.specs.declared.fault.AddrFault.TheVariants as address
 use Rattle.cd_module.specs.Faults.{refused}
@@ -28,14 +29,14 @@ no_address address.BadPort at = refused BadAddress at
 no_address address.BadRange at = refused BadAddress at
 no_address address.NoMemory at = NoMemory
 
--- the addresses, with the place of their text
-abbrev pub placed : Result (List Address) AddrFault → Path → Result ListenText LoadFault
-placed (Ok found) at = Ok (record { addresses = found; at = at })
+-- the range, with the place of its text
+abbrev pub placed : Result AddressRange AddrFault → Path → Result ListenText LoadFault
+placed (Ok range) at = Ok (record { range = range; at = at })
 placed (Err fault) at = Err (no_address fault at)
 
 -- an element of `listen`
 unfoldable pub listen_text : Reader ListenText
-listen_text t at = text t at ▷ λ written. placed (addresses written) at
+listen_text t at = text t at ▷ λ written. placed (range_of written) at
 
 -- there is one text at least
 abbrev pub some_text : List ListenText → Path → Result Listen LoadFault
@@ -48,7 +49,7 @@ listen t at = list_of listen_text t at ▷ λ texts. some_text texts at
 
 -- all its addresses, in order
 abbrev pub listened : Listen → List Address
-listened l = flat_map (λ text. text.addresses) l.texts
+listened l = flat_map (λ text. listed text.range) l.texts
 
 -- ---- the members without an effect, which are of their kind
 

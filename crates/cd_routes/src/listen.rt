@@ -1,18 +1,21 @@
-//! What a server listens on.
-ghost use Rattle.cd_routes.specs.Server.{listen, listen_text};
+//! What a server listens on. Its addresses are kept as ranges, so a text takes as much memory whatever its ports are.
+ghost use Rattle.std.specs.Prelude.{◌≡◌};
+ghost use Rattle.std.specs.List.{list_any};
+ghost use Rattle.cd_addr.specs.Addresses.{is_address};
+ghost use Rattle.cd_routes.specs.Server.{listen, listen_text, listened};
 
-use cd_addr::{AddrFault, read};
+use cd_addr::{AddrFault, AddressRange, read_range};
 use cd_module::{LoadFault, LoadKind, Settings};
 use cd_outside::Address;
 use cd_text::{List, Text};
 use cd_tree::{Path, Tree};
 use std::alloc::Global;
 
-/// The addresses that a text of `listen` names. There is one at least.
+/// The addresses that a text of `listen` names.
 #[derive(Debug, Drop)]
 pub struct ListenText {
-    /// One for each port of the text, by rising port.
-    pub addresses: List<Address>,
+    /// One for each port of the text.
+    pub range: AddressRange,
     /// Where the text is in the configuration.
     pub at: Path,
 }
@@ -23,15 +26,29 @@ pub struct Listen {
     pub texts: List<ListenText>,
 }
 
+impl Listen {
+    /// Whether it has an address. It takes no memory.
+    pub fn contains(&self, address: &Address) -> bool
+        ensures { result ≡ list_any (is_address address.now) (listened self.now) }
+    {
+        for text in self.texts.as_slice() {
+            if text.range.contains(address) {
+                return true;
+            }
+        }
+        false
+    }
+}
+
 impl Settings for ListenText {
     ghost reader = { listen_text };
 
     #[tactic(auto, unfolding(crate::specs::Server::listen_text))]
     fn read(alloc: Global, tree: &Tree, at: &Path) -> Result<ListenText, LoadFault> {
         let text = Text::read(alloc, tree, at)?;
-        match read(alloc, &text) {
-            Ok(addresses) => Ok(ListenText {
-                addresses,
+        match read_range(alloc, &text) {
+            Ok(range) => Ok(ListenText {
+                range,
                 at: at.copy(alloc)?,
             }),
             Err(AddrFault::NoMemory) => Err(LoadFault::NoMemory),

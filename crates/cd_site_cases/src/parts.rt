@@ -38,7 +38,8 @@ fn addresses_of(alloc: Global, listen: &Listen) -> Result<Octets, NoMemory> {
 
 fn put_addresses(alloc: Global, text: &ListenText, out: &mut Octets) -> Result<(), NoMemory> {
     let at = text.at.to_text(alloc)?;
-    for address in text.addresses.as_slice() {
+    let addresses = text.range.list(alloc)?;
+    for address in addresses.as_slice() {
         let address = write(alloc, address)?;
         out.append(address.as_str().as_bytes())?;
         out.push(b' ')?;

@@ -14,7 +14,7 @@ use Rattle.cd_legal.specs.declared.plan.PlanModule.{PlanModule}
 abbrev pub elements_left : {X : Type 0} → (X → Modules) → List X → ℕ → Modules
 elements_left f xs place at = in_elements place (map f (drop place xs)) at
 
-split_elements : {X : Type 0} (f : X → Modules) (xs : List X) (i : ℕ) (x : X) (at : Path) → i < length xs → x ≡ get_or xs i x
+pub split_elements : {X : Type 0} (f : X → Modules) (xs : List X) (i : ℕ) (x : X) (at : Path) → i < length xs → x ≡ get_or xs i x
     → elements_left f xs i at ≡ f x (at ▸ decimal i) ++ elements_left f xs (i + 1) at
 split_elements f xs i x at within is =
     ap (λ ys. in_elements i (map f ys) at) (drop-element xs i x within is)

@@ -17,8 +17,7 @@ use Rattle.cd_routes.specs.declared.route.Step.{Step}
 use Rattle.cd_routes.specs.declared.route.Step.TheVariants as step
 use Rattle.cd_routes.specs.declared.route.Subroute.{Subroute, out-Subroute}
 use Rattle.cd_standard.specs.Plans.{planned, matcher_id, in_elements, matcher_modules, set_modules, step_modules, route_modules, routes_modules, errors_modules, handler_module}
-use Rattle.cd_standard.specs.Walking.{in_layer, in_matcher}
-use Rattle.cd_legal.specs.declared.plan.PlanModule.{PlanModule}
+use Rattle.cd_standard.specs.Walking.{in_layer, in_matcher, in_subroute}
 
 matcher_rolled : (x : Matcher-F Matcher MatcherSet NotMatcher) (at : Path) → matcher_modules (roll-Matcher x) at
     ≡ planned (matcher_id (kind_name (kind_layer x))) (at ▸ kind_name (kind_layer x)) ∷ in_layer x (at ▸ kind_name (kind_layer x))
@@ -67,9 +66,6 @@ handler_named h = search (rules, ring.the_lemmas)
 
 subroute_named : (s : Subroute) → step_name (step.Subroute s) ≡ subroute_name
 subroute_named s = search (rules, ring.the_lemmas)
-
-abbrev pub in_subroute : Subroute → Path → List PlanModule
-in_subroute s at = routes_modules (out-Subroute s).routes (at ▸ codes "routes") ++ errors_modules (out-Subroute s).errors at
 
 pub handler_step : (s : Step) (h : Handler) (at : Path) → s ≡ step.Handler h → handler_module (step_name s) at ∷ [] ≡ step_modules s at
 handler_step s h at is =

@@ -4,3 +4,4 @@ pub mod Errors
 pub mod Levels
 pub mod Examples
 pub mod Doing
+pub mod Tallies

@@ -3,6 +3,7 @@ use Rattle.std.specs.Prelude.{◌&&◌, ◌||◌, Bool, true, false, not, if◌t
 use Rattle.std.specs.List.{find, list_any}
 use Rattle.std.specs.Result.{result_map_both}
 use Rattle.cd_outside.specs.declared.address.Address.{Address}
+use Rattle.cd_addr.specs.Addresses.{is_address}
 use Rattle.cd_tree.specs.declared.tree.Tree.{Tree}
 use Rattle.cd_wire.specs.declared.answer.Answer.{Answer}
 use Rattle.cd_wire.specs.declared.request.Request.{Request}
@@ -16,7 +17,7 @@ use Rattle.cd_module_set.specs.Acts.{Acts, nobody}
 use Rattle.cd_module_set.specs.declared.target.Target.{Target}
 use Rattle.cd_module_set.specs.declared.target.Target.TheVariants.{Admin, App, Nobody}
 use Rattle.cd_echo.specs.Echo.{echo_answer}
-use Rattle.cd_standard.specs.Loading.{is_address, loaded, servers_of}
+use Rattle.cd_standard.specs.Loading.{loaded, servers_of}
 use Rattle.cd_standard.specs.declared.app.App as app
 use Rattle.cd_standard.specs.declared.app.App.TheVariants as kind
 use Rattle.cd_standard.specs.declared.configuration.Configuration.{Configuration}

@@ -4,6 +4,7 @@ use Rattle.std.specs.Str.{bytes_eq}
 use Rattle.cd_text.specs.Steps.{◌▷◌}
 use Rattle.cd_tree.specs.declared.path.Path.{Path}
 use Rattle.cd_outside.specs.declared.address.Address.{Address}
+use Rattle.cd_addr.specs.Addresses.{listed}
 use Rattle.cd_module.specs.Faults.{refused, unknown_module}
 use Rattle.cd_module.specs.Settings.{Reader, text, truth, number_or_text, list_of, members, optional, needed, object_of}
 use Rattle.cd_module.specs.declared.fault.LoadFault.{LoadFault}
@@ -35,7 +36,7 @@ one_address (address ∷ []) at = Ok (record { address = address })
 one_address (address ∷ other ∷ others) at = Err (refused BadAddress at)
 
 unfoldable pub admin_listen : Reader AdminListen
-admin_listen t at = listen_text t at ▷ λ found. one_address found.addresses at
+admin_listen t at = listen_text t at ▷ λ found. one_address (listed found.range) at
 
 abbrev pub given_or_usual : Option AdminListen → Address
 given_or_usual None = usual_address

@@ -1,7 +1,6 @@
 -- What a tree comes to as a configuration: the configuration with its plan, or the first fault.
-use Rattle.std.specs.Prelude.{◌==◌, ◌&&◌, Bool, if◌then◌else◌, List, [], ◌∷◌, ◌++◌, length, Option, Some, None, Result, Ok, Err}
+use Rattle.std.specs.Prelude.{Bool, if◌then◌else◌, List, [], ◌∷◌, ◌++◌, length, Option, Some, None, Result, Ok, Err}
 use Rattle.std.specs.List.{flat_map, list_any}
-use Rattle.std.specs.Str.{bytes_eq}
 use Rattle.cd_text.specs.Steps.{◌▷◌}
 use Rattle.cd_tree.specs.Fields.{is_null}
 use Rattle.cd_tree.specs.declared.tree.Tree.{Tree, out-Tree}
@@ -9,7 +8,7 @@ use Rattle.cd_ids.specs.Ids.{id_fault}
 use Rattle.cd_ids.specs.declared.fault.IdFault.{IdFault}
 use Rattle.cd_ids.specs.declared.fault.IdFault.TheVariants as id
 use Rattle.cd_outside.specs.declared.address.Address.{Address}
-use Rattle.cd_addr.specs.Addresses.{written}
+use Rattle.cd_addr.specs.Addresses.{is_address, written}
 use Rattle.cd_module.specs.Faults.{refused, repeated_id, repeated_address, within}
 use Rattle.cd_module.specs.Settings.{all_layer}
 use Rattle.cd_module.specs.declared.fault.LoadFault.{LoadFault}
@@ -58,10 +57,6 @@ limits c =
     few_errors (servers_of c)
 
 -- ---- addresses
-
--- the same host and the same port
-abbrev pub is_address : Address → Address → Bool
-is_address one other = bytes_eq one.host other.host && (one.port == other.port)
 
 abbrev pub is_among : Address → List Listened → Bool
 is_among address listened = list_any (λ one. is_address address one.address) listened

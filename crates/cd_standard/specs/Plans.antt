@@ -4,6 +4,7 @@ use Rattle.std.specs.List.{flat_map}
 use Rattle.cd_tree.specs.Path.{◌▸◌}
 use Rattle.cd_tree.specs.declared.path.Path.{Path}
 use Rattle.cd_outside.specs.declared.key.Key.TheVariants as key
+use Rattle.cd_addr.specs.Addresses.{listed}
 use Rattle.cd_match.specs.Names.{kind_name, kind_layer}
 use Rattle.cd_match.specs.declared.matcher.Matcher.TheOpen.{Matcher-F, MatcherSet-F, NotMatcher-F}
 use Rattle.cd_match.specs.declared.matcher.Matcher.{Matcher, fold-Matcher}
@@ -136,7 +137,7 @@ modules_of c = flat_map (app_modules (root ▸ codes "apps")) c.apps
 
 -- the addresses of a text, each with the place of the text
 abbrev pub text_addresses : ListenText → List Listened
-text_addresses text = map (λ address. record { address = address; at = text.at }) text.addresses
+text_addresses text = map (λ address. record { address = address; at = text.at }) (listed text.range)
 
 -- text by text, and port by port
 abbrev pub listen_addresses : Listen → List Listened

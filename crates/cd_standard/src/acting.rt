@@ -2,15 +2,16 @@
 ghost use Rattle.std.specs.Prelude.{◌≡◌};
 ghost use Rattle.std.specs.List.{find, flat_map, list_any};
 ghost use Rattle.std.specs.Option.{option_copied};
-ghost use Rattle.cd_standard.specs.Acting.{admin_at, echo_at, echoes_at, has_address, listens_at, server_at, stdio_address, target_at};
-ghost use Rattle.cd_standard.specs.Loading.{app_servers, is_address};
+ghost use Rattle.cd_addr.specs.Addresses.{is_address};
+ghost use Rattle.cd_standard.specs.Acting.{admin_at, echo_at, echoes_at, has_address, server_at, stdio_address, target_at};
+ghost use Rattle.cd_standard.specs.Loading.{app_servers};
 
 use crate::app::App;
 use crate::configuration::Configuration;
 use crate::judging::is_address;
 use cd_module_set::Target;
 use cd_outside::Address;
-use cd_routes::{Listen, ListenText, Server};
+use cd_routes::Server;
 
 impl Configuration {
     /// Who answers at an address. It takes no memory.
@@ -64,7 +65,7 @@ fn echoes_at(at: &Address, app: &App) -> bool
     ensures { result ≡ echoes_at at.now app.now }
 {
     match app {
-        App::Echo(echo) => listens_at(at, &echo.listen),
+        App::Echo(echo) => echo.listen.contains(at),
         App::Http(_) => false,
     }
 }
@@ -105,35 +106,11 @@ fn first_with<'a>(at: &Address, servers: &'a [Server]) -> Option<&'a Server>
 fn has_address(at: &Address, server: &Server) -> bool
     ensures { result ≡ has_address at.now server.now }
 {
-    is_stdio(at) || listens_at(at, &server.listen)
+    is_stdio(at) || server.listen.contains(at)
 }
 
 fn is_stdio(at: &Address) -> bool
     ensures { result ≡ is_address at.now stdio_address }
 {
     at.host.equals("stdio") && at.port == 0
-}
-
-// ---- what is listened on
-
-fn listens_at(at: &Address, listen: &Listen) -> bool
-    ensures { result ≡ listens_at at.now listen.now }
-{
-    for text in listen.texts.as_slice() {
-        if is_named(at, text) {
-            return true;
-        }
-    }
-    false
-}
-
-fn is_named(at: &Address, text: &ListenText) -> bool
-    ensures { result ≡ list_any (is_address at.now) text.now.addresses }
-{
-    for address in text.addresses.as_slice() {
-        if is_address(at, address) {
-            return true;
-        }
-    }
-    false
 }

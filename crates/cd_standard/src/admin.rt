@@ -38,7 +38,8 @@ impl Settings for AdminListen {
     #[tactic(auto, unfolding(crate::specs::Configuration::admin_listen))]
     fn read(alloc: Global, tree: &Tree, at: &Path) -> Result<AdminListen, LoadFault> {
         let text = ListenText::read(alloc, tree, at)?;
-        let [address] = text.addresses.as_slice() else {
+        let addresses = text.range.list(alloc)?;
+        let [address] = addresses.as_slice() else {
             return Err(LoadFault::at(alloc, LoadKind::BadAddress, at));
         };
         Ok(AdminListen {

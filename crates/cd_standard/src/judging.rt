@@ -2,15 +2,15 @@
 ghost use Rattle.std.specs.Prelude.{◌≡◌, ◌≢◌, [], length};
 ghost use Rattle.std.specs.List.{flat_map};
 ghost use Rattle.cd_text.specs.Gives.{Gives};
-ghost use Rattle.cd_addr.specs.Addresses.{written};
+ghost use Rattle.cd_addr.specs.Addresses.{is_address, written};
 ghost use Rattle.cd_module.specs.Faults.{repeated_address, within};
 ghost use Rattle.cd_routes.specs.Catching.{error_subroutes};
-ghost use Rattle.cd_standard.specs.Loading.{all_distinct, app_servers, few_errors, is_address, is_among, judged, limits, servers_of};
+ghost use Rattle.cd_standard.specs.Loading.{all_distinct, app_servers, few_errors, is_among, judged, limits, servers_of};
 ghost use Rattle.cd_standard.specs.Plans.{addresses_of, modules_of};
 
 use crate::app::App;
 use crate::configuration::Configuration;
-use crate::counting::{count_addresses, count_servers};
+use crate::counting::{count_addresses, count_modules, count_servers};
 use crate::listening::{Listened, addresses_of};
 use cd_addr::write;
 use cd_module::{Limit, LoadFault};
@@ -18,29 +18,31 @@ use cd_outside::Address;
 use cd_routes::Server;
 use std::alloc::Global;
 
-/// The first fault of the whole of a configuration, which has so many modules.
-pub fn judge(alloc: Global, configuration: &Configuration, modules: usize) -> Result<(), LoadFault>
-    requires { modules ≡ length (modules_of configuration.now) }
+/// The first fault of the whole of a configuration. Its modules and addresses are counted, and its addresses are written out only
+/// where there are not too many.
+pub fn judge(alloc: Global, configuration: &Configuration) -> Result<(), LoadFault>
     ensures { Gives LoadFault.NoMemory result (judged configuration.now) }
 {
-    check_limits(alloc, configuration, modules)?;
+    check_limits(alloc, configuration)?;
     check_addresses(alloc, configuration)
 }
 
 // ---- limits
 
-fn check_limits(
-    alloc: Global,
-    configuration: &Configuration,
-    modules: usize,
-) -> Result<(), LoadFault>
-    requires { modules ≡ length (modules_of configuration.now) }
+fn check_limits(alloc: Global, configuration: &Configuration) -> Result<(), LoadFault>
     ensures { Gives LoadFault.NoMemory result (limits configuration.now) }
 {
-    Limit::Modules.allows(alloc, modules)?;
+    check_count_of_modules(alloc, configuration)?;
     check_count_of_addresses(alloc, configuration)?;
     check_count_of_servers(alloc, configuration)?;
     check_errors(alloc, configuration.apps.as_slice())
+}
+
+#[tactic(auto, using(crate::proofs::Counts::within_counted))]
+fn check_count_of_modules(alloc: Global, configuration: &Configuration) -> Result<(), LoadFault>
+    ensures { Gives LoadFault.NoMemory result (within Limit.Modules (length (modules_of configuration.now))) }
+{
+    Limit::Modules.allows(alloc, count_modules(configuration))
 }
 
 #[tactic(auto, using(crate::proofs::Counts::within_counted))]

@@ -141,7 +141,8 @@ fn add_listen(alloc: Global, listen: &Listen, listened: &mut List<Listened>) -> 
 fn add_text(alloc: Global, text: &ListenText, listened: &mut List<Listened>) -> Result<(), NoMemory>
     ensures { OnOk result (listened.new ≡ listened.old ++ text_addresses text.now) }
 {
-    for address in text.addresses.as_slice() {
+    let addresses = text.range.list(alloc)?;
+    for address in addresses.as_slice() {
         listened.push(Listened {
             address: address.copy(alloc)?,
             at: text.at.copy(alloc)?,

@@ -3,13 +3,12 @@ ghost use Rattle.std.specs.Prelude.{◌≡◌, IfOk};
 ghost use Rattle.cd_text.specs.Gives.{Gives};
 ghost use Rattle.cd_ids.specs.Ids.{id_fault};
 ghost use Rattle.cd_standard.specs.Loading.{accepted, loaded, nothing_said, of_ids, of_object, of_settings, planned};
-ghost use Rattle.cd_standard.specs.Plans.{modules_of};
 
 use crate::admin::Admin;
 use crate::configuration::Configuration;
 use crate::judging::judge;
 use crate::listening::apps_of;
-use cd_legal::{Plan, PlanModule};
+use cd_legal::Plan;
 use crate::planning::modules_of;
 use cd_ids::{IdFault, Index};
 use cd_module::{LoadFault, LoadKind, Settings};
@@ -47,8 +46,7 @@ fn load_nothing(alloc: Global) -> Result<Configured, NoMemory>
         admin: Admin::usual(alloc)?,
         apps: List::new(alloc),
     };
-    let modules = modules_of(alloc, &configuration)?;
-    with_plan(alloc, configuration, modules)
+    with_plan(alloc, configuration)
 }
 
 fn load_object(alloc: Global, tree: &Tree) -> Result<Configured, LoadFault>
@@ -78,23 +76,18 @@ fn check_ids(alloc: Global, tree: &Tree) -> Result<(), LoadFault>
     }
 }
 
-// The modules are made once, and counted as they are.
+// The plan is made once nothing is too many.
 fn accept(alloc: Global, configuration: Configuration) -> Result<Configured, LoadFault>
     ensures { Gives LoadFault.NoMemory result (accepted configuration) }
 {
-    let modules = modules_of(alloc, &configuration)?;
-    judge(alloc, &configuration, modules.len())?;
-    Ok(with_plan(alloc, configuration, modules)?)
+    judge(alloc, &configuration)?;
+    Ok(with_plan(alloc, configuration)?)
 }
 
-fn with_plan(
-    alloc: Global,
-    configuration: Configuration,
-    modules: List<PlanModule>,
-) -> Result<Configured, NoMemory>
-    requires { modules ≡ modules_of configuration }
+fn with_plan(alloc: Global, configuration: Configuration) -> Result<Configured, NoMemory>
     ensures { IfOk result (λ made. made ≡ planned configuration) }
 {
+    let modules = modules_of(alloc, &configuration)?;
     let apps = apps_of(alloc, &configuration)?;
     Ok(Configured {
         configuration,

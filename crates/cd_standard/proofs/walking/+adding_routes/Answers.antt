@@ -3,7 +3,8 @@ use Rattle.cd_tree.specs.Path.{◌▸◌}
 use Rattle.cd_standard.specs.Plans.{planned, handler_id, in_elements, set_modules, step_modules}
 use Rattle.cd_legal.specs.declared.plan.PlanModule.{PlanModule}
 use Rattle.cd_standard.proofs.Adding.{module_and_inside, two_added}
-use Rattle.cd_standard.proofs.Levels.{route_modules_is, handler_step, subroute_step, in_subroute}
+use Rattle.cd_standard.specs.Walking.{in_subroute}
+use Rattle.cd_standard.proofs.Levels.{route_modules_is, handler_step, subroute_step}
 use Rattle.cd_standard.proofs.walking.+adding_routes.Goals as goal
 
 pub add_route-returns-clause-added : goal.add_route-returns-clause-added
