@@ -7,6 +7,9 @@
 //! `NoMemory` is the one error of calls that are refused for want of memory alone. The word `Gives` (specs/Gives.antt) says
 //! of any result that it is exactly what a definition gives unless memory ran out; `▷` (specs/Steps.antt) chains steps of
 //! such definitions, with `refused_where` for a test and `some_or` for a value that may not be there.
+//!
+//! `by_key` (specs/ByKey.antt) is a list in the order of its elements' keys, as a stable sort by std leaves it: what leads
+//! from such a sort to `by_key`, and the laws of that order, is in proofs/ByKeyLemmas.antt.
 #![tactic(auto)]
 
 mod escapes;
