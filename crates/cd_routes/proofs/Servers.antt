@@ -1,5 +1,5 @@
 -- What is known of a server that was read: its name, and that it listens somewhere.
-use Rattle.std.proofs.Common.{◌≡◌, ℕ, ◌+◌, ◌-◌, ◌≤◌, List, [], ◌∷◌, length, refl, ap, sym, ◌∙◌, arith, Option, Some, None, Result, Ok, Err, codes, length-append, decimal, suc}
+use Rattle.std.proofs.Common.{◌≡◌, ℕ, ◌≤◌, List, [], ◌∷◌, length, refl, ap, sym, ◌∙◌, arith, Option, Some, None, Result, Ok, Err, codes, length-append, decimal, suc}
 use Rattle.std.specs.List.{flat_map}
 use Rattle.cd_text.specs.Steps.{◌▷◌}
 use Rattle.cd_tree.specs.Fields.{get}
@@ -10,9 +10,9 @@ use Rattle.cd_tree.specs.declared.tree.Tree.{Tree, out-Tree}
 use Rattle.cd_tree.specs.declared.tree.Tree.TheOpen.{Tree-F}
 use Rattle.cd_addr.specs.Addresses.{listed}
 use Rattle.cd_addr.proofs.Ranges.{count_is}
-use Rattle.cd_module.specs.Settings.{text, each, list_layer, members, needed, must_be_there, optional}
+use Rattle.cd_module.specs.Settings.{each, list_layer, members, needed, must_be_there, optional}
 use Rattle.cd_routes.specs.Reading.{routes, error_routes}
-use Rattle.cd_routes.specs.Server.{placed, listen_text, some_text, listen, listened, timeouts, protocols, server}
+use Rattle.cd_routes.specs.Server.{listen_text, some_text, listen, listened, timeouts, protocols, server}
 use Rattle.cd_routes.specs.declared.listen.Listen.{Listen}
 use Rattle.cd_routes.specs.declared.listen.ListenText.{ListenText}
 use Rattle.cd_routes.specs.declared.server.Server.{Server}
