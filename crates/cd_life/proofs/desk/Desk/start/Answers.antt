@@ -1,0 +1,33 @@
+use Rattle.std.proofs.Common.{◌≡◌, ◌<◌, ◌∙◌, ◌+◌, ℕ, length, set, slice_get, Some, sym, subst, ap, arith, rules}
+use Rattle.cd_legal.specs.declared.part.Part.TheVariants.{Instance, App}
+use Rattle.cd_life.specs.declared.row.Row.{Row}
+use Rattle.cd_life.specs.Rows.{line_at}
+use Rattle.cd_life.proofs.Lists.{get_set_same}
+use Rattle.cd_life.proofs.Standing.{adds}
+use Rattle.cd_life.proofs.Openings.{opens}
+use Rattle.cd_life.proofs.desk.Desk.start.Goals as goal
+
+pub start_in-requires : goal.start_in-requires
+start_in-requires g c =
+    let can = c.requires.can in
+    let at = c.place_of-place.ensures.place in
+    let number = can.at.number in
+    let here : can.place ≡ c.place_of-place.result = omega (arith, at, number) in
+    record { can = (can.row, subst (λ (z : ℕ). slice_get c.args.self.now.books.rows.items z ≡ Some can.row) here can.at.there, can.left) }
+
+pub returns-clause-entry : goal.returns-clause-entry
+returns-clause-entry g c =
+    let calls = g.F.Fixtures.calls in
+    let v = c.args.self.now in
+    let o = c.start_in.ensures.opens in
+    let at = c.place_of-place.ensures.place in
+    record {
+      place = c.place_of-place.result;
+      was = o.changes.was;
+      is = o.changes.is;
+      before = record { number = at; there = o.changes.there };
+      now = record { number = at ∙ ap (λ (z : ℕ). z + c.place_of-place.result) (sym o.changes.first); there = ap (λ z. slice_get z c.place_of-place.result) o.changes.rows ∙ get_set_same v.books.rows.items c.place_of-place.result o.changes.was o.changes.is o.changes.there };
+      opened = o.opens.opened;
+      taken = length o.opens.takes.0;
+      adds = adds calls v _ _ (opens calls App v c.start_in.new.fixtures c.start_in.new.books c.args.draft c.place_of-place.result c.start_in.result c.requires.can at o);
+    }
