@@ -6,3 +6,4 @@ pub mod Ticketing
 pub mod Openings
 pub mod Planned
 pub mod Drafted
+pub mod Ending

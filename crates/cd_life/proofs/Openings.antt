@@ -68,11 +68,11 @@ keys_there [] i lt = absurd (omega arith)
 keys_there (k ∷ keys) zero lt = refl
 keys_there (k ∷ keys) (suc i) lt = keys_there keys i (omega arith)
 
-line_part : (p : Part) (r : Row) → (line_at p r).part ≡ p
+pub line_part : (p : Part) (r : Row) → (line_at p r).part ≡ p
 line_part Instance r = r.instances
 line_part App r = r.started
 
-line_plan : (p : Part) (r : Row) → (line_at p r).plan.value ≡ r.plan.value
+pub line_plan : (p : Part) (r : Row) → (line_at p r).plan.value ≡ r.plan.value
 line_plan Instance r = r.modules_plan
 line_plan App r = r.apps_plan
 
@@ -80,7 +80,7 @@ shows_count : (p : Part) (retired : List ℕ) (r : Row) (x : Drafted) → Shows 
 shows_count Instance retired r x sh = sh.made
 shows_count App retired r x sh = sh.started
 
-length_map : {A B : Type 0} (f : A → B) (xs : List A) → length (map f xs) ≡ length xs
+pub length_map : {A B : Type 0} (f : A → B) (xs : List A) → length (map f xs) ≡ length xs
 length_map f [] = refl
 length_map f (x ∷ xs) = ap suc (length_map f xs)
 

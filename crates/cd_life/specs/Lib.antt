@@ -6,3 +6,4 @@ pub mod Books
 pub mod Desks
 pub mod Opening
 pub mod Drafting
+pub mod Publishing

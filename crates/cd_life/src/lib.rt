@@ -7,6 +7,7 @@ mod drafting;
 mod drafts;
 mod instance;
 mod line;
+mod lives;
 mod making;
 mod opening;
 mod row;
