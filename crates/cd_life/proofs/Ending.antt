@@ -50,8 +50,8 @@ many : (p : Part) (retired : List ℕ) (r : Row) (x : Drafted) → Shows retired
 many p retired r x sh = ap (λ (z : Plan). length (part_keys p z)) (sh.plan ∙ sym (line_plan p r)) ∙ (ap (λ z. length (part_keys z (line_at p r).plan.value)) (sym (line_part p r)) ∙ (line_at p r).all)
 
 not_there : (b : Bool) → (b ≡ true → ⊥) → b ≡ false
-not_there true no = absurd (no refl)
-not_there false no = refl
+not_there true never = absurd (never refl)
+not_there false never = refl
 
 live_unretired : (retired : List ℕ) (r : Row) (x : Drafted) → Shows retired r x → r.life ≡ Live → r.retired ≡ false
 live_unretired retired r x sh live = sym sh.over ∙ ap (is_retired retired) (sh.life ∙ live)

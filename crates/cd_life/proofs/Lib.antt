@@ -7,3 +7,5 @@ pub mod Openings
 pub mod Planned
 pub mod Drafted
 pub mod Ending
+pub mod Counts
+pub mod Untouched

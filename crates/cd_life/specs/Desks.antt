@@ -1,5 +1,5 @@
 -- What a desk stands for.
-use Rattle.std.specs.Prelude.{◌≡◌, ℕ, suc, ◌+◌, ◌<◌, ◌==◌, cond, true, List, [], ◌∷◌, ◌++◌, length, drop, slice_get, Option, Some, None}
+use Rattle.std.specs.Prelude.{◌≡◌, ℕ, zero, suc, ◌+◌, ◌<◌, ◌==◌, cond, true, List, [], ◌∷◌, ◌++◌, length, drop, slice_get, Option, Some, None}
 use Rattle.cd_outside.specs.declared.fixtures.FixtureCall.{FixtureCall}
 use Rattle.cd_outside.specs.FixtureCall.{CallsGrow}
 use Rattle.cd_pool.specs.Pairs.{pairs}
@@ -32,6 +32,11 @@ HasTicket tickets k = (n : ℕ) × (slice_get tickets k ≡ Some (Some n))
 abbrev pub told_at : ℕ → List (Option ℕ) → ℕ
 told_at n [] = 0
 told_at n (o ∷ os) = one_at n o + told_at n os
+
+-- so many callers, and no request
+abbrev pub none_open : ℕ → List (Option ℕ)
+none_open zero = []
+none_open (suc n) = None ∷ none_open n
 
 module _ {F : Type 0} (calls : F → Option (List FixtureCall)) where
   -- the desk keeps what the state says, so many requests began under the serial, and since the opening desk the fixtures were

@@ -23,6 +23,10 @@ abbrev pub failed_of : Result (Unit {0}) Key → Option Key
 failed_of (Ok u) = None
 failed_of (Err key) = Some key
 
+abbrev pub failed_in : {A : Type 0} → Result A Key → Option Key
+failed_in (Ok x) = None
+failed_in (Err key) = Some key
+
 -- these keys were taken, from the first on
 pub record Taken (h : Holder) (done : List Key) (old new : List Leased) (more : List FixtureCall) (before after : Option (List FixtureCall)) (numbers : List ℕ) : Type 0 where
   pub added : pairs new ≡ pairs old ++ pairs_for h done

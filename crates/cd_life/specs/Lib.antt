@@ -7,3 +7,5 @@ pub mod Desks
 pub mod Opening
 pub mod Drafting
 pub mod Publishing
+pub mod Lefts
+pub mod Changes

@@ -12,7 +12,7 @@ use Rattle.cd_life.specs.declared.books.Books.{Books}
 use Rattle.cd_life.specs.declared.desk.Desk.{Desk}
 use Rattle.cd_life.specs.Instances.{failed_of}
 use Rattle.cd_life.specs.Rows.{line_at}
-use Rattle.cd_life.specs.Books.{RowAt}
+use Rattle.cd_life.specs.Books.{RowAt, Opens}
 use Rattle.cd_life.specs.Desks.{AddsTo}
 
 -- an app waits for all instances
@@ -36,13 +36,9 @@ opening_entry Instance d i taken failed = Made d i taken failed
 opening_entry App d i taken failed = Started d i taken failed
 
 module _ {F : Type 0} (calls : F → Option (List FixtureCall)) where
-  -- the entry of the next one is added, with the number of the keys that it has taken
+  -- the next one is opened, and its entry is added, with the number of the keys that it has taken
   pub record OpensEntry (part : Part) (v w : Desk F) (d : ℕ) (result : Result (Unit {0}) Key) : Type 0 where
     pub place : ℕ
-    pub was : Row
-    pub is : Row
-    pub before : RowAt v.books d place was
-    pub now : RowAt w.books d place is
-    pub opened : (line_at part is).opened ≡ (line_at part was).opened + 1
-    pub taken : ℕ
-    pub adds : AddsTo calls v w (opening_entry part d (line_at part was).opened taken (failed_of result))
+    pub number : d ≡ v.books.first + place
+    pub opens : Opens part place v.books w.books (calls v.fixtures) (calls w.fixtures) result
+    pub adds : AddsTo calls v w (opening_entry part d (line_at part opens.changes.was).opened (length opens.opens.takes.0) (failed_of result))

@@ -33,7 +33,7 @@ pub enum DraftFault {
 // Of these instances none is opened.
 fn new_line(part: Part, plan: &Plan, parts: Vec<Instance>) -> Line
     requires wait { AllWait parts.items (part_keys part plan.now) }
-    requires bound { length parts.items ≤ 65536 }
+    requires bound { length parts.items ≤ 65537 }
     ensures { IsNew part plan.now parts.items result }
 {
     let plan = Snapshot::of(plan);
@@ -93,7 +93,7 @@ impl<F: Fixtures> Desk<F> {
         plan: &Plan,
     ) -> Result<u64, DraftFault>
         requires modules { length plan.now.modules ≤ 65536 }
-        requires apps { length plan.now.apps ≤ 65536 }
+        requires apps { length plan.now.apps ≤ 65537 }
         ensures entry { IfOk result (λ d. AddsTo F.calls self.old self.new (entry.Draft d tree.now plan.now)) }
         ensures row { IfOk result (λ d. HasNew self.new.books d tree.now plan.now) }
         ensures err { OnErr result (Keeps F.calls self.old self.new) }

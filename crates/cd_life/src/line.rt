@@ -17,6 +17,6 @@ pub struct Line {
     pub(crate) ended: u32,
     ghost all: { length (part_keys part plan.value) ≡ length parts.items },
     ghost within: { opened ≤ length parts.items },
-    ghost bound: { length parts.items ≤ 65536 },
+    ghost bound: { length parts.items ≤ 65537 },
     ghost wait: { Wait opened parts.items (part_keys part plan.value) },
 }

@@ -1,8 +1,5 @@
-use Rattle.std.proofs.Common.{◌≡◌, ◌<◌, ◌∙◌, ◌+◌, ℕ, length, set, slice_get, Some, sym, subst, ap, arith, rules}
+use Rattle.std.proofs.Common.{◌≡◌, ◌<◌, ◌+◌, ℕ, length, slice_get, Some, subst, arith, rules}
 use Rattle.cd_legal.specs.declared.part.Part.TheVariants.{Instance, App}
-use Rattle.cd_life.specs.declared.row.Row.{Row}
-use Rattle.cd_life.specs.Rows.{line_at}
-use Rattle.cd_life.proofs.Lists.{get_set_same}
 use Rattle.cd_life.proofs.Standing.{adds}
 use Rattle.cd_life.proofs.Openings.{opens}
 use Rattle.cd_life.proofs.desk.Desk.start.Goals as goal
@@ -23,11 +20,7 @@ returns-clause-entry g c =
     let at = c.place_of-place.ensures.place in
     record {
       place = c.place_of-place.result;
-      was = o.changes.was;
-      is = o.changes.is;
-      before = record { number = at; there = o.changes.there };
-      now = record { number = at ∙ ap (λ (z : ℕ). z + c.place_of-place.result) (sym o.changes.first); there = ap (λ z. slice_get z c.place_of-place.result) o.changes.rows ∙ get_set_same v.books.rows.items c.place_of-place.result o.changes.was o.changes.is o.changes.there };
-      opened = o.opens.opened;
-      taken = length o.opens.takes.0;
+      number = at;
+      opens = o;
       adds = adds calls v _ _ (opens calls App v c.start_in.new.fixtures c.start_in.new.books c.args.draft c.place_of-place.result c.start_in.result c.requires.can at o);
     }
