@@ -44,7 +44,6 @@ pub leases_of-append : (g : Holder) (xs ys : List Leased) → leases_of g (xs ++
 leases_of-append g [] ys = refl
 leases_of-append g (x ∷ xs) ys = ap (λ z. cond (holder_eq g x.pair.holder) (x.number ∷ z) z) (leases_of-append g xs ys) ∙ pick (holder_eq g x.pair.holder) x.number (leases_of g xs) (leases_of g ys)
 
-
 map-append : (f : Key → FixtureCall) (xs ys : List Key) → map f (xs ++ ys) ≡ map f xs ++ map f ys
 map-append f [] ys = refl
 map-append f (x ∷ xs) ys = ap (λ z. f x ∷ z) (map-append f xs ys)

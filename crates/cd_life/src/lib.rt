@@ -11,13 +11,14 @@
 //!
 //! Files: instance.rt takes and gives back the keys of one instance; opening.rt opens and ends one of a line, rows.rt one of a
 //! draft, making.rt and steps.rt one as an entry; drafts.rt, lives.rt and tickets.rt have the other entries of the desk; and
-//! beginning.rt, boarding.rt and readers.rt are the calls of the board.
+//! beginning.rt, boarding.rt, closing.rt and readers.rt are the calls of the board.
 #![tactic(auto)]
 
 mod beginning;
 mod board;
 mod boarding;
 mod books;
+mod closing;
 mod desk;
 mod drafting;
 mod drafts;
@@ -37,6 +38,7 @@ mod tickets;
 
 pub use beginning::NoBoard;
 pub use board::{Board, Draft};
+pub use closing::Closing;
 pub use drafts::DraftFault;
 pub use left::{Left, Step};
 pub use share::Nothing;

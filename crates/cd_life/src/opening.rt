@@ -43,12 +43,7 @@ impl Line {
     }
 
     // Ends the last one that is opened and not ended.
-    pub(crate) fn end_last<F: Fixtures>(
-        &mut self,
-        pool: &mut Pool,
-        fixtures: &mut F,
-        draft: u64,
-    )
+    pub(crate) fn end_last<F: Fixtures>(&mut self, pool: &mut Pool, fixtures: &mut F, draft: u64)
         requires left { self.old.ended < self.old.opened }
         requires leases { IfSome (slice_get self.old.parts.items (self.old.opened - self.old.ended - 1)) (λ a. a.leases.items ≡ leases_of (part_of self.old.part draft (self.old.opened - self.old.ended - 1)) pool.old.held) }
         ensures ends { EndsLast draft self.old self.new pool.old pool.new (F.calls fixtures.old) (F.calls fixtures.new) }

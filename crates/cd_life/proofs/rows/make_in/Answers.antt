@@ -35,7 +35,7 @@ open_next-opened-requires-clause-none g c =
     let r = c.index_mut-row.result.now in
     let there = slice_get_read rows _ c.args.place r refl (slice_get_within rows c.args.place can.0 can.1) (search rules) in
     subst (λ (z : Part). leases_of (part_of z (c.args.books.now.first + c.args.place) r.modules.opened) c.args.books.now.pool.held ≡ []) (sym r.instances)
-        (c.args.books.now.leases c.args.place r.modules.opened false ∙ line_free Instance rows c.args.place r _ there r.modules.wait)
+    (c.args.books.now.leases c.args.place r.modules.opened false ∙ line_free Instance rows c.args.place r _ there r.modules.wait)
 
 pub invariant_of-row : goal.invariant_of-row
 invariant_of-row g c =

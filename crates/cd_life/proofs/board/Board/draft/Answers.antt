@@ -14,5 +14,5 @@ returns-clause-entry g c =
     let tree : c.deref.result.now.tree ≡ c.args.loaded.tree = ap (λ z. z.tree) (c.deref.ensures ∙ c.in-Ok.ensures.ok) in
     let plan : c.deref-2.result.now.plan ≡ c.args.loaded.plan = ap (λ z. z.plan) (c.deref-2.ensures ∙ c.in-Ok.ensures.ok) in
     subst (λ (z : ℕ). AddsTo calls v w (Draft z c.args.loaded.tree c.args.loaded.plan)) (sym number)
-        (subst (λ (z : Plan). AddsTo calls v w (Draft c.in_ok-number.number c.args.loaded.tree z)) plan
-        (subst (λ (z : Tree). AddsTo calls v w (Draft c.in_ok-number.number z c.deref-2.result.now.plan)) tree c.in_ok-number.ensures.entry))
+    (subst (λ (z : Plan). AddsTo calls v w (Draft c.in_ok-number.number c.args.loaded.tree z)) plan
+    (subst (λ (z : Tree). AddsTo calls v w (Draft c.in_ok-number.number z c.deref-2.result.now.plan)) tree c.in_ok-number.ensures.entry))

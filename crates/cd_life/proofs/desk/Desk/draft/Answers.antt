@@ -59,4 +59,3 @@ returns-clause-row g c =
       modules = (ap (λ z. z.opened) r.modules ∙ m.opened, ap (λ z. z.ended) r.modules ∙ m.ended);
       apps = (ap (λ z. z.opened) r.apps ∙ n.opened, ap (λ z. z.ended) r.apps ∙ n.ended);
     }
-
