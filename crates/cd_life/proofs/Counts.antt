@@ -1,5 +1,5 @@
 -- What is known of a draft after one more is opened.
-use Rattle.std.proofs.Common.{◌≡◌, ℕ, ◌+◌, ◌<◌, Bool, false, Option, Result, Ok, Err, refl, sym, ap, ◌∙◌, arith, List, length, set, slice_get, Some, subst, is_err}
+use Rattle.std.proofs.Common.{◌≡◌, ℕ, ◌+◌, ◌<◌, false, Option, Result, sym, ap, ◌∙◌, arith, List, length, slice_get, Some, subst, is_err}
 use Rattle.std.proofs.lemmas.List.{length-set}
 use Rattle.cd_tree.specs.declared.tree.Tree.{Tree}
 use Rattle.cd_outside.specs.declared.key.Key.{Key}

@@ -1,6 +1,5 @@
 -- What a desk stands for after a draft is made.
-use Rattle.std.proofs.Common.{◌≡◌, ℕ, zero, suc, ◌+◌, ◌<◌, ◌≤◌, ◌++◌, ◌∷◌, [], List, true, length, drop, length-append, refl, sym, ap, ◌∙◌, arith, Some, None, Option, subst, slice_get, is_some}
-use Rattle.std.proofs.lemmas.List.{append-nil}
+use Rattle.std.proofs.Common.{◌≡◌, ℕ, ◌+◌, ◌<◌, ◌≤◌, ◌++◌, ◌∷◌, [], List, true, length, drop, length-append, refl, sym, ap, ◌∙◌, arith, Option, subst, slice_get}
 use Rattle.cd_tree.specs.declared.tree.Tree.{Tree}
 use Rattle.cd_outside.specs.declared.fixtures.FixtureCall.{FixtureCall}
 use Rattle.cd_outside.specs.FixtureCall.{CallsGrow}
@@ -18,10 +17,10 @@ use Rattle.cd_life.specs.declared.row.Row.{Row}
 use Rattle.cd_life.specs.declared.books.Books.{Books}
 use Rattle.cd_life.specs.declared.desk.Desk.{Desk}
 use Rattle.cd_life.specs.Rows.{Shows, ShowsAt}
-use Rattle.cd_life.specs.Desks.{Agrees, Holds, Keeps}
+use Rattle.cd_life.specs.Desks.{Keeps}
 use Rattle.cd_life.specs.Drafting.{IsUnused, drafts_in}
 use Rattle.cd_life.proofs.Lists.{drop_push}
-use Rattle.cd_life.proofs.Standing.{Known, Steps, rows_added, closed_stays, plain_calls}
+use Rattle.cd_life.proofs.Standing.{Steps, rows_added, closed_stays, plain_calls}
 use Rattle.cd_life.proofs.Ticketing.{no_calls}
 
 -- the row of a new draft shows it

@@ -1,6 +1,6 @@
 -- What a desk stands for after a draft is published, or given up.
-use Rattle.std.proofs.Common.{◌≡◌, ℕ, suc, ◌+◌, ◌<◌, ◌==◌, Bool, true, false, ◌&&◌, List, [], ◌++◌, length, drop, map, refl, sym, ap, ◌∙◌, arith, Some, None, Option, slice_get, subst, eq-eqb}
-use Rattle.std.proofs.lemmas.List.{append-nil, length-set}
+use Rattle.std.proofs.Common.{◌≡◌, ℕ, ◌+◌, ◌<◌, Bool, true, false, List, length, drop, refl, sym, ap, ◌∙◌, arith, Some, Option, slice_get, subst}
+use Rattle.std.proofs.lemmas.List.{length-set}
 use Rattle.cd_outside.specs.declared.fixtures.FixtureCall.{FixtureCall}
 use Rattle.cd_outside.specs.FixtureCall.{CallsGrow}
 use Rattle.cd_pool.specs.Pairs.{pairs}
@@ -9,26 +9,22 @@ use Rattle.cd_legal.specs.declared.part.Part.TheVariants.{Instance, App}
 use Rattle.cd_legal.specs.declared.plan.Plan.{Plan}
 use Rattle.cd_legal.specs.declared.entry.Entry.TheVariants.{Abandon, Publish}
 use Rattle.cd_legal.specs.declared.entry.Change.{Change}
-use Rattle.cd_legal.specs.declared.state.State.{State}
 use Rattle.cd_legal.specs.declared.state.Drafted.{Drafted}
 use Rattle.cd_legal.specs.declared.state.Life.{Life}
 use Rattle.cd_legal.specs.declared.state.Life.TheVariants.{Live, Published, Abandoned}
 use Rattle.cd_legal.specs.State.{holds, has_number, is_live, change_at, part_keys}
-use Rattle.cd_legal.specs.Legal.{allowed, after, is_complete}
+use Rattle.cd_legal.specs.Legal.{allowed, is_complete}
 use Rattle.cd_legal.specs.Calls.{entry_calls}
-use Rattle.cd_legal.specs.Whole.{is_closed_in}
 use Rattle.cd_legal.proofs.Places.{length_change}
 use Rattle.cd_legal.proofs.Facts.{is_complete-by, allowed-by}
 use Rattle.cd_life.specs.declared.row.Row.{Row}
 use Rattle.cd_life.specs.declared.books.Books.{Books}
-use Rattle.cd_life.specs.declared.line.Line.{Line}
 use Rattle.cd_life.specs.declared.desk.Desk.{Desk}
 use Rattle.cd_life.specs.Rows.{Shows, ShowsAt, line_at, is_retired}
-use Rattle.cd_life.specs.Books.{Lives, RowAt}
-use Rattle.cd_life.specs.Desks.{Agrees}
+use Rattle.cd_life.specs.Books.{Lives}
 use Rattle.cd_life.specs.Publishing.{IsComplete, CanPublish, CanAbandon}
 use Rattle.cd_life.proofs.Lists.{get_drop, drop_change, same_at}
-use Rattle.cd_life.proofs.Standing.{Known, Steps, Shown, shown, rows_after, closed_stays, plain_calls}
+use Rattle.cd_life.proofs.Standing.{Steps, Shown, shown, rows_after, closed_stays, plain_calls}
 use Rattle.cd_life.proofs.Openings.{none_is, length_map, line_part, line_plan}
 use Rattle.cd_life.proofs.Ticketing.{no_calls}
 

@@ -1,9 +1,8 @@
 -- What a desk stands for after an instance is made, or an app is started.
-use Rattle.std.proofs.Common.{◌≡◌, ℕ, zero, suc, ◌+◌, ◌<◌, ◌==◌, Bool, true, false, ◌&&◌, List, [], ◌∷◌, ◌++◌, length, drop, take, map, refl, sym, ap, ◌∙◌, arith, Some, None, Ok, Err, Option, Result, set, slice_get, subst, eq-eqb, is_some, is_none, is_err, reverse}
+use Rattle.std.proofs.Common.{◌≡◌, ℕ, zero, suc, ◌+◌, ◌<◌, true, false, List, [], ◌∷◌, ◌++◌, length, drop, take, map, refl, sym, ap, ◌∙◌, arith, Some, None, Ok, Err, Option, Result, slice_get, subst, eq-eqb, is_some, is_err, reverse}
 use Rattle.std.proofs.lemmas.List.{append-nil, length-set}
 use Rattle.std.proofs.Math.Seq.{take-append_seam}
 use Rattle.cd_outside.specs.declared.key.Key.{Key}
-use Rattle.cd_outside.specs.declared.holder.Holder.{Holder}
 use Rattle.cd_outside.specs.declared.fixtures.FixtureCall.{FixtureCall}
 use Rattle.cd_outside.specs.FixtureCall.{CallsGrow}
 use Rattle.cd_outside.specs.Keys.{keys_in, pairs_for}
@@ -17,21 +16,19 @@ use Rattle.cd_legal.specs.declared.entry.Entry.TheVariants.{Made, Started}
 use Rattle.cd_legal.specs.declared.plan.Plan.{Plan}
 use Rattle.cd_legal.specs.declared.state.State.{State}
 use Rattle.cd_legal.specs.declared.state.Drafted.{Drafted}
-use Rattle.cd_legal.specs.declared.state.Life.TheVariants.{Live}
 use Rattle.cd_legal.specs.State.{holds, change_at, keys_at, part_keys, keys_for, part_of, opened_in, instances_ready, one_opened}
 use Rattle.cd_legal.specs.Legal.{allowed, after, keys_fit, part_opened, may_open}
 use Rattle.cd_legal.specs.Calls.{entry_calls, takings, failing}
 use Rattle.cd_legal.specs.Begins.{begins_by}
 use Rattle.cd_legal.specs.Whole.{is_closed_in}
 use Rattle.cd_legal.proofs.Places.{length_change}
-use Rattle.cd_legal.proofs.Facts.{opens-by, allowed-by}
+use Rattle.cd_legal.proofs.Facts.{opens-by}
 use Rattle.cd_life.specs.declared.row.Row.{Row}
 use Rattle.cd_life.specs.declared.books.Books.{Books}
-use Rattle.cd_life.specs.declared.line.Line.{Line}
 use Rattle.cd_life.specs.declared.desk.Desk.{Desk}
-use Rattle.cd_life.specs.Instances.{Ends, Taken, Takes, failed_of}
+use Rattle.cd_life.specs.Instances.{Ends, failed_of}
 use Rattle.cd_life.specs.Rows.{Shows, ShowsAt, line_at}
-use Rattle.cd_life.specs.Books.{Opens, RowAt, other}
+use Rattle.cd_life.specs.Books.{Opens, other}
 use Rattle.cd_life.specs.Desks.{Agrees}
 use Rattle.cd_life.specs.Opening.{CanOpenOf, IsReady, opening_entry}
 use Rattle.cd_life.proofs.Keeping.{calls_join}

@@ -1,5 +1,5 @@
 -- What the books keep while an instance is opened or ended.
-use Rattle.std.proofs.Common.{◌≡◌, ◌≢◌, ℕ, zero, suc, ◌+◌, ◌≤◌, ◌==◌, Bool, true, false, not, cond, List, [], ◌∷◌, ◌++◌, All, refl, sym, ap, ◌∙◌, arith, Some, None, Option, set, slice_get, get_or, length, ⊎_elim, subst, sum_by, eq-eqb, IfSome}
+use Rattle.std.proofs.Common.{◌≡◌, ◌≢◌, ℕ, zero, suc, ◌+◌, ◌≤◌, Bool, true, false, List, [], ◌∷◌, ◌++◌, All, refl, sym, ap, ◌∙◌, arith, Some, None, Option, set, slice_get, get_or, ⊎_elim, subst, sum_by, eq-eqb, IfSome}
 use Rattle.std.proofs.lemmas.List.Sums.{sum_by-set, sum_by-cons, sum_by-append}
 use Rattle.std.proofs.lemmas.Option.{slice_get_within, get_or_from_slice_get}
 use Rattle.std.proofs.lemmas.Bool.Decides.{eqb_tells}
@@ -13,7 +13,6 @@ use Rattle.cd_legal.specs.declared.part.Part.{Part}
 use Rattle.cd_legal.specs.declared.part.Part.TheVariants.{Instance, App}
 use Rattle.cd_legal.specs.State.{part_of, is_app}
 use Rattle.cd_life.specs.declared.instance.Instance.{Instance as Held}
-use Rattle.cd_life.specs.declared.line.Line.{Line}
 use Rattle.cd_life.specs.declared.row.Row.{Row}
 use Rattle.cd_life.specs.Waiting.{Wait, waits, IsEmpty}
 use Rattle.cd_life.specs.Rows.{line_by, line_at, leases_in, leases_at, place_in, line_waits, row_waits}

@@ -1,5 +1,5 @@
 -- What a desk stands for after one entry more.
-use Rattle.std.proofs.Common.{◌≡◌, ℕ, zero, suc, ◌+◌, ◌<◌, ◌≤◌, ◌==◌, Bool, true, false, ◌&&◌, ◌||◌, List, [], ◌∷◌, ◌++◌, length, drop, refl, sym, ap, ◌∙◌, arith, Some, None, Option, set, slice_get, ⊎_elim, subst, eq-eqb, IsTrue, option_map, is_some, is_none}
+use Rattle.std.proofs.Common.{◌≡◌, ℕ, zero, suc, ◌+◌, ◌≤◌, ◌==◌, Bool, true, false, ◌||◌, List, [], ◌∷◌, ◌++◌, refl, sym, ap, ◌∙◌, arith, Some, None, Option, set, slice_get, ⊎_elim, subst, IsTrue, option_map}
 use Rattle.std.proofs.lemmas.List.{append-nil}
 use Rattle.std.proofs.lemmas.Bool.{eqb-true}
 use Rattle.std.proofs.lemmas.Bool.Decides.{eqb_tells}
@@ -14,7 +14,7 @@ use Rattle.cd_legal.specs.declared.state.Life.{Life}
 use Rattle.cd_legal.specs.declared.state.Life.TheVariants.{Live, Published, Abandoned}
 use Rattle.cd_legal.specs.Entry.{signed, entries}
 use Rattle.cd_legal.specs.State.{opening_state, holds, has_number, is_live, may_clean_instances, all_stopped, change_at, open_by, new_draft}
-use Rattle.cd_legal.specs.Legal.{allowed, after, legal, legal_from, state_of, IsLegal, may_open, may_stop, may_clean, is_complete}
+use Rattle.cd_legal.specs.Legal.{allowed, after, legal, state_of, may_open, may_stop, may_clean, is_complete}
 use Rattle.cd_legal.specs.Calls.{fixture_calls, entry_calls, key_calls, shutting, is_shut}
 use Rattle.cd_legal.specs.Begins.{begins_by, begins_now}
 use Rattle.cd_legal.specs.Whole.{is_closed, is_closed_in}
@@ -28,7 +28,7 @@ use Rattle.cd_legal.proofs.Shutting.{shut_kept, may_shut}
 use Rattle.cd_life.specs.declared.desk.Desk.{Desk}
 use Rattle.cd_life.specs.declared.row.Row.{Row}
 use Rattle.cd_life.specs.Rows.{Shows, ShowsAt}
-use Rattle.cd_life.specs.Desks.{Agrees, Holds, AddsTo}
+use Rattle.cd_life.specs.Desks.{Agrees, AddsTo}
 use Rattle.cd_life.proofs.Lists.{get_set_same, get_set_other}
 use Rattle.cd_legal.proofs.Places.{get_change_same, get_change_other}
 

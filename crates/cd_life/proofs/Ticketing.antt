@@ -1,22 +1,20 @@
 -- What a desk stands for after a request has begun, or ended.
-use Rattle.std.proofs.Common.{Vec, Global, ◌≡◌, ◌≢◌, ℕ, zero, suc, ◌+◌, ◌==◌, Bool, true, false, cond, List, [], ◌∷◌, ◌++◌, refl, sym, ap, ◌∙◌, Some, None, Option, set, slice_get, subst, eq-eqb, ⊎_elim, is_some, arith}
+use Rattle.std.proofs.Common.{Vec, Global, ◌≡◌, ℕ, zero, suc, ◌+◌, true, false, List, [], ◌∷◌, ◌++◌, refl, sym, ap, ◌∙◌, Some, None, Option, set, slice_get, subst, ⊎_elim, is_some, arith}
 use Rattle.std.proofs.lemmas.List.{append-nil}
 use Rattle.std.proofs.lemmas.Bool.Decides.{eqb_tells}
 use Rattle.cd_outside.specs.declared.fixtures.FixtureCall.{FixtureCall}
 use Rattle.cd_outside.specs.FixtureCall.{CallsGrow}
-use Rattle.cd_legal.specs.declared.entry.Entry.{Entry}
 use Rattle.cd_legal.specs.declared.entry.Entry.TheVariants.{Begin, Finish}
-use Rattle.cd_legal.specs.declared.state.State.{State}
 use Rattle.cd_legal.specs.declared.state.OpenTicket.{OpenTicket}
-use Rattle.cd_legal.specs.State.{has_ticket, ticket_of, open_at, without_ticket}
+use Rattle.cd_legal.specs.State.{has_ticket, ticket_of, without_ticket}
 use Rattle.cd_legal.specs.Legal.{allowed}
 use Rattle.cd_legal.specs.Calls.{entry_calls}
 use Rattle.cd_legal.proofs.Callers.{has-ticket_of, open_at-push, open_at-closed, ticket_of-own, ticket_of-other, ticket_of-without, ticket_of-without_other}
 use Rattle.cd_legal.proofs.Facts.{allowed-by}
 use Rattle.cd_life.specs.declared.desk.Desk.{Desk}
-use Rattle.cd_life.specs.Desks.{Agrees, HasTicket, told_ticket, told_at, one_at}
+use Rattle.cd_life.specs.Desks.{HasTicket, told_ticket, told_at, one_at}
 use Rattle.cd_life.proofs.Lists.{get_set_same, get_set_other}
-use Rattle.cd_life.proofs.Standing.{Known, Steps, plain_calls}
+use Rattle.cd_life.proofs.Standing.{Steps, plain_calls}
 
 set_at : (n : ℕ) (os : List (Option ℕ)) (k : ℕ) (o p : Option ℕ) → slice_get os k ≡ Some o → told_at n (set os k p) + one_at n o ≡ told_at n os + one_at n p
 set_at n [] k o p e = cc

@@ -1,11 +1,10 @@
 -- A desk at which nothing has happened.
-use Rattle.std.proofs.Common.{◌≡◌, ℕ, zero, suc, ◌+◌, ◌<◌, List, [], ◌∷◌, ◌++◌, false, length, drop, refl, sym, ap, ◌∙◌, arith, Some, None, Option, slice_get, subst}
+use Rattle.std.proofs.Common.{◌≡◌, ℕ, zero, suc, ◌+◌, List, [], ◌∷◌, ◌++◌, false, length, drop, refl, sym, ap, ◌∙◌, arith, None, Option, slice_get, subst}
 use Rattle.cd_outside.specs.declared.fixtures.FixtureCall.{FixtureCall}
 use Rattle.cd_pool.specs.Pairs.{pairs}
-use Rattle.cd_life.specs.declared.row.Row.{Row}
 use Rattle.cd_life.specs.declared.desk.Desk.{Desk}
 use Rattle.cd_life.specs.Rows.{ShowsAt}
-use Rattle.cd_life.specs.Desks.{Agrees, Holds, told_ticket, told_at, one_at, none_open}
+use Rattle.cd_life.specs.Desks.{Holds, told_ticket, told_at, none_open}
 use Rattle.cd_life.proofs.Keeping.{calls_none}
 
 pub none_more : (n : ℕ) → none_open n ++ None ∷ [] ≡ none_open (suc n)

@@ -1,11 +1,10 @@
 -- How the books change.
-use Rattle.std.specs.Prelude.{◌≡◌, ℕ, ◌+◌, ◌<◌, false, List, length, slice_get, slice_set, Option, Some, Result, is_err}
+use Rattle.std.specs.Prelude.{◌≡◌, ℕ, ◌+◌, ◌<◌, List, length, slice_get, slice_set, Option, Some, Result, is_err}
 use Rattle.cd_outside.specs.declared.key.Key.{Key}
 use Rattle.cd_outside.specs.declared.fixtures.FixtureCall.{FixtureCall}
 use Rattle.cd_legal.specs.declared.part.Part.{Part}
 use Rattle.cd_legal.specs.declared.part.Part.TheVariants.{Instance, App}
 use Rattle.cd_legal.specs.declared.state.Life.{Life}
-use Rattle.cd_life.specs.declared.line.Line.{Line}
 use Rattle.cd_life.specs.declared.row.Row.{Row}
 use Rattle.cd_life.specs.declared.books.Books.{Books}
 use Rattle.cd_life.specs.Lines.{OpensNext, EndsLast}

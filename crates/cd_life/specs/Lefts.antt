@@ -1,7 +1,6 @@
 -- How far the making of a draft has come, as its row shows it.
-use Rattle.std.specs.Prelude.{◌≡◌, ℕ, ◌+◌, ◌==◌, Bool, cond, length, Result, is_err, IfOk}
+use Rattle.std.specs.Prelude.{◌≡◌, ℕ, ◌+◌, ◌==◌, Bool, cond, length}
 use Rattle.cd_tree.specs.declared.tree.Tree.{Tree}
-use Rattle.cd_outside.specs.declared.key.Key.{Key}
 use Rattle.cd_legal.specs.declared.state.Life.TheVariants.{Live}
 use Rattle.cd_life.specs.declared.row.Row.{Row}
 use Rattle.cd_life.specs.declared.books.Books.{Books}

@@ -9,3 +9,4 @@ pub mod Drafting
 pub mod Publishing
 pub mod Lefts
 pub mod Changes
+pub mod Shares

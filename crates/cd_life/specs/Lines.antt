@@ -1,5 +1,5 @@
 -- The instances of a draft, or its apps, one behind the other.
-use Rattle.std.specs.Prelude.{◌≡◌, ℕ, ◌≤◌, ◌+◌, ◌-◌, cond, List, [], reverse, slice_get, slice_set, Option, Some, None, Result, is_ok}
+use Rattle.std.specs.Prelude.{◌≡◌, ℕ, ◌≤◌, ◌+◌, ◌-◌, cond, List, [], reverse, slice_get, slice_set, Option, Some, Result, is_ok}
 use Rattle.cd_outside.specs.declared.key.Key.{Key}
 use Rattle.cd_outside.specs.declared.fixtures.FixtureCall.{FixtureCall}
 use Rattle.cd_pool.specs.Pairs.{Holdings}

@@ -1,4 +1,4 @@
-use Rattle.std.proofs.Common.{refl, ap, rules}
+use Rattle.std.proofs.Common.{refl, rules}
 use Rattle.cd_life.proofs.Untouched.{nothing_yet}
 use Rattle.cd_life.proofs.beginning.new_desk.Goals as goal
 

@@ -1,4 +1,4 @@
-use Rattle.std.proofs.Common.{◌≡◌, ◌∙◌, sym, subst, ◌≤◌, ◌<◌, ◌+◌, ◌∷◌, [], sum_by, length, length-append, ap, arith, slice_get}
+use Rattle.std.proofs.Common.{◌≡◌, ◌∙◌, sym, subst, ◌≤◌, ◌+◌, ◌∷◌, [], sum_by, length, length-append, ap, arith, slice_get}
 use Rattle.cd_life.specs.Rows.{row_waits, leases_at}
 use Rattle.cd_life.proofs.Parts.{added_leases, added_room}
 use Rattle.cd_life.proofs.drafts.add_row.Goals as goal

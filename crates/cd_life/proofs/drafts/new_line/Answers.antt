@@ -1,4 +1,4 @@
-use Rattle.std.proofs.Common.{◌≡◌, ◌∙◌, sym, ap, subst, arith, length, refl}
+use Rattle.std.proofs.Common.{◌≡◌, ◌∙◌, sym, ap, subst, arith, length}
 use Rattle.cd_legal.specs.State.{part_keys}
 use Rattle.cd_life.specs.Waiting.{AllWait}
 use Rattle.cd_life.proofs.Planned.{wait_length, all_wait}

@@ -1,13 +1,12 @@
-use Rattle.std.proofs.Common.{◌≡◌, ◌<◌, ℕ, ◌+◌, [], arith, rules, refl, sym, ap, ◌∙◌, subst, length, set, slice_get, Some, false, true}
+use Rattle.std.proofs.Common.{◌≡◌, ◌<◌, ◌+◌, [], arith, rules, refl, sym, ap, ◌∙◌, subst, length, false}
 use Rattle.std.proofs.lemmas.Option.{slice_get_read, slice_get_within}
 use Rattle.cd_legal.specs.declared.part.Part.{Part}
-use Rattle.cd_legal.specs.declared.part.Part.TheVariants.{Instance, App}
+use Rattle.cd_legal.specs.declared.part.Part.TheVariants.{Instance}
 use Rattle.cd_legal.specs.State.{part_of}
 use Rattle.cd_outside.specs.declared.holder.Holder.{Holder}
 use Rattle.cd_outside.specs.Keys.{holder_eq}
 use Rattle.cd_pool.specs.Pairs.{leases_of}
 use Rattle.cd_life.specs.declared.row.Row.{Row}
-use Rattle.cd_life.specs.Rows.{line_at}
 use Rattle.cd_life.proofs.Lists.{same_at, still_numbered}
 use Rattle.cd_life.proofs.Parts.{room_for, line_free, part_leases, part_room_kept}
 use Rattle.cd_life.proofs.rows.make_in.Goals as goal

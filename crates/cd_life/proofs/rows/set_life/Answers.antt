@@ -1,4 +1,4 @@
-use Rattle.std.proofs.Common.{◌≤◌, ◌≡◌, arith, rules, refl, sym, ◌∙◌, subst, length}
+use Rattle.std.proofs.Common.{◌≤◌, rules, refl, sym, ◌∙◌, subst}
 use Rattle.std.proofs.lemmas.Option.{slice_get_read}
 use Rattle.cd_life.proofs.Lists.{still_numbered}
 use Rattle.cd_life.proofs.Parts.{row_leases, row_room}

@@ -1,4 +1,4 @@
-use Rattle.std.proofs.Common.{◌≡◌, ◌+◌, ◌≤◌, drop, length}
+use Rattle.std.proofs.Common.{◌≡◌, ◌+◌, ◌≤◌, drop}
 use Rattle.cd_life.specs.Desks.{told_at}
 use Rattle.cd_life.proofs.tickets.count_at.Given as goal
 

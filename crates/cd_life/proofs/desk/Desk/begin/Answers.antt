@@ -1,4 +1,4 @@
-use Rattle.std.proofs.Common.{refl, rules}
+use Rattle.std.proofs.Common.{refl}
 use Rattle.cd_life.proofs.Standing.{adds}
 use Rattle.cd_life.proofs.Ticketing.{begins}
 use Rattle.cd_life.proofs.desk.Desk.begin.Goals as goal

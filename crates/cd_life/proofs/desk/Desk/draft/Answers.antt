@@ -1,5 +1,5 @@
-use Rattle.std.proofs.Common.{◌≡◌, ◌∙◌, ◌∷◌, ◌++◌, [], ap, sym, subst, rules, arith, All, refl, ◌+◌, ◌≤◌, ◌<◌, ℕ, length, map, sum_by}
-use Rattle.cd_life.specs.Waiting.{IsEmpty, AllWait, waits}
+use Rattle.std.proofs.Common.{◌≡◌, ◌∙◌, ap, sym, subst, rules, arith, All, ◌+◌, length, map}
+use Rattle.cd_life.specs.Waiting.{IsEmpty, AllWait}
 use Rattle.cd_life.proofs.Planned.{all_empty, planned}
 use Rattle.cd_life.proofs.Lists.{get_last}
 use Rattle.cd_life.proofs.Standing.{adds}

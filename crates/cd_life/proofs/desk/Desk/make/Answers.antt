@@ -1,5 +1,5 @@
-use Rattle.std.proofs.Common.{◌≡◌, ◌<◌, ◌+◌, ℕ, length, slice_get, Some, subst, arith, rules}
-use Rattle.cd_legal.specs.declared.part.Part.TheVariants.{Instance, App}
+use Rattle.std.proofs.Common.{◌≡◌, ℕ, slice_get, Some, subst, arith}
+use Rattle.cd_legal.specs.declared.part.Part.TheVariants.{Instance}
 use Rattle.cd_life.proofs.Standing.{adds}
 use Rattle.cd_life.proofs.Openings.{opens}
 use Rattle.cd_life.proofs.desk.Desk.make.Goals as goal

@@ -1,5 +1,5 @@
 use Rattle.std.proofs.Common.{◌≡◌, is_err, ap, subst, rules}
-use Rattle.cd_legal.specs.declared.part.Part.TheVariants.{Instance, App}
+use Rattle.cd_legal.specs.declared.part.Part.TheVariants.{Instance}
 use Rattle.cd_life.specs.Instances.{failed_of}
 use Rattle.cd_life.specs.Lefts.{IsLeft, one_made}
 use Rattle.cd_life.proofs.Counts.{can_make, still_of, made_left, made_entry}

@@ -1,4 +1,4 @@
-use Rattle.std.proofs.Common.{arith, ◌∷◌, rules, refl}
+use Rattle.std.proofs.Common.{arith, ◌∷◌, rules}
 use Rattle.cd_life.proofs.Keeping.{last_lease, give_more, given_all, releases_at, last_named}
 use Rattle.cd_life.proofs.instance.Instance.give_all.Goals as goal
 

@@ -1,4 +1,4 @@
-use Rattle.std.proofs.Common.{◌≡◌, ◌≤◌, List, length}
+use Rattle.std.proofs.Common.{◌≡◌, ◌≤◌, List}
 use Rattle.cd_outside.specs.declared.key.Key.{Key}
 use Rattle.cd_life.specs.Instances.{Given}
 use Rattle.cd_life.proofs.instance.Instance.give_all.Given as goal
