@@ -2,7 +2,7 @@ use cd_legal::Change;
 use cd_module_set::{Loaded, ModuleSet};
 use cd_wire::Answer;
 
-/// What a request comes to.
+/// What a request comes to. A decision is taken apart by `match`, since what is loaded is handed on.
 pub enum Decision<M: ModuleSet> {
     /// This answer, and nothing changes.
     Reply(Answer),
@@ -10,14 +10,4 @@ pub enum Decision<M: ModuleSet> {
     Replace(Loaded<M>, Change),
     /// The server halts.
     Halt,
-}
-
-impl<M: ModuleSet> Drop for Decision<M> {
-    fn drop(self) {
-        match self {
-            Decision::Reply(_) => {}
-            Decision::Replace(_, _) => {}
-            Decision::Halt => {}
-        }
-    }
 }
