@@ -1,3 +1,4 @@
+pub mod Fine
 pub mod Tags
 pub mod Texts
 pub mod Types

@@ -19,3 +19,11 @@ none_of value (Err fault) e none = refl
 -- where no tag has it there is none
 pub no_tag : (value : List ℕ) → ((tag : Tag) → IsTagOf value tag → ⊥) → None ≡ tag_of_value value
 no_tag value none = none_of value (tag_in value) refl none
+
+ok_of : (r : Result Tag IfMatchFault) (tag : Tag) → result_ok r ≡ Some tag → r ≡ Ok tag
+ok_of (Ok found) tag e = cc
+ok_of (Err fault) tag e = cc
+
+-- and what has it is the tag
+pub tag_formed : (value : List ℕ) (tag : Tag) → tag_of_value value ≡ Some tag → IsTagOf value tag
+tag_formed value tag e = tag_is value tag (ok_of (tag_in value) tag e)
