@@ -1,0 +1,4 @@
+pub mod Fine
+pub mod Tags
+pub mod Texts
+pub mod Types

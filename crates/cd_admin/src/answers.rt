@@ -1,0 +1,102 @@
+//! The answers of the admin API.
+ghost use Rattle.std.specs.Prelude.{◌≡◌, ◌∷◌, [], IfOk};
+ghost use Rattle.cd_tree.specs.Tree.{text};
+ghost use Rattle.cd_admin.specs.Answers.{field, json_type, line, error_tree, allow_fields, refusal, shown, done};
+
+use crate::denial::Denial;
+use cd_text::{List, NoMemory, Octets, Text};
+use cd_tree::{Member, Tree, print_ordered};
+use cd_wire::{Answer, Field};
+use std::alloc::Global;
+
+/// A refusal, with its words as JSON.
+pub(crate) fn refusal(alloc: Global, denial: &Denial) -> Result<Answer, NoMemory>
+    ensures { IfOk result (λ answer. answer ≡ refusal denial.now) }
+{
+    let status = denial.status();
+    let fields = refusal_fields(alloc, denial)?;
+    let body = error_line(alloc, denial.words(alloc)?)?;
+    Ok(Answer {
+        status,
+        fields,
+        body,
+        close: false,
+    })
+}
+
+/// A value by its compact text, with its tag.
+pub(crate) fn shown(alloc: Global, tag: &Text, value: &Text) -> Result<Answer, NoMemory>
+    ensures { IfOk result (λ answer. answer ≡ shown tag.now value.now) }
+{
+    let mut fields = List::new(alloc);
+    fields.push(json_type(alloc)?)?;
+    fields.push(field(alloc, "etag", tag.as_str())?)?;
+    let body = line(alloc, value)?;
+    Ok(Answer {
+        status: 200,
+        fields,
+        body,
+        close: false,
+    })
+}
+
+/// That what was asked for is so. It takes no memory.
+pub(crate) fn done(alloc: Global) -> Answer
+    ensures { result ≡ done }
+{
+    Answer {
+        status: 200,
+        fields: List::new(alloc),
+        body: Octets::new(alloc),
+        close: false,
+    }
+}
+
+fn field(alloc: Global, name: &str, value: &str) -> Result<Field, NoMemory>
+    ensures { IfOk result (λ made. made ≡ field name.now value.now) }
+{
+    Ok(Field {
+        name: Text::from_str(alloc, name)?,
+        value: Octets::from_slice(alloc, value.as_bytes())?,
+    })
+}
+
+fn json_type(alloc: Global) -> Result<Field, NoMemory>
+    ensures { IfOk result (λ made. made ≡ json_type) }
+{
+    field(alloc, "content-type", "application/json")
+}
+
+fn refusal_fields(alloc: Global, denial: &Denial) -> Result<List<Field>, NoMemory>
+    ensures { IfOk result (λ made. made ≡ json_type ∷ allow_fields denial.now) }
+{
+    let mut fields = List::new(alloc);
+    fields.push(json_type(alloc)?)?;
+    if let Denial::OtherMethod(methods) = denial {
+        fields.push(field(alloc, "allow", methods.names())?)?;
+    }
+    Ok(fields)
+}
+
+/// A text and a newline.
+fn line(alloc: Global, text: &Text) -> Result<Octets, NoMemory>
+    ensures { IfOk result (λ made. made ≡ line text.now) }
+{
+    let mut body = Octets::from_slice(alloc, text.as_str().as_bytes())?;
+    body.push(b'\n')?;
+    Ok(body)
+}
+
+/// The words as JSON, and a newline.
+fn error_line(alloc: Global, words: Text) -> Result<Octets, NoMemory>
+    ensures { IfOk result (λ made. made ≡ line (text (error_tree words))) }
+{
+    let mut members = List::new(alloc);
+    let key = Text::from_str(alloc, "error")?;
+    members.push(Member {
+        key,
+        value: Tree::Text(words),
+    })?;
+    let printed = print_ordered(alloc, &Tree::Object(members))?;
+    line(alloc, &printed)
+}
