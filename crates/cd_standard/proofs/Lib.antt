@@ -5,3 +5,4 @@ pub mod Levels
 pub mod Examples
 pub mod Doing
 pub mod Tallies
+pub mod Finding

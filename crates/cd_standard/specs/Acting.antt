@@ -1,5 +1,5 @@
 -- What a configuration does: who answers at an address, and with what.
-use Rattle.std.specs.Prelude.{◌&&◌, ◌||◌, Bool, true, false, not, if◌then◌else◌, List, [], codes, Option, Some, None, is_some, Result, Ok, Err}
+use Rattle.std.specs.Prelude.{◌&&◌, ◌||◌, Bool, false, not, if◌then◌else◌, [], codes, Option, Some, None, is_some, Result, Ok, Err}
 use Rattle.std.specs.List.{find, list_any}
 use Rattle.std.specs.Result.{result_map_both}
 use Rattle.cd_outside.specs.declared.address.Address.{Address}
@@ -68,7 +68,8 @@ abbrev pub acts_of : Configuration → Acts
 acts_of c = record {
   target = target_at c;
   answer = λ at request. answer_by (server_at c at) request;
-  lines = λ at request answer. [] }
+  lines = λ at request answer. [];
+}
 
 -- ---- a tree
 

@@ -5,8 +5,8 @@ ghost use Rattle.cd_standard.specs.Plans.{app_name, app_modules, inside_app, mod
 
 use crate::app::App;
 use crate::configuration::Configuration;
-use cd_legal::PlanModule;
 use crate::walking::{add_module, add_servers, enter, leave};
+use cd_legal::PlanModule;
 use cd_text::{List, NoMemory, Text};
 use cd_tree::Path;
 use std::alloc::Global;
@@ -24,7 +24,10 @@ impl App {
 }
 
 /// The modules of a configuration, in the order in which instances are made.
-pub fn modules_of(alloc: Global, configuration: &Configuration) -> Result<List<PlanModule>, NoMemory>
+pub fn modules_of(
+    alloc: Global,
+    configuration: &Configuration,
+) -> Result<List<PlanModule>, NoMemory>
     ensures { IfOk result (λ made. made ≡ modules_of configuration.now) }
 {
     let mut out = List::new(alloc);
@@ -48,7 +51,12 @@ fn add_apps(
     Ok(())
 }
 
-fn add_app(alloc: Global, app: &App, at: &mut Path, out: &mut List<PlanModule>) -> Result<(), NoMemory>
+fn add_app(
+    alloc: Global,
+    app: &App,
+    at: &mut Path,
+    out: &mut List<PlanModule>,
+) -> Result<(), NoMemory>
     ensures added { OnOk result (out.new ≡ out.old ++ app_modules at.old app.now) }
     ensures path { OnOk result (at.new ≡ at.old) }
 {

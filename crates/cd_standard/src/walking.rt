@@ -229,7 +229,12 @@ fn add_step(
     ensures added { OnOk result (out.new ≡ out.old ++ step_modules step.now at.old) }
     ensures path { OnOk result (at.new ≡ at.old) }
 {
-    add_module(alloc, module_id(alloc, "http.handlers.", step.name())?, at, out)?;
+    add_module(
+        alloc,
+        module_id(alloc, "http.handlers.", step.name())?,
+        at,
+        out,
+    )?;
     match step {
         Step::Handler(_) => Ok(()),
         Step::Subroute(inside) => add_inside_subroute(alloc, inside, at, out),
