@@ -1,0 +1,69 @@
+ghost use Rattle.std.specs.Prelude.{◌≡◌, IfOk, List, Option, Result};
+ghost use Rattle.std.specs.Result.{result_map_both};
+ghost use Rattle.cd_text.specs.Gives.{Gives};
+ghost use Rattle.cd_tree.specs.Tree.{IsSound};
+ghost use Rattle.cd_tree.specs.declared.tree.Tree.{Tree};
+ghost use Rattle.cd_wire.specs.declared.request.Request.{Request};
+ghost use Rattle.cd_module.specs.declared.fault.LoadFault.{LoadFault};
+ghost use Rattle.cd_legal.specs.declared.plan.Plan.{Plan};
+ghost use Rattle.cd_module_set.specs.Acts.{Acts, DoAlike, answer_at, nobody};
+
+use crate::loaded::Loaded;
+use crate::target::{Line, Target};
+use cd_module::LoadFault;
+use cd_outside::Address;
+use cd_text::{List, NoMemory};
+use cd_tree::Tree;
+use cd_wire::{Answer, Request};
+use std::alloc::Global;
+
+/// A set of modules, by what configurations mean to it (Caddy, Extending Caddy).
+pub trait ModuleSet: Sized {
+    /// What a configuration is turned into when it is loaded, from which its requests are answered.
+    type Compiled: Send + Sync + Drop;
+
+    /// The modules and apps that a tree comes to as a configuration, or its first fault.
+    ghost plan: { Tree → Result Plan LoadFault };
+
+    /// What a configuration with this tree does.
+    ghost acts: { Tree → Acts };
+
+    /// What a compiled configuration does.
+    ghost form: { Self.Compiled → Acts };
+
+    /// The tree that a request asks for under a configuration with this tree, where it asks for a change.
+    ghost change: { Tree → Request → Option Tree };
+
+    /// A configuration at whose addresses nobody answers: the one before the first, and the one after the last.
+    fn nothing(alloc: Global) -> Result<Self::Compiled, NoMemory>
+        ensures { IfOk result (λ compiled. DoAlike (form compiled) nobody) };
+
+    /// Loads a configuration, or gives its first fault.
+    fn load(alloc: Global, tree: Tree) -> Result<Loaded<Self>, LoadFault>
+        requires { IsSound tree }
+        ensures plan { Gives LoadFault.NoMemory (result_map_both (λ loaded. loaded.plan) (λ fault. fault) result) (plan tree) }
+        ensures tree { IfOk result (λ loaded. loaded.tree ≡ tree) };
+
+    /// Who answers at an address. It takes no memory.
+    fn target(compiled: &Self::Compiled, at: &Address) -> Target
+        ensures { result ≡ (form compiled.now).target at.now };
+
+    /// The answer to a request at an address; none exactly where the address is none of an app.
+    fn answer(
+        alloc: Global,
+        compiled: &Self::Compiled,
+        at: &Address,
+        request: &Request,
+    ) -> Result<Option<Answer>, NoMemory>
+        ensures { IfOk result (λ answer. answer ≡ answer_at (form compiled.now) at.now request.now) };
+
+    /// The lines that are logged once a request at an address was answered.
+    fn lines(
+        alloc: Global,
+        compiled: &Self::Compiled,
+        at: &Address,
+        request: &Request,
+        answer: &Answer,
+    ) -> Result<List<Line>, NoMemory>
+        ensures { IfOk result (λ lines. lines ≡ (form compiled.now).lines at.now request.now answer.now) };
+}
