@@ -5,3 +5,4 @@ mod Adding
 mod Causes
 mod Said
 mod Statuses
+mod Numbers

@@ -62,5 +62,8 @@ fn with_file(word: &Text) -> Command
 fn is_number(text: &str) -> bool
     ensures { result ≡ is_number text.now }
 {
-    number_of(text).is_some()
+    match number_of(text) {
+        Some(_) => true,
+        None => false,
+    }
 }

@@ -1,5 +1,5 @@
 ghost use Rattle.std.specs.Prelude.{◌≡◌, ◌≤◌, IfOk, IsErrOf};
-ghost use Rattle.std.specs.Result.{result_map};
+ghost use Rattle.std.specs.Result.{result_map_both};
 ghost use Rattle.cd_text.specs.Gives.{Gives};
 ghost use Rattle.cd_outside.specs.Counts.{Rose};
 ghost use Rattle.cd_program.specs.Config.{Gave};
@@ -60,7 +60,7 @@ pub enum Unloaded {
 /// The configuration of these bytes.
 #[tactic(auto, unfolding(crate::specs::Configuration::configured))]
 fn configured<M: ModuleSet>(alloc: Global, bytes: &[u8]) -> Result<Loaded<M>, Refusal>
-    ensures { Gives Refusal.NoMemory (result_map (λ loaded. loaded.tree) result) (configured M.plan bytes.now) }
+    ensures { Gives Refusal.NoMemory (result_map_both (λ loaded. loaded.tree) (λ refusal. refusal) result) (configured M.plan bytes.now) }
 {
     let tree = match read(alloc, bytes) {
         Ok(tree) => tree,
