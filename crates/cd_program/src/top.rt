@@ -1,5 +1,6 @@
 ghost use Rattle.std.specs.Prelude.{◌≡◌, ◌≤◌, ◌↔◌, ◌⊎◌, false, length, All, if◌then◌else◌};
 ghost use Rattle.cd_outside.specs.Counts.{Rose};
+ghost use Rattle.cd_standard.specs.Acting.{acts_of_tree, plan_of_tree};
 ghost use Rattle.cd_program.specs.Output.{Wrote, FellShort, run_text, serving_line, valid_line, read_fault_line};
 ghost use Rattle.cd_program.specs.Top.{IsAccepted, IsStopped, IsValid, Ran, WasRefused, EachServed, IsUntouched, code_of};
 ghost use Rattle.cd_program.specs.Words.{command, idle_line, is_built};
@@ -10,8 +11,8 @@ use crate::output::say_line;
 use crate::running::{Report, run};
 use crate::status::Status;
 use crate::validating::validate;
-use cd_module_set::ModuleSet;
 use cd_outside::{Fixtures, Lane, Sink, Source};
+use cd_standard::Standard;
 use cd_text::{List, Text};
 use std::alloc::Global;
 use std::sync::Wait;
@@ -34,9 +35,9 @@ pub struct Ended<F, L> {
 
 /// The program, over all that it is handed: its words, the source of its configuration, its output, its fixtures and its lanes.
 ///
-/// `stdio --config FILE` serves the one lane by the configuration that `config` gives: each request as the configuration says for
-/// the address that its connection came to. A connection at an address of no app ends unanswered. It returns once the lane gives
-/// no further connection. `validate --config FILE` loads the configuration, and says whether it may run.
+/// `stdio --config FILE` serves the one lane by the configuration that `config` gives: each request as that says for the address
+/// that its connection came to. A connection at an address of no app ends unanswered. It returns once the lane gives no further
+/// connection. `validate --config FILE` loads the configuration, says whether it may run, and starts nothing.
 ///
 /// | status | when |
 /// |---|---|
@@ -46,7 +47,7 @@ pub struct Ended<F, L> {
 /// | 3 | the configuration could not be read |
 /// | 4 | a line of a run, or that the configuration may run, could not be written |
 /// | 5 | out of memory |
-pub fn caddy_main<M: ModuleSet, R: Threads + Wait + Sync, S: Source, O: Sink, F: Fixtures + Send, L: Lane + Send>(
+pub fn caddy_main<R: Threads + Wait + Sync, S: Source, O: Sink, F: Fixtures + Send, L: Lane + Send>(
     rt: &R,
     alloc: Global,
     words: &[Text],
@@ -68,11 +69,11 @@ pub fn caddy_main<M: ModuleSet, R: Threads + Wait + Sync, S: Source, O: Sink, F:
     ensures usage_unread { result.status ≡ 2 → config.new ≡ config.old }
 
     // Status 1 comes only where the configuration is refused, and a run, or that it is valid, only where it is not.
-    ensures refused { result.status ≡ 1 → WasRefused M.plan (S.left config.old) (S.left config.new)
+    ensures refused { result.status ≡ 1 → WasRefused plan_of_tree (S.left config.old) (S.left config.new)
         (λ line. Wrote line (¬ (Rose (O.faults out.old) (O.faults out.new))) (O.holds out.old) (O.holds out.new)) }
-    ensures valid { command words.now ≡ Command.Validate → IsAccepted result.status → IsValid M.plan (S.left config.old) (S.left config.new) }
+    ensures valid { command words.now ≡ Command.Validate → IsAccepted result.status → IsValid plan_of_tree (S.left config.old) (S.left config.new) }
     ensures valid_text { command words.now ≡ Command.Validate → IsAccepted result.status → Wrote valid_line (result.status ≡ 0) (O.holds out.old) (O.holds out.new) }
-    ensures ran { command words.now ≡ Command.Stdio → IsAccepted result.status → Ran M.plan M.acts (S.left config.old) (S.left config.new)
+    ensures ran { command words.now ≡ Command.Stdio → IsAccepted result.status → Ran plan_of_tree acts_of_tree (S.left config.old) (S.left config.new)
         (EachServed L.faults L.past result.status result.answered result.cut lanes result.lanes) }
     ensures ran_text { command words.now ≡ Command.Stdio → IsAccepted result.status → Wrote (run_text result.answered result.published) (result.status ≡ 0) (O.holds out.old) (O.holds out.new) }
     ensures published { command words.now ≡ Command.Stdio → IsAccepted result.status → result.published ≡ 1 }
@@ -88,7 +89,7 @@ pub fn caddy_main<M: ModuleSet, R: Threads + Wait + Sync, S: Source, O: Sink, F:
     ensures memory { result.status ≡ 5
         → (IsUntouched lanes result.lanes result.answered result.published result.cut × (O.holds out.new ≡ O.holds out.old))
         ⊎ ((result.published ≡ 1)
-        × Ran M.plan M.acts (S.left config.old) (S.left config.new) (EachServed L.faults L.past result.status result.answered result.cut lanes result.lanes)
+        × Ran plan_of_tree acts_of_tree (S.left config.old) (S.left config.new) (EachServed L.faults L.past result.status result.answered result.cut lanes result.lanes)
         × Wrote (run_text result.answered result.published) (result.status ≡ 0) (O.holds out.old) (O.holds out.new)) }
     ensures untouched { IsStopped result.status → IsUntouched lanes result.lanes result.answered result.published result.cut }
     ensures valid_untouched { command words.now ≡ Command.Validate → IsUntouched lanes result.lanes result.answered result.published result.cut }
@@ -96,11 +97,11 @@ pub fn caddy_main<M: ModuleSet, R: Threads + Wait + Sync, S: Source, O: Sink, F:
     match Command::of(words) {
         Command::Stdio => {
             let mut lanes = lanes.into_vec();
-            let report = run::<M, R, S, O, L>(rt, alloc, config, out, lanes.as_mut_slice());
+            let report = run::<Standard, R, S, O, L>(rt, alloc, config, out, lanes.as_mut_slice());
             handed_back(report, fixtures, List::from_vec(lanes))
         }
         Command::Validate => {
-            let status = validate::<M, S, O>(alloc, config, out);
+            let status = validate::<Standard, S, O>(alloc, config, out);
             handed_back(Report::unbegun(status), fixtures, lanes)
         }
         idle => {

@@ -1,6 +1,7 @@
 use Rattle.std.proofs.Common.{◌≡◌, ◌∙◌, ℕ, List, length, ap, subst, sym, inl, inr}
 use Rattle.cd_program.specs.declared.counts.Counts.{Counts}
 use Rattle.cd_program.proofs.Statuses.{whole_again, unpublished, out_of_memory, one_published, by_begun}
+use Rattle.cd_standard.specs.Acting.{acts_of_tree, plan_of_tree}
 use Rattle.cd_program.specs.Output.{Wrote, run_text}
 use Rattle.cd_program.specs.Top.{Ran, EachServed, code_of}
 use Rattle.cd_program.proofs.top.caddy_main.Goals as goal
@@ -28,7 +29,7 @@ returns-in-Stdio-clause-memory g c =
     let one = one_published report.begun begun in
     inr (
       one,
-      subst (λ (lanes : List g.row.L.Denot). Ran g.M.ModuleSet.plan g.M.ModuleSet.acts (g.S.Source.left c.args.config.now) (g.S.Source.left c.run-report.new.config) (EachServed g.L.Lane.faults g.L.Lane.past (code_of report.status) report.counts.answered report.counts.cut c.args.lanes lanes)) (sym back)
-          (subst (λ (lanes : List g.row.L.Denot). Ran g.M.ModuleSet.plan g.M.ModuleSet.acts (g.S.Source.left c.args.config.now) (g.S.Source.left c.run-report.new.config) (EachServed g.L.Lane.faults g.L.Lane.past (code_of report.status) report.counts.answered report.counts.cut lanes c.run-report.new.lanes)) there (c.run-report.ensures.ran begun)),
+      subst (λ (lanes : List g.row.L.Denot). Ran plan_of_tree acts_of_tree (g.S.Source.left c.args.config.now) (g.S.Source.left c.run-report.new.config) (EachServed g.L.Lane.faults g.L.Lane.past (code_of report.status) report.counts.answered report.counts.cut c.args.lanes lanes)) (sym back)
+          (subst (λ (lanes : List g.row.L.Denot). Ran plan_of_tree acts_of_tree (g.S.Source.left c.args.config.now) (g.S.Source.left c.run-report.new.config) (EachServed g.L.Lane.faults g.L.Lane.past (code_of report.status) report.counts.answered report.counts.cut lanes c.run-report.new.lanes)) there (c.run-report.ensures.ran begun)),
       subst (λ (published : ℕ). Wrote (run_text report.counts.answered published) (code_of report.status ≡ 0) (g.O.Sink.holds c.args.out.now) (g.O.Sink.holds c.run-report.new.out)) (sym one) (c.run-report.ensures.text begun),
     )))
