@@ -6,3 +6,4 @@ mod Causes
 mod Said
 mod Statuses
 mod Numbers
+mod Loading

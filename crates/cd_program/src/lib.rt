@@ -25,5 +25,5 @@ mod top;
 mod validating;
 mod way;
 
-pub use laws::every_mishap_has_its_cause;
+pub use laws::{all_bytes_are_loaded, every_mishap_has_its_cause};
 pub use top::{Ended, caddy_main};
