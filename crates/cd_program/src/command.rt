@@ -24,7 +24,8 @@ impl Command {
     {
         match words {
             [word] if word.equals("run") => Command::Unbuilt,
-            [word, number] if word.equals("storm") && is_number(number.as_str()) => Command::Unbuilt,
+            [word, number] if word.equals("storm") && is_number(number.as_str()) =>
+                Command::Unbuilt,
             [word, option, _] if option.equals("--config") => with_file(word),
             _ => Command::Unknown,
         }

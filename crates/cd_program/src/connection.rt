@@ -111,7 +111,9 @@ fn go_on<M: ModuleSet, L: Lane>(
 {
     splits_stay();
     match session.intake.next(session.ended) {
-        Ok(Next::Request(request)) => answer_request(alloc, loaded, address, &request, session, lane),
+        Ok(Next::Request(request)) => answer_request(
+            alloc, loaded, address, &request, session, lane,
+        ),
         Ok(Next::More) => read_more(session, lane),
         Ok(Next::End) => Some(Way::Clean),
         Ok(Next::Cut) => Some(Way::Cut),
