@@ -9,24 +9,24 @@ use Rattle.cd_outside.specs.declared.accepted.Accepted.TheVariants as accepted
 use Rattle.cd_outside.specs.Counts.{count_end, raised, Rose}
 use Rattle.cd_outside.specs.Past.{with_last, with_connection, after_accept, fresh}
 use Rattle.cd_outside.specs.Telling.{TellsOn}
+use Rattle.cd_module_set.specs.Acts.{Acts}
 use Rattle.cd_program.specs.declared.way.Way.{Way}
 use Rattle.cd_program.specs.declared.way.Way.TheVariants as way
 use Rattle.cd_program.specs.declared.counts.Counts.{Counts}
 use Rattle.cd_program.specs.Counted.{counted}
 use Rattle.cd_program.specs.declared.way.Ending.{Ending}
 use Rattle.cd_program.specs.Connections.{Served, Ended, AllEnded, Added, Outcome, after_all, is_failed, is_cut}
-use Rattle.cd_program.specs.Replies.{Answering}
 
 with_last-append : {A : Type 0} (f : A → A) (xs : List A) (x : A) → with_last f (xs ++ x ∷ []) ≡ xs ++ f x ∷ []
 with_last-append f [] x = refl
 with_last-append f (y ∷ []) x = refl
 with_last-append f (y ∷ z ∷ zs) x = ap (λ ws. y ∷ ws) (with_last-append f (z ∷ zs) x)
 
-AllEnded-append : (answer : Answering) (outcomes : List Outcome) (cs : List Connection) (outcome : Outcome) (c : Connection) → AllEnded answer outcomes cs → Ended answer outcome c → AllEnded answer (outcomes ++ outcome ∷ []) (cs ++ c ∷ [])
-AllEnded-append answer [] [] outcome c all one = (one, tt)
-AllEnded-append answer (o ∷ os) (d ∷ ds) outcome c all one = (all.0, AllEnded-append answer os ds outcome c all.1 one)
-AllEnded-append answer [] (d ∷ ds) outcome c all one = absurd all
-AllEnded-append answer (o ∷ os) [] outcome c all one = absurd all
+AllEnded-append : (acts : Acts) (outcomes : List Outcome) (cs : List Connection) (outcome : Outcome) (c : Connection) → AllEnded acts outcomes cs → Ended acts outcome c → AllEnded acts (outcomes ++ outcome ∷ []) (cs ++ c ∷ [])
+AllEnded-append acts [] [] outcome c all one = (one, tt)
+AllEnded-append acts (o ∷ os) (d ∷ ds) outcome c all one = (all.0, AllEnded-append acts os ds outcome c all.1 one)
+AllEnded-append acts [] (d ∷ ds) outcome c all one = absurd all
+AllEnded-append acts (o ∷ os) [] outcome c all one = absurd all
 
 -- a count with one more outcome, which counts or does not
 count_by-append : (test : Way → Bool) (outcomes : List Outcome) (outcome : Outcome) → count_by (λ o. test o.how) (outcomes ++ outcome ∷ []) ≡ count_by (λ o. test o.how) outcomes + cond (test outcome.how) 1 0
@@ -58,8 +58,8 @@ cuts_more true counted n is = omega arith
 cuts_more false counted n is = omega arith
 
 -- nothing was added yet
-pub added_none : (answer : Answering) (p : Past) (before : ℕ) → Added answer p p before before 0 0
-added_none answer p before = record {
+pub added_none : (acts : Acts) (p : Past) (before : ℕ) → Added acts p p before before 0 0
+added_none acts p before = record {
   connections = [];
   outcomes = [];
   added = sym (append-nil p.connections);
@@ -69,9 +69,9 @@ added_none answer p before = record {
   caused = λ end. omega arith;
 }
 
-pub tells_none : (answer : Answering) (told : Option Past) (before : ℕ) → TellsOn (λ p q. Added answer p q before before 0 0) told told
-tells_none answer None before = tt
-tells_none answer (Some p) before = added_none answer p before
+pub tells_none : (acts : Acts) (told : Option Past) (before : ℕ) → TellsOn (λ p q. Added acts p q before before 0 0) told told
+tells_none acts None before = tt
+tells_none acts (Some p) before = added_none acts p before
 
 -- a step on what is told
 pub tells_step : (R S : Past → Past → Type 0) (f : Past → Past) (first then now : Option Past) → TellsOn R first then → now ≡ option_map f then → ((p q : Past) → R p q → S p (f q)) → TellsOn S first now
@@ -81,10 +81,10 @@ tells_step R S f (Some p) None now told step goes = absurd told
 tells_step R S f None (Some q) now told step goes = absurd told
 
 -- one more connection was accepted and served
-pub added_more : (answer : Answering) (address : Address) (ending : Ending) (old new : Option Past) (served : Served answer address ending.way ending.answered old new) (p q : Past) (before now then after : ℕ) (counts : Counts)
-    → Added answer p q before now counts.answered counts.cut → now ≤ then → then ≤ after → (ending.way ≡ way.Failed → Rose then after)
-    → Added answer p (with_connection (after_all served.taken served.ended served.put) (after_accept (accepted.Connection address) q)) before after (counted ending counts).answered (counted ending counts).cut
-added_more answer address ending old new served p q before now then after counts so_far le1 le2 rose =
+pub added_more : (acts : Acts) (address : Address) (ending : Ending) (old new : Option Past) (served : Served acts address ending.way ending.answered old new) (p q : Past) (before now then after : ℕ) (counts : Counts)
+    → Added acts p q before now counts.answered counts.cut → now ≤ then → then ≤ after → (ending.way ≡ way.Failed → Rose then after)
+    → Added acts p (with_connection (after_all served.taken served.ended served.put) (after_accept (accepted.Connection address) q)) before after (counted ending counts).answered (counted ending counts).cut
+added_more acts address ending old new served p q before now then after counts so_far le1 le2 rose =
     let c : Connection = after_all served.taken served.ended served.put (fresh address) in
     let outcome : Outcome = record { how = ending.way; requests = served.requests } in
     let failures : ℕ = count_by (λ (o : Outcome). is_failed o.how) so_far.outcomes + (q.accept_faults - p.accept_faults) in
@@ -92,7 +92,7 @@ added_more answer address ending old new served p q before now then after counts
       connections = so_far.connections ++ c ∷ [];
       outcomes = so_far.outcomes ++ outcome ∷ [];
       added = with_last-append (after_all served.taken served.ended served.put) q.connections (fresh address) ∙ ap (λ (cs : List Connection). cs ++ c ∷ []) so_far.added ∙ append_assoc p.connections so_far.connections (c ∷ []);
-      each = AllEnded-append answer so_far.outcomes so_far.connections outcome c so_far.each served.ends;
+      each = AllEnded-append acts so_far.outcomes so_far.connections outcome c so_far.each served.ends;
       answers = omega (arith, so_far.answers, served.counted, requests-append so_far.outcomes outcome);
       cuts = cuts_more (is_cut ending.way) counts.cut _ so_far.cuts ∙ ap (λ (n : ℕ). min n count_end) (sym (count_by-append is_cut so_far.outcomes outcome));
       caused = λ end. let so = caused_more ending.way failures before now then after so_far.caused le1 le2 rose end in omega (arith, so, count_by-append is_failed so_far.outcomes outcome);

@@ -5,8 +5,8 @@ use Rattle.cd_outside.specs.declared.past.Past.{Past}
 use Rattle.cd_outside.specs.Counts.{Covers}
 use Rattle.cd_program.specs.declared.way.Way.{Way}
 use Rattle.cd_program.specs.declared.way.Way.TheVariants as way
+use Rattle.cd_module_set.specs.Acts.{Acts}
 use Rattle.cd_program.specs.Connections.{Added, Outcome, is_early, is_failed, is_cut}
-use Rattle.cd_program.specs.Replies.{Answering}
 
 one_way : (how : Way) → cond (is_early how) 1 0 ≡ cond {A = ℕ} (is_failed how) 1 0 + cond (is_cut how) 1 0
 one_way way.Clean = omega arith
@@ -28,5 +28,5 @@ early_ways : (outcomes : List Outcome) → count_by (λ o. is_early o.how) outco
 early_ways [] = omega arith
 early_ways (outcome ∷ outcomes) = omega (arith, more is_early outcome outcomes, more is_failed outcome outcomes, more is_cut outcome outcomes, one_way outcome.how, early_ways outcomes)
 
-pub covered : (answer : Answering) (p q : Past) (before now answered cut : ℕ) (added : Added answer p q before now answered cut) → Covers (count_by (λ (outcome : Outcome). is_early outcome.how) added.outcomes + (q.accept_faults - p.accept_faults)) before now cut
-covered answer p q before now answered cut added = λ some_now some_cut. omega (arith, added.caused some_now, added.cuts, early_ways added.outcomes)
+pub covered : (acts : Acts) (p q : Past) (before now answered cut : ℕ) (added : Added acts p q before now answered cut) → Covers (count_by (λ (outcome : Outcome). is_early outcome.how) added.outcomes + (q.accept_faults - p.accept_faults)) before now cut
+covered acts p q before now answered cut added = λ some_now some_cut. omega (arith, added.caused some_now, added.cuts, early_ways added.outcomes)

@@ -5,3 +5,5 @@ mod Adding
 mod Causes
 mod Said
 mod Statuses
+mod Numbers
+mod Loading

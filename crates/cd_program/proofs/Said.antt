@@ -6,11 +6,11 @@ use Rattle.cd_outside.specs.declared.given.Given.{Given}
 use Rattle.cd_outside.specs.declared.given.Given.TheVariants as given
 use Rattle.cd_outside.specs.Given.{IsGivenOf}
 use Rattle.cd_outside.specs.Telling.{TellsOn}
+use Rattle.cd_module_set.specs.Acts.{Acts}
 use Rattle.cd_program.specs.Connections.{Added, IsOver}
 use Rattle.cd_program.specs.Output.{Wrote, FellShort}
 use Rattle.cd_program.proofs.Told.{both_steps}
 use Rattle.cd_program.proofs.Adding.{tells_none}
-use Rattle.cd_program.specs.Replies.{Answering}
 
 -- a value by what is said of it
 Some-injective : {x y : List ℕ} → Some x ≡ Some y → x ≡ y
@@ -59,6 +59,6 @@ not_short line part more old then new is first second fell =
     absurd (omega (arith, count, ap length is, length-append (fell.held ++ part) more, length-append fell.held part, length-append fell.held fell.text, fell.short))
 
 -- no lane was served, and nobody claims that it is over
-pub tells_unserved : (answer : Answering) (told : Option Past) (before : ℕ) (complete : Type 0) → (complete → ⊥) → TellsOn (λ p q. Added answer p q before before 0 0 × (complete → IsOver q.last)) told told
-tells_unserved answer None before complete no_claim = tt
-tells_unserved answer (Some p) before complete no_claim = (tells_none answer (Some p) before, λ claim. absurd (no_claim claim))
+pub tells_unserved : (acts : Acts) (told : Option Past) (before : ℕ) (complete : Type 0) → (complete → ⊥) → TellsOn (λ p q. Added acts p q before before 0 0 × (complete → IsOver q.last)) told told
+tells_unserved acts None before complete no_claim = tt
+tells_unserved acts (Some p) before complete no_claim = (tells_none acts (Some p) before, λ claim. absurd (no_claim claim))

@@ -1,5 +1,5 @@
 -- How the connections of a lane were served: each to its end, or cut short where the lane failed or memory ran out.
-use Rattle.std.specs.Prelude.{◌≡◌, ◌≢◌, ◌<◌, ◌≤◌, ◌+◌, ◌-◌, ◌++◌, ◌||◌, ℕ, Bool, true, false, min, List, [], ◌∷◌, length, count_by, sum_by, codes, Option, Some, None, option_map}
+use Rattle.std.specs.Prelude.{◌≡◌, ◌≢◌, ◌<◌, ◌≤◌, ◌+◌, ◌-◌, ◌++◌, ◌||◌, ℕ, Bool, true, false, min, List, [], ◌∷◌, length, count_by, sum_by, Option, Some, None, option_map}
 use Rattle.cd_outside.specs.declared.past.Past.{Past}
 use Rattle.cd_outside.specs.declared.past.Connection.{Connection}
 use Rattle.cd_outside.specs.declared.address.Address.{Address}
@@ -9,12 +9,12 @@ use Rattle.cd_outside.specs.Counts.{count_end}
 use Rattle.cd_outside.specs.Past.{with_connection}
 use Rattle.cd_wire.specs.declared.request.Request.{Request}
 use Rattle.cd_wire.specs.Requests.{Splits, HasRequests, clean, cut, refused}
+use Rattle.cd_module_set.specs.Acts.{Acts}
+use Rattle.cd_module_set.specs.declared.target.Target.{Target}
+use Rattle.cd_module_set.specs.declared.target.Target.TheVariants.{App}
 use Rattle.cd_program.specs.declared.way.Way.{Way}
 use Rattle.cd_program.specs.declared.way.Way.TheVariants as way
 use Rattle.cd_program.specs.Replies.{Answering, answers_to, closes, none_closes, refusal_to, IsPart}
-
-abbrev pub stdio_address : Address
-stdio_address = record { host = codes "stdio"; port = 0 }
 
 -- ---- how one connection ends
 
@@ -56,32 +56,33 @@ EndsBy answer requests taken ended put way.NoMemory =
     (none_closes answer requests ≡ true) × BeginWith taken requests × (put ≡ answers_to answer requests)
 EndsBy answer requests taken ended put way.Dropped = (requests ≡ []) × (taken ≡ []) × (put ≡ [])
 
--- only a connection that came elsewhere than to standard input is dropped
-abbrev pub IsAt : Way → Address → Type 0
-IsAt way.Clean address = address ≡ stdio_address
-IsAt way.Cut address = address ≡ stdio_address
-IsAt (way.Refused fault) address = address ≡ stdio_address
-IsAt way.Closed address = address ≡ stdio_address
-IsAt way.Failed address = address ≡ stdio_address
-IsAt way.NoMemory address = address ≡ stdio_address
-IsAt way.Dropped address = address ≢ stdio_address
+-- a connection is dropped exactly where no app answers at its address
+abbrev pub IsAt : Way → Target → Type 0
+IsAt way.Clean there = there ≡ App
+IsAt way.Cut there = there ≡ App
+IsAt (way.Refused fault) there = there ≡ App
+IsAt way.Closed there = there ≡ App
+IsAt way.Failed there = there ≡ App
+IsAt way.NoMemory there = there ≡ App
+IsAt way.Dropped there = there ≢ App
 
 -- how a connection ended, and which of its requests were answered in whole
 pub record Outcome : Type 0 where
   pub how : Way
   pub requests : List Request
 
-pub record Ended (answer : Answering) (outcome : Outcome) (c : Connection) : Type 0 where
-  pub at : IsAt outcome.how c.address
-  pub by : EndsBy answer outcome.requests c.taken c.ended c.put outcome.how
+-- each request was answered as the configuration does at the address that the connection came to
+pub record Ended (acts : Acts) (outcome : Outcome) (c : Connection) : Type 0 where
+  pub at : IsAt outcome.how (acts.target c.address)
+  pub by : EndsBy (acts.answer c.address) outcome.requests c.taken c.ended c.put outcome.how
   pub quiet : c.lines ≡ []
 
 -- each of these connections ended so
-abbrev pub AllEnded : Answering → List Outcome → List Connection → Type 0
-AllEnded answer [] [] = Unit {0}
-AllEnded answer (outcome ∷ outcomes) (c ∷ cs) = Ended answer outcome c × AllEnded answer outcomes cs
-AllEnded answer [] (c ∷ cs) = ⊥
-AllEnded answer (outcome ∷ outcomes) [] = ⊥
+abbrev pub AllEnded : Acts → List Outcome → List Connection → Type 0
+AllEnded acts [] [] = Unit {0}
+AllEnded acts (outcome ∷ outcomes) (c ∷ cs) = Ended acts outcome c × AllEnded acts outcomes cs
+AllEnded acts [] (c ∷ cs) = ⊥
+AllEnded acts (outcome ∷ outcomes) [] = ⊥
 
 -- ---- what is counted
 
@@ -112,11 +113,11 @@ is_early how = is_failed how || is_cut how
 -- Between two moments of a lane, whose faults were `before` and are `now`, these connections were added, and ended so. Each
 -- failure has its cause: the connections that failed and the accepts that failed are together no more than the rises of the
 -- faults, unless these stand at their end.
-pub record Added (answer : Answering) (p q : Past) (before now answered cut : ℕ) : Type 0 where
+pub record Added (acts : Acts) (p q : Past) (before now answered cut : ℕ) : Type 0 where
   pub connections : List Connection
   pub outcomes : List Outcome
   pub added : q.connections ≡ p.connections ++ connections
-  pub each : AllEnded answer outcomes connections
+  pub each : AllEnded acts outcomes connections
   pub answers : answered ≡ min (sum_by (λ outcome. length outcome.requests) outcomes) count_end
   pub cuts : cut ≡ min (count_by (λ outcome. is_cut outcome.how) outcomes) count_end
   pub caused : now < count_end
@@ -129,14 +130,14 @@ abbrev pub after_all : List ℕ → Bool → List ℕ → Connection → Connect
 after_all taken ended put c = record c { taken = c.taken ++ taken; ended = c.ended || ended; put = c.put ++ put }
 
 -- the connection that had just come to this address was served; it ended in this way, with so many requests answered
-pub record Served (answer : Answering) (address : Address) (how : Way) (answered : ℕ) (old new : Option Past) : Type 0 where
+pub record Served (acts : Acts) (address : Address) (how : Way) (answered : ℕ) (old new : Option Past) : Type 0 where
   pub requests : List Request
   pub taken : List ℕ
   pub ended : Bool
   pub put : List ℕ
   pub counted : answered ≡ min (length requests) count_end
   pub past : new ≡ option_map (with_connection (after_all taken ended put)) old
-  pub ends : Ended answer (record { how = how; requests = requests })
+  pub ends : Ended acts (record { how = how; requests = requests })
       (record { address = address; taken = taken; ended = ended; put = put; lines = [] })
 
 -- no further connection comes

@@ -1,4 +1,4 @@
--- A connection at standard input while it is served.
+-- A connection while it is served.
 use Rattle.std.specs.Prelude.{◌≡◌, ◌≢◌, ℕ, Bool, true, min, List, length, Option, Some, None, option_map}
 use Rattle.cd_outside.specs.declared.past.Past.{Past}
 use Rattle.cd_outside.specs.Counts.{count_end}

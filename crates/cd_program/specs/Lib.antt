@@ -1,5 +1,5 @@
 pub mod Words
-pub mod Site
+pub mod Configuration
 pub mod Replies
 pub mod Connections
 pub mod Going

@@ -15,6 +15,9 @@ run_text answered published = serving_line ++ served_line answered published
 abbrev pub refused_line : List ℕ → List ℕ
 refused_line words = codes "refused: " ++ words ++ codes "\n"
 
+abbrev pub valid_line : List ℕ
+valid_line = codes "valid configuration\n"
+
 abbrev pub read_fault_line : List ℕ
 read_fault_line = codes "read fault\n"
 

@@ -1,32 +1,46 @@
 -- The words that the program is called with.
-use Rattle.std.specs.Prelude.{◌≡◌, ℕ, ◌&&◌, ◌||◌, ◌⊎◌, Bool, true, false, List, [], ◌∷◌, codes, bytes_eq, decimal, ◌^◌, ◌<◌}
+use Rattle.std.specs.Prelude.{ℕ, ◌&&◌, Bool, true, false, List, [], ◌∷◌, codes, bytes_eq, decimal, ◌^◌, nat_lt, if◌then◌else◌}
+use Rattle.std.specs.Str.Parse.{digits_value}
+use Rattle.cd_program.specs.declared.command.Command.{Command}
+use Rattle.cd_program.specs.declared.command.Command.TheVariants.{Stdio, Validate, Unbuilt, Unknown}
 
--- `stdio --config FILE`: one lane of standard input and output, by the configuration in a file
-abbrev pub is_stdio : List (List ℕ) → Bool
-is_stdio [] = false
-is_stdio (command ∷ []) = false
-is_stdio (command ∷ option ∷ []) = false
-is_stdio (command ∷ option ∷ file ∷ []) = bytes_eq command (codes "stdio") && bytes_eq option (codes "--config")
-is_stdio (command ∷ option ∷ file ∷ other ∷ more) = false
+-- the decimal of a number below 2^64
+abbrev pub is_number : List ℕ → Bool
+is_number text = bytes_eq text (decimal (digits_value 10 text)) && nat_lt (digits_value 10 text) (2 ^ 64)
 
--- `run`, `run --config FILE` and `validate --config FILE`
-abbrev pub is_unbuilt : List (List ℕ) → Bool
-is_unbuilt [] = false
-is_unbuilt (command ∷ []) = bytes_eq command (codes "run")
-is_unbuilt (command ∷ option ∷ []) = false
-is_unbuilt (command ∷ option ∷ file ∷ []) = (bytes_eq command (codes "run") || bytes_eq command (codes "validate")) && bytes_eq option (codes "--config")
-is_unbuilt (command ∷ option ∷ file ∷ other ∷ more) = false
+-- what a word asks for that `--config FILE` follows
+abbrev pub with_file : List ℕ → Command
+with_file word =
+    if bytes_eq word (codes "stdio") then Stdio
+    else if bytes_eq word (codes "validate") then Validate
+    else if bytes_eq word (codes "run") then Unbuilt
+    else Unknown
 
--- `storm N`, where N is the decimal of a number below 2^64
-abbrev pub IsStorm : List (List ℕ) → Type 0
-IsStorm words = (number : ℕ) × (number < 2 ^ 64) × (words ≡ codes "storm" ∷ decimal number ∷ [])
+-- what the words ask for: `stdio --config FILE`, `validate --config FILE`, or what is not built yet: `run`,
+-- `run --config FILE` and `storm N`
+abbrev pub command : List (List ℕ) → Command
+command [] = Unknown
+command (word ∷ []) = if bytes_eq word (codes "run") then Unbuilt else Unknown
+command (word ∷ number ∷ []) = if bytes_eq word (codes "storm") && is_number number then Unbuilt else Unknown
+command (word ∷ option ∷ file ∷ []) = if bytes_eq option (codes "--config") then with_file word else Unknown
+command (word ∷ option ∷ file ∷ other ∷ more) = Unknown
 
--- the words have a meaning that is not built yet
-abbrev pub IsUnbuilt : List (List ℕ) → Type 0
-IsUnbuilt words = (is_unbuilt words ≡ true) ⊎ IsStorm words
+-- it is built
+abbrev pub is_built : Command → Bool
+is_built Stdio = true
+is_built Validate = true
+is_built Unbuilt = false
+is_built Unknown = false
 
 abbrev pub usage_line : List ℕ
 usage_line = codes "usage: caddy_run run [--config FILE] | stdio --config FILE | validate --config FILE | storm N\n"
 
 abbrev pub unbuilt_line : List ℕ
 unbuilt_line = codes "not yet\n"
+
+-- the line for words that start nothing
+abbrev pub idle_line : Command → List ℕ
+idle_line Stdio = usage_line
+idle_line Validate = usage_line
+idle_line Unbuilt = unbuilt_line
+idle_line Unknown = usage_line

@@ -1,15 +1,18 @@
 ghost use Rattle.std.specs.Prelude.{◌≡◌, ◌≤◌, IfOk, IsErrOf};
+ghost use Rattle.std.specs.Result.{result_map_both};
+ghost use Rattle.cd_text.specs.Gives.{Gives};
 ghost use Rattle.cd_outside.specs.Counts.{Rose};
 ghost use Rattle.cd_program.specs.Config.{Gave};
+ghost use Rattle.cd_program.specs.Configuration.{configured};
 ghost use Rattle.cd_program.specs.Top.{Loads};
 ghost use Rattle.cd_program.specs.declared.refusal.Refusal.{Refusal as Refused};
 
 use crate::refusal::Refusal;
-use crate::site::site_in;
+use cd_module::LoadFault;
+use cd_module_set::{Loaded, ModuleSet};
 use cd_outside::{Source, Taken};
-use cd_routes::Server;
 use cd_text::Octets;
-use cd_tree::MAX_TEXT_BYTES;
+use cd_tree::{MAX_TEXT_BYTES, TreeFault, read};
 use std::alloc::Global;
 
 /// Why the bytes of a configuration could not be had.
@@ -17,7 +20,7 @@ use std::alloc::Global;
 pub enum ConfigFault {
     /// The source failed.
     Failed,
-    /// Want of memory.
+    /// Out of memory.
     NoMemory,
 }
 
@@ -43,21 +46,38 @@ pub fn read_config<S: Source>(alloc: Global, config: &mut S) -> Result<Octets, C
     Ok(bytes)
 }
 
-/// Why there is no server.
+/// Why there is no configuration.
 #[derive(Debug, Drop)]
 pub enum Unloaded {
     /// The source failed.
     Failed,
     /// The configuration is refused.
     Refused(Refusal),
-    /// Want of memory.
+    /// Out of memory.
     NoMemory,
 }
 
-/// The server of the configuration.
-pub fn load<S: Source>(alloc: Global, config: &mut S) -> Result<Server, Unloaded>
-    ensures fine { IfOk result (λ server. Loads (S.left config.old) (S.left config.new) (Ok server)) }
-    ensures refused { (refusal : Refused) → result ≡ Err (Unloaded.Refused refusal) → Loads (S.left config.old) (S.left config.new) (Err refusal) }
+/// The configuration of these bytes.
+#[tactic(auto, unfolding(crate::specs::Configuration::configured))]
+fn configured<M: ModuleSet>(alloc: Global, bytes: &[u8]) -> Result<Loaded<M>, Refusal>
+    ensures { Gives Refusal.NoMemory (result_map_both (λ loaded. loaded.tree) (λ refusal. refusal) result) (configured M.plan bytes.now) }
+{
+    let tree = match read(alloc, bytes) {
+        Ok(tree) => tree,
+        Err(TreeFault::NoMemory) => return Err(Refusal::NoMemory),
+        Err(fault) => return Err(Refusal::NoTree(fault)),
+    };
+    match M::load(alloc, tree) {
+        Ok(loaded) => Ok(loaded),
+        Err(LoadFault::Refused(fault)) => Err(Refusal::Faulty(fault)),
+        Err(LoadFault::NoMemory) => Err(Refusal::NoMemory),
+    }
+}
+
+/// Reads the source, and loads the configuration of its bytes.
+pub fn load<M: ModuleSet, S: Source>(alloc: Global, config: &mut S) -> Result<Loaded<M>, Unloaded>
+    ensures fine { IfOk result (λ loaded. Loads M.plan (S.left config.old) (S.left config.new) (Ok loaded.tree)) }
+    ensures refused { (refusal : Refused) → result ≡ Err (Unloaded.Refused refusal) → Loads M.plan (S.left config.old) (S.left config.new) (Err refusal) }
     ensures failed { result ≡ Err Unloaded.Failed → Rose (S.faults config.old) (S.faults config.new) }
 {
     let bytes = match read_config(alloc, config) {
@@ -65,8 +85,8 @@ pub fn load<S: Source>(alloc: Global, config: &mut S) -> Result<Server, Unloaded
         Err(ConfigFault::Failed) => return Err(Unloaded::Failed),
         Err(ConfigFault::NoMemory) => return Err(Unloaded::NoMemory),
     };
-    match site_in(alloc, bytes.as_slice()) {
-        Ok(server) => Ok(server),
+    match configured(alloc, bytes.as_slice()) {
+        Ok(loaded) => Ok(loaded),
         Err(Refusal::NoMemory) => Err(Unloaded::NoMemory),
         Err(refusal) => Err(Unloaded::Refused(refusal)),
     }

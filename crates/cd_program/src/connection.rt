@@ -5,15 +5,15 @@ ghost use Rattle.cd_outside.specs.Given.{IsGivenOf};
 ghost use Rattle.cd_outside.specs.Past.{after_put};
 ghost use Rattle.cd_wire.specs.Requests.{BeginsRequest, HasNoRequest, HasTail, refused};
 ghost use Rattle.cd_program.specs.Replies.{Answering, is_head, answer_to, closes};
-ghost use Rattle.cd_routes.specs.Serving.{server_answer};
-ghost use Rattle.cd_program.specs.Connections.{Served, stdio_address};
+ghost use Rattle.cd_module_set.specs.declared.target.Target.TheVariants.{App};
+ghost use Rattle.cd_program.specs.Connections.{Served};
 ghost use Rattle.cd_program.specs.Going.{Going, Over, Goes};
 
 use crate::way::{Ending, Way};
+use cd_module_set::{Loaded, ModuleSet, Target};
 use cd_outside::{Address, Given, Lane, Taken};
-use cd_routes::{Server, server_answer};
 use cd_text::{NoMemory, Octets};
-use cd_wire::{Intake, Next, Request, WireFault, refusal, render, splits_stay};
+use cd_wire::{Answer, Intake, Next, Request, WireFault, refusal, render, splits_stay};
 use std::alloc::Global;
 use std::sync::Wait;
 
@@ -29,43 +29,50 @@ struct Session {
 }
 
 /// Serves the connection that is there, which came to this address, and ends it.
-pub fn serve_connection<R: Wait, L: Lane>(
+pub fn serve_connection<M: ModuleSet, R: Wait, L: Lane>(
     rt: &R,
     alloc: Global,
-    server: &Server,
+    loaded: &Loaded<M>,
     address: &Address,
     lane: &mut L,
 ) -> Ending
     requires { L.busy lane.old ≡ true }
     ensures busy { L.busy lane.new ≡ false }
-    ensures served { Served (server_answer server.now) address.now result.way result.answered (L.past lane.old) (L.past lane.new) }
+    ensures served { Served (M.acts loaded.now.tree) address.now result.way result.answered (L.past lane.old) (L.past lane.new) }
     ensures later { L.faults lane.old ≤ L.faults lane.new }
     ensures failed { result.way ≡ Way.Failed → Rose (L.faults lane.old) (L.faults lane.new) }
 {
-    if !is_stdio(address) {
+    if !is_app(loaded, address) {
         lane.end();
         return Ending {
             way: Way::Dropped,
             answered: 0,
         };
     }
-    let ending = answer_all(rt, alloc, server, lane);
+    let ending = answer_all(rt, alloc, loaded, address, lane);
     lane.end();
     ending
 }
 
-// Whether this is the address of standard input and output.
-fn is_stdio(address: &Address) -> bool
-    ensures { IsTrue result ↔ (address.now ≡ stdio_address) }
+// Whether an app answers at the address.
+fn is_app<M: ModuleSet>(loaded: &Loaded<M>, address: &Address) -> bool
+    ensures { IsTrue result ↔ ((M.acts loaded.now.tree).target address.now ≡ App) }
 {
-    address.host.equals("stdio") && address.port == 0
+    M::target(&loaded.compiled, address) == Target::App
 }
 
 // Answers the requests of the connection, one after another, until it ends.
-fn answer_all<R: Wait, L: Lane>(rt: &R, alloc: Global, server: &Server, lane: &mut L) -> Ending
-    requires { L.busy lane.old ≡ true }
+fn answer_all<M: ModuleSet, R: Wait, L: Lane>(
+    rt: &R,
+    alloc: Global,
+    loaded: &Loaded<M>,
+    address: &Address,
+    lane: &mut L,
+) -> Ending
+    requires busy { L.busy lane.old ≡ true }
+    requires app { (M.acts loaded.now.tree).target address.now ≡ App }
     ensures busy { L.busy lane.new ≡ true }
-    ensures over { Over (server_answer server.now) result.way result.answered (L.past lane.old) (L.past lane.new) }
+    ensures over { Over ((M.acts loaded.now.tree).answer address.now) result.way result.answered (L.past lane.old) (L.past lane.new) }
     ensures later { L.faults lane.old ≤ L.faults lane.new }
     ensures failed { result.way ≡ Way.Failed → Rose (L.faults lane.old) (L.faults lane.new) }
 {
@@ -75,7 +82,7 @@ fn answer_all<R: Wait, L: Lane>(rt: &R, alloc: Global, server: &Server, lane: &m
         answered: 0,
     };
     for _ in rt.forever() {
-        if let Some(way) = go_on(alloc, server, &mut session, lane) {
+        if let Some(way) = go_on(alloc, loaded, address, &mut session, lane) {
             return Ending {
                 way,
                 answered: session.answered,
@@ -86,23 +93,27 @@ fn answer_all<R: Wait, L: Lane>(rt: &R, alloc: Global, server: &Server, lane: &m
 }
 
 // Answers the next request, or reads more bytes, or tells how the connection ended.
-fn go_on<L: Lane>(
+fn go_on<M: ModuleSet, L: Lane>(
     alloc: Global,
-    server: &Server,
+    loaded: &Loaded<M>,
+    address: &Address,
     session: &mut Session,
     lane: &mut L,
 ) -> Option<Way>
-    requires { L.busy lane.old ≡ true }
+    requires busy { L.busy lane.old ≡ true }
+    requires app { (M.acts loaded.now.tree).target address.now ≡ App }
     ensures busy { L.busy lane.new ≡ true }
     ensures goes { (first : Option Past)
-        → Going (server_answer server.now) session.old.intake session.old.ended session.old.answered first (L.past lane.old)
-        → Goes (server_answer server.now) result session.new first (L.past lane.new) }
+        → Going ((M.acts loaded.now.tree).answer address.now) session.old.intake session.old.ended session.old.answered first (L.past lane.old)
+        → Goes ((M.acts loaded.now.tree).answer address.now) result session.new first (L.past lane.new) }
     ensures later { L.faults lane.old ≤ L.faults lane.new }
     ensures failed { result ≡ Some Way.Failed → Rose (L.faults lane.old) (L.faults lane.new) }
 {
     splits_stay();
     match session.intake.next(session.ended) {
-        Ok(Next::Request(request)) => answer_request(alloc, server, &request, session, lane),
+        Ok(Next::Request(request)) => answer_request(
+            alloc, loaded, address, &request, session, lane,
+        ),
         Ok(Next::More) => read_more(session, lane),
         Ok(Next::End) => Some(Way::Clean),
         Ok(Next::Cut) => Some(Way::Cut),
@@ -117,19 +128,41 @@ fn is_head(request: &Request) -> bool
     request.method.equals("HEAD")
 }
 
-// What is put for a request.
+// What an app answers at the address.
+fn answer_at<M: ModuleSet>(
+    alloc: Global,
+    loaded: &Loaded<M>,
+    address: &Address,
+    request: &Request,
+) -> Result<Answer, NoMemory>
+    requires { (M.acts loaded.now.tree).target address.now ≡ App }
+    ensures { IfOk result (λ answer. answer ≡ (M.acts loaded.now.tree).answer address.now request.now) }
+{
+    match M::answer(alloc, &loaded.compiled, address, request)? {
+        Some(answer) => Ok(answer),
+        None => unreachable!(),
+    }
+}
+
+// What is sent for a request.
 #[derive(Drop)]
 struct Reply {
     bytes: Octets,
-    // Whether the connection ends behind it.
+    // Whether the connection ends after it.
     closes: bool,
 }
 
-fn reply_to(alloc: Global, server: &Server, request: &Request) -> Result<Reply, NoMemory>
-    ensures { IfOk result (λ reply. (reply.bytes ≡ answer_to (server_answer server.now) request.now)
-        × (reply.closes ≡ closes (server_answer server.now) request.now)) }
+fn reply_to<M: ModuleSet>(
+    alloc: Global,
+    loaded: &Loaded<M>,
+    address: &Address,
+    request: &Request,
+) -> Result<Reply, NoMemory>
+    requires { (M.acts loaded.now.tree).target address.now ≡ App }
+    ensures { IfOk result (λ reply. (reply.bytes ≡ answer_to ((M.acts loaded.now.tree).answer address.now) request.now)
+        × (reply.closes ≡ closes ((M.acts loaded.now.tree).answer address.now) request.now)) }
 {
-    let answer = server_answer(alloc, server, request)?;
+    let answer = answer_at(alloc, loaded, address, request)?;
     Ok(Reply {
         bytes: render(alloc, &answer, is_head(request), request.close)?,
         closes: answer.close || request.close,
@@ -137,24 +170,26 @@ fn reply_to(alloc: Global, server: &Server, request: &Request) -> Result<Reply, 
 }
 
 // Answers a request that was just taken off the front of what was left.
-fn answer_request<L: Lane>(
+fn answer_request<M: ModuleSet, L: Lane>(
     alloc: Global,
-    server: &Server,
+    loaded: &Loaded<M>,
+    address: &Address,
     request: &Request,
     session: &mut Session,
     lane: &mut L,
 ) -> Option<Way>
-    requires { L.busy lane.old ≡ true }
+    requires busy { L.busy lane.old ≡ true }
+    requires app { (M.acts loaded.now.tree).target address.now ≡ App }
     ensures busy { L.busy lane.new ≡ true }
     ensures goes { (first : Option Past) (left : List ℕ)
-        → Going (server_answer server.now) left session.old.ended session.old.answered first (L.past lane.old)
+        → Going ((M.acts loaded.now.tree).answer address.now) left session.old.ended session.old.answered first (L.past lane.old)
         → BeginsRequest left request.now session.old.intake
-        → Goes (server_answer server.now) result session.new first (L.past lane.new) }
+        → Goes ((M.acts loaded.now.tree).answer address.now) result session.new first (L.past lane.new) }
     ensures later { L.faults lane.old ≤ L.faults lane.new }
     ensures failed { result ≡ Some Way.Failed → Rose (L.faults lane.old) (L.faults lane.new) }
 {
     splits_stay();
-    let Ok(reply) = reply_to(alloc, server, request) else {
+    let Ok(reply) = reply_to(alloc, loaded, address, request) else {
         return Some(Way::NoMemory);
     };
     match put(lane, reply.bytes.as_slice()) {

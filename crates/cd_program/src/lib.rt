@@ -4,23 +4,26 @@
 //! what the program promises. The crate of the program gives it the real ones: standard streams and the file of the
 //! configuration. The forms in memory of `cd_outside` are given it to run whole conversations.
 //!
-//! The modules in between read the configuration (config.rt), find the server in it (site.rt), serve the connections of a
-//! lane one after another with what the server answers (serve.rt, connection.rt), count them (counts.rt), and say what was
-//! done (output.rt).
+//! The words ask for a `Command` (command.rt). The modules in between read and load the configuration (config.rt), by whatever
+//! set of modules there is; say that it is valid (validating.rt), or why there is none (declining.rt); or run it (running.rt):
+//! serve the connections of a lane one after another by what the configuration does at their addresses (serve.rt,
+//! connection.rt), count them (counts.rt), and say what was done (output.rt).
 #![tactic(auto)]
 
+mod command;
 mod config;
 mod connection;
 mod counts;
+mod declining;
 mod laws;
 mod output;
 mod refusal;
+mod running;
 mod serve;
-mod site;
 mod status;
 mod top;
+mod validating;
 mod way;
-mod words;
 
-pub use laws::every_mishap_has_its_cause;
+pub use laws::{all_bytes_are_loaded, every_mishap_has_its_cause};
 pub use top::{Ended, caddy_main};

@@ -1,8 +1,8 @@
 ghost use Rattle.std.specs.Prelude.{◌≡◌, ◌≤◌, ◌<◌, ◌++◌, List, ℕ, codes, length, option_map, IfOk};
 ghost use Rattle.cd_outside.specs.Counts.{Rose};
 ghost use Rattle.cd_outside.specs.Given.{IsGivenOf};
-ghost use Rattle.cd_program.specs.Site.{words_of};
-ghost use Rattle.cd_program.specs.Output.{served_line, refused_line};
+ghost use Rattle.cd_program.specs.Configuration.{words_of};
+ghost use Rattle.cd_program.specs.Output.{Wrote, served_line, refused_line};
 
 use crate::refusal::{Refusal, fault_words};
 use cd_outside::{Given, Sink};
@@ -17,6 +17,16 @@ pub fn say<O: Sink>(out: &mut O, text: &str) -> Given
     ensures failed { result ≡ Given.Failed → Rose (O.faults out.old) (O.faults out.new) }
 {
     out.write(text.as_bytes())
+}
+
+/// Writes the one line of a call that serves nothing.
+pub fn say_line<O: Sink>(out: &mut O, line: &str) -> Given
+    requires { 0 < length line.now }
+    ensures said { Wrote line.now (result ≡ Given.All) (O.holds out.old) (O.holds out.new) }
+    ensures unfailing { Wrote line.now (¬ (Rose (O.faults out.old) (O.faults out.new))) (O.holds out.old) (O.holds out.new) }
+    ensures failed { result ≡ Given.Failed → Rose (O.faults out.old) (O.faults out.new) }
+{
+    say(out, line)
 }
 
 /// The last line of a run.
@@ -36,14 +46,13 @@ fn line_of(alloc: Global, words: &str) -> Result<Text, NoMemory>
     Ok(Text::from_string(line))
 }
 
-/// The line that tells why a configuration is refused. Want of memory has no words.
+/// The line that says why a configuration is refused. Out of memory has no words.
 pub fn refused_line(alloc: Global, refusal: &Refusal) -> Result<Text, NoMemory>
     ensures { IfOk result (λ line. line ≡ refused_line (words_of refusal.now)) }
 {
     match refusal {
         Refusal::NoTree(fault) => line_of(alloc, fault_words(*fault)),
-        Refusal::NotYet => line_of(alloc, "not yet"),
-        Refusal::Settings(fault) => line_of(alloc, fault.words(alloc)?.as_str()),
+        Refusal::Faulty(fault) => line_of(alloc, fault.words(alloc)?.as_str()),
         Refusal::NoMemory => line_of(alloc, ""),
     }
 }

@@ -1,8 +1,7 @@
 ghost use Rattle.std.specs.Prelude.{◌≡◌};
-ghost use Rattle.cd_program.specs.Site.{fault_words};
+ghost use Rattle.cd_program.specs.Configuration.{fault_words};
 
-use cd_module::Refusal as SettingsRefusal;
-use cd_text::NoMemory;
+use cd_module::Refusal as Fault;
 use cd_tree::TreeFault;
 
 /// Why a configuration is refused.
@@ -10,15 +9,13 @@ use cd_tree::TreeFault;
 pub enum Refusal {
     /// Its bytes are no tree.
     NoTree(TreeFault),
-    /// Its tree has not the form that is served so far.
-    NotYet,
-    /// The settings of its server have a fault.
-    Settings(SettingsRefusal),
-    /// Want of memory.
+    /// Its tree has this fault.
+    Faulty(Fault),
+    /// Out of memory.
     NoMemory,
 }
 
-/// The words for bytes that are no tree. Want of memory has none.
+/// The words for bytes that are no tree. Out of memory has none.
 pub fn fault_words(fault: TreeFault) -> &'static str
     ensures { result.now ≡ fault_words fault }
 {
@@ -28,16 +25,5 @@ pub fn fault_words(fault: TreeFault) -> &'static str
         TreeFault::TooDeep => "nested too deeply",
         TreeFault::TooLong => "too long",
         TreeFault::NoMemory => "",
-    }
-}
-
-impl From<NoMemory> for Refusal {
-    ghost use Rattle.std.specs.Prelude.{◌≡◌};
-    ghost use Rattle.cd_program.specs.declared.refusal.Refusal.TheVariants.{NoMemory as Wanting};
-
-    ghost from_gives = { λ _ refusal. refusal ≡ Wanting };
-
-    fn from(_: NoMemory) -> Refusal {
-        Refusal::NoMemory
     }
 }

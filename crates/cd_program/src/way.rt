@@ -15,7 +15,7 @@ pub enum Way {
     Failed,
     /// It was cut short for want of memory.
     NoMemory,
-    /// It came to an address at which nobody answers.
+    /// It came to an address at which no app answers. Nothing of it was read.
     Dropped,
 }
 

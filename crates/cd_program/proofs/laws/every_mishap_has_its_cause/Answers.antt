@@ -2,4 +2,4 @@ use Rattle.cd_program.proofs.Causes.{covered}
 use Rattle.cd_program.proofs.laws.every_mishap_has_its_cause.Goals as goal
 
 pub returns : goal.returns
-returns c = λ answer p q before now answered cut added. covered answer p q before now answered cut added
+returns c = λ acts p q before now answered cut added. covered acts p q before now answered cut added

@@ -1,8 +1,0 @@
-use Rattle.std.proofs.Common.{refl}
-use Rattle.cd_program.proofs.Said.{wrote_line}
-use Rattle.cd_program.proofs.top.say_line.Goals as goal
-
-pub returns : goal.returns
-returns g c =
-    let part = c.say.ensures.part in
-    wrote_line c.say.result c.args.line.now c.args.line.now part.0 _ (g.O.Sink.holds c.args.out.now) (g.O.Sink.holds c.say.new.out) refl part.1 part.2 (λ failed none. none (c.say.ensures.failed failed))
