@@ -1,9 +1,9 @@
-use Rattle.std.proofs.Common.{◌^◌, ◌-◌, ◌∷◌, [], length, codes, ap, sym, ◌∙◌, arith}
+use Rattle.std.proofs.Common.{◌^◌, ◌-◌, ◌∷◌, length, ap, sym, ◌∙◌, arith}
 use Rattle.std.specs.Prelude.{min}
 use Rattle.std.specs.List.{flat_map}
 use Rattle.cd_tree.specs.Path.{◌▸◌}
 use Rattle.cd_match.specs.Names.{matcher_name}
-use Rattle.cd_standard.specs.Plans.{planned, matcher_modules}
+use Rattle.cd_standard.specs.Plans.{planned, matcher_id, matcher_modules}
 use Rattle.cd_standard.specs.Walking.{in_matcher}
 use Rattle.cd_standard.proofs.Counts.{all_counted}
 use Rattle.cd_standard.proofs.Levels.{matcher_modules_is, set_modules_is}
@@ -13,9 +13,9 @@ use Rattle.cd_standard.proofs.counting.+counting_matchers.Goals as goal
 pub modules_in_matcher-returns : goal.modules_in_matcher-returns
 modules_in_matcher-returns t c =
     let m = c.args.matcher.now in
-    counted_same (λ at. planned (codes "http" ∷ codes "matchers" ∷ matcher_name m ∷ []) (at ▸ matcher_name m) ∷ in_matcher m (at ▸ matcher_name m)) (matcher_modules m)
+    counted_same (λ at. planned (matcher_id (matcher_name m)) (at ▸ matcher_name m) ∷ in_matcher m (at ▸ matcher_name m)) (matcher_modules m)
     c.saturating_add.result (λ at. sym (matcher_modules_is m at))
-    (inside_counted (in_matcher m) (λ at. planned (codes "http" ∷ codes "matchers" ∷ matcher_name m ∷ []) (at ▸ matcher_name m)) (λ at. at ▸ matcher_name m)
+    (inside_counted (in_matcher m) (λ at. planned (matcher_id (matcher_name m)) (at ▸ matcher_name m)) (λ at. at ▸ matcher_name m)
     c.modules_inside_matcher.result c.saturating_add.result c.modules_inside_matcher.ensures c.saturating_add.ensures)
 
 pub modules_in_set-returns : goal.modules_in_set-returns
