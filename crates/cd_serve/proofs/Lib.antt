@@ -1,0 +1,4 @@
+pub mod Longer
+pub mod Together
+pub mod Joined
+mod Examples
