@@ -34,4 +34,4 @@ mod wording;
 pub use administered::Administered;
 pub use deciding::decide;
 pub use decision::Decision;
-pub use laws::{changes_are_fine, tags_have_their_form};
+pub use laws::{changes_are_decided, changes_are_fine, tags_have_their_form};
