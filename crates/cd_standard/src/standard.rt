@@ -84,3 +84,10 @@ impl ModuleSet for Standard {
         Ok(List::new(alloc))
     }
 }
+
+fn crosses<T: Send + Sync>(_value: &T) {}
+
+/// A law: a configuration may go to another thread, and threads may share it.
+pub fn configurations_cross_threads(configuration: &Configuration) {
+    crosses(configuration)
+}
