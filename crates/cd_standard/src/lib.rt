@@ -12,6 +12,7 @@
 
 mod acting;
 mod admin;
+mod administering;
 mod app;
 mod configuration;
 mod counting;
