@@ -11,4 +11,8 @@ pub mod Tables
 pub mod Rows
 pub mod Closing
 pub mod Drafts
+pub mod Grown
+pub mod Calm
+pub mod InTurn
+pub mod Staying
 mod Examples

@@ -87,7 +87,7 @@ counts : (b : Bool) (len serial n : ℕ) → len + cond b 1 0 ≡ serial → suc
 counts true len serial n is low = omega arith
 counts false len serial n is low = omega arith
 
-apps_stay : (s : State) (n : ℕ) (e : Entry) → Agree s → allowed s e ≡ true → n < s.serial → apps_stopped s n ≡ true → apps_stopped (after s e) n ≡ true
+pub apps_stay : (s : State) (n : ℕ) (e : Entry) → Agree s → allowed s e ≡ true → n < s.serial → apps_stopped s n ≡ true → apps_stopped (after s e) n ≡ true
 apps_stay s zero e a may low is = refl
 apps_stay s (suc n) e a may low is =
     let d = some_get s.published n (counts s.halted (length s.published) s.serial n a.count low) in
@@ -103,7 +103,7 @@ none_more m n z ne none = ap (λ (b : Bool). cond b 1 0 + z) (ne_eqb m n ne) ∙
 differs : (n m serial : ℕ) → n < serial → m ≡ serial → m ≢ n
 differs n m serial low is = λ e. absurd (omega arith)
 
-unticketed : (s : State) (n : ℕ) (e : Entry) → allowed s e ≡ true → n < s.serial → is_ticketed n s.tickets ≡ false → is_ticketed n (after s e).tickets ≡ false
+pub unticketed : (s : State) (n : ℕ) (e : Entry) → allowed s e ≡ true → n < s.serial → is_ticketed n s.tickets ≡ false → is_ticketed n (after s e).tickets ≡ false
 unticketed s n (Begin k m) may low is =
     is_ticketed-none n (s.tickets ++ record { caller = k; serial = m } ∷ [])
     (open_at-push n s.tickets (record { caller = k; serial = m })
@@ -127,7 +127,7 @@ unretired s n e other is = is
 
 -- ---- all together
 
-retirable : (s : State) (n : ℕ) → Retires s n → may_retire s n ≡ true
+pub retirable : (s : State) (n : ℕ) → Retires s n → may_retire s n ≡ true
 retirable s n f =
     both (nat_lt n s.serial) _ (less-is n s.serial f.superseded)
     (both (not (has_number n s.retired)) _ (not-false (has_number n s.retired) f.unretired)

@@ -5,3 +5,5 @@ pub mod Steps
 pub mod Tables
 pub mod Passes
 pub mod Ends
+pub mod Growing
+pub mod Knowing

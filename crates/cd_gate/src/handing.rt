@@ -12,6 +12,15 @@ use crate::pass::Pass;
 use crate::plays::{Compare, Copy, HandOut, HandOver, TakeIn};
 use cd_legal::Stands;
 
+impl<T> Pass<T> {
+    /// Its number: it signs the entries that the pass makes.
+    pub fn number(&self) -> u32
+        ensures { result ≡ self.now.number }
+    {
+        self.number
+    }
+}
+
 impl<T: Stands> Gate<T> {
     // One pass more, of the number that the pass of number 0 makes next.
     pub(crate) fn hand_out(&self, first: &mut Pass<T>, number: u32) -> Pass<T>

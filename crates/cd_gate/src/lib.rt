@@ -7,14 +7,17 @@
 //!
 //! The kinds of steps stand in specs/Steps.antt, and the laws (laws.rt) say of each that it keeps the rule. `Gate`
 //! (entering.rt, handing.rt, and ends.rt for its beginning and end) makes them on a table of two words and one slot (table.rt, plays.rt): specs/Tables.antt
-//! says how such a table shows a moment, specs/Passes.antt and specs/Ends.antt what callers see. Of all calls only `enter` waits,
+//! says how such a table shows a moment, specs/Passes.antt and specs/Ends.antt what callers see. What calls tell that add entries
+//! stands in specs/Growing.antt and specs/Knowing.antt, with laws in growing.rt and knowing.rt. Of all calls only `enter` waits,
 //! and only `new` takes memory.
 #![tactic(auto)]
 
 mod ends;
 mod entering;
 mod gate;
+mod growing;
 mod handing;
+mod knowing;
 mod laws;
 mod pass;
 mod plays;
@@ -23,6 +26,11 @@ mod view;
 
 pub use ends::NoGate;
 pub use gate::Gate;
+pub use growing::{calls_place_their_entries, places_follow_one_another};
+pub use knowing::{
+    a_finish_gives_its_duty, a_pass_finds_its_draft, a_turn_knows_the_history,
+    calm_entries_leave_the_duties,
+};
 pub use laws::{
     a_gate_begins_by_the_rule, acquiring_keeps_the_rule, comparing_keeps_the_rule,
     copying_keeps_the_rule, handing_over_keeps_the_rule, joining_keeps_the_rule,
