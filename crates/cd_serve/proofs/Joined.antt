@@ -41,24 +41,25 @@ one-silent m history k lane end later before now = record {
 one-told : (m : Meaning) (history : List Signed) (k : ℕ) (lane : Span) (seen : List Signed) (own : List Placed) (end : LaneEnd) (p q : Past) → IsLegal history → placed k history ≡ own → IsPrefix seen history
     → lane.told_before ≡ Some p → lane.told_now ≡ Some q → IsServed m k seen own lane.failed_before lane.failed_now end p q → One m history k lane end
 one-told m history k lane seen own end p q legal is front before now served =
-    let over : Told m k history own served.connections served.endings = subst (λ (h : List Signed). Told m k h own served.connections served.endings) front.1 (told-longer m k seen front.0 [] own served.connections served.endings served.told) in
+    let it = served.so_far in
+    let over : Told m k history own it.connections it.endings = subst (λ (h : List Signed). Told m k h own it.connections it.endings) front.1 (told-longer m k seen front.0 [] own it.connections it.endings it.told) in
     record {
-      tale = Some (record { connections = served.connections; endings = served.endings; failed = q.accept_faults - p.accept_faults });
+      tale = Some (record { connections = it.connections; endings = it.endings; failed = q.accept_faults - p.accept_faults });
       told = (
         p,
         q,
         before,
         now,
         record {
-          added = served.added;
-          told = subst (λ (o : List Placed). Told m k history o served.connections served.endings) (sym is) over;
+          added = it.added;
+          told = subst (λ (o : List Placed). Told m k history o it.connections it.endings) (sym is) over;
           fresh = legal-fresh history k legal;
           failed = refl;
         },
       );
-      covered = served.covered;
-      cut_early = λ all. served.cut;
-      answers = λ all. served.answers;
+      covered = it.covered;
+      cut_early = λ all. it.cut_early;
+      answers = λ all. it.answers;
     }
 
 one-of : (m : Meaning) (history : List Signed) (k : ℕ) (lane : Span) (seen : List Signed) (own : List Placed) (end : LaneEnd) (old new : Option Past) → IsLegal history → placed k history ≡ own → IsPrefix seen history

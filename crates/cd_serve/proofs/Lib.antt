@@ -1,4 +1,6 @@
 pub mod Longer
 pub mod Together
 pub mod Joined
+pub mod Going
+pub mod Halts
 mod Examples

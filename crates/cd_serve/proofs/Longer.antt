@@ -9,17 +9,14 @@ use Rattle.cd_legal.specs.Entry.{mine}
 use Rattle.cd_legal.specs.Placed.{Placed, placed}
 use Rattle.cd_legal.specs.Fresh.{Fresh}
 use Rattle.cd_legal.proofs.Placed.{placed-stays}
-use Rattle.cd_legal.proofs.Logs.{mine-append}
+use Rattle.cd_legal.proofs.Logs.{mine-append, prefix_more}
 use Rattle.cd_serve.specs.Meanings.{Meaning}
 use Rattle.cd_serve.specs.Replies.{Reply}
 use Rattle.cd_serve.specs.Connections.{Break, Way, Ending, IsWorn, EndsBy, Serves, ServesEach}
 use Rattle.cd_serve.specs.Lanes.{IsTold, Told}
 
-prefix-longer : (place history more : List Signed) → IsPrefix place history → IsPrefix place (history ++ more)
-prefix-longer place history more p = (p.0 ++ more, sym (append_assoc place p.0 more) ∙ ap (λ (h : List Signed). h ++ more) p.1)
-
 worn-longer : (k : ℕ) (history more : List Signed) (own : List Placed) → IsWorn k history own → IsWorn k (history ++ more) own
-worn-longer k history more own w = record { place = w.place; after = w.after; within = prefix-longer w.place history more w.within; full = w.full }
+worn-longer k history more own w = record { place = w.place; after = w.after; within = prefix_more w.place history more w.within; full = w.full }
 
 break-longer : (m : Meaning) (k : ℕ) (history more : List Signed) (own : List Placed) (at : Address) (ended : Bool) (replies : List Reply) (rest : List ℕ) (again : List (List Placed)) (fixed : List ℕ) (why : Break)
     → EndsBy m k history own at ended replies rest again fixed (Way.early why) → EndsBy m k (history ++ more) own at ended replies rest again fixed (Way.early why)

@@ -49,15 +49,19 @@ IsOver how.Ended last = last ≡ Some accepted.Ended
 IsOver how.AcceptFault last = last ≡ Some accepted.Failed
 IsOver how.Halted last = (at : Address) × (last ≡ Some (accepted.Connection at))
 
--- A lane was served by pass k, which made these entries: what it tells now and told before, how often it had failed and has, and
+-- A lane was served by pass k, which made these entries: what it told before and tells now, how often it had failed and has, and
 -- what was counted. Each connection that was cut short and each accept that failed has its cause, a fault of the lane or the
 -- memory that a connection lacked.
-pub record IsServed (m : Meaning) (k : ℕ) (history : List Signed) (own : List Placed) (failed_before failed_now : ℕ) (end : LaneEnd) (p q : Past) : Type 0 where
+pub record LaneSoFar (m : Meaning) (k : ℕ) (history : List Signed) (own : List Placed) (failed_before failed_now answered cut : ℕ) (p q : Past) : Type 0 where
   pub connections : List Connection
   pub endings : List Ending
   pub added : q.connections ≡ p.connections ++ connections
   pub told : Told m k history own connections endings
+  pub answers : answered ≡ min (answered_in endings) count_end
+  pub covered : Covers (early_in endings + (q.accept_faults - p.accept_faults)) failed_before failed_now cut
+  pub cut_early : cut ≤ early_in endings
+
+-- it was served to its end
+pub record IsServed (m : Meaning) (k : ℕ) (history : List Signed) (own : List Placed) (failed_before failed_now : ℕ) (end : LaneEnd) (p q : Past) : Type 0 where
+  pub so_far : LaneSoFar m k history own failed_before failed_now end.answered end.cut p q
   pub over : IsOver end.how q.last
-  pub answers : end.answered ≡ min (answered_in endings) count_end
-  pub covered : Covers (early_in endings + (q.accept_faults - p.accept_faults)) failed_before failed_now end.cut
-  pub cut : end.cut ≤ early_in endings

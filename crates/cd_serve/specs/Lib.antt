@@ -7,3 +7,4 @@ pub mod Replies
 pub mod Connections
 pub mod Lanes
 pub mod Joining
+pub mod Serving
