@@ -10,11 +10,12 @@ use Rattle.cd_outside.specs.declared.past.Past.{Past}
 use Rattle.cd_outside.specs.Counts.{count_end, raised, Rose}
 use Rattle.cd_outside.specs.Past.{with_connection}
 use Rattle.cd_wire.specs.declared.request.Request.{Request}
+use Rattle.cd_wire.specs.Requests.{Splits}
 use Rattle.cd_legal.specs.declared.entry.Signed.{Signed}
 use Rattle.cd_legal.specs.Placed.{Placed, through}
 use Rattle.cd_serve.specs.Meanings.{Meaning}
 use Rattle.cd_serve.specs.Episodes.{Outcome}
-use Rattle.cd_serve.specs.Replies.{Reply, AllAgain, IsReply, own_of}
+use Rattle.cd_serve.specs.Replies.{Reply, AllAgain, IsReply, AreReplies, requests, own_of, owns, puts, logs, answered_of}
 use Rattle.cd_serve.specs.Connections.{Ending, Serves}
 use Rattle.cd_serve.specs.Lanes.{is_early}
 
@@ -45,6 +46,16 @@ pub record NotBegun (m : Meaning) (k : ℕ) (at : Address) (q : Request) (own : 
 -- the connection after these bytes were taken, its end was seen or not, and this was sent and logged
 abbrev pub after_all : List ℕ → Bool → List ℕ → List Logged → Connection → Connection
 after_all taken ended put lines c = record c { taken = c.taken ++ taken; ended = c.ended || ended; put = c.put ++ put; lines = c.lines ++ lines }
+
+-- So far pass k replied so to requests of the connection that had just come to the address, by these entries; these bytes are left
+-- of what was taken, and its end was seen or not.
+pub record ConnectionSoFar (m : Meaning) (k : ℕ) (at : Address) (replies : List Reply) (own : List Placed) (left : List ℕ) (ended : Bool) (answered : ℕ) (old new : Option Past) : Type 0 where
+  pub taken : List ℕ
+  pub splits : Splits taken (requests replies) left
+  pub each : AreReplies m k at replies
+  pub own_is : own ≡ owns replies
+  pub answers : answered ≡ min (answered_of replies) count_end
+  pub past : new ≡ option_map (with_connection (after_all taken ended (puts replies) (logs replies))) old
 
 -- Pass k served the connection that had just come to the address to its end, by these entries. That holds after whatever entries
 -- of the pass: all that it needs is that they stood in what the pass had seen.

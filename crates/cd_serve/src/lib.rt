@@ -46,7 +46,8 @@ pub use answering::halted_answer;
 pub use fault::ChangeFault;
 pub use lane_end::{LaneEnd, LaneHow};
 pub use laws::{
-    a_halt_since_then_is_of_another, connections_are_told_together, counts_add_up, lanes_go_on,
-    lanes_tell_together, later_entries_of_others_change_nothing, what_is_told_stays,
+    a_halt_since_then_is_of_another, connections_are_told_together, connections_end,
+    connections_go_on, counts_add_up, lanes_go_on, lanes_tell_together,
+    later_entries_of_others_change_nothing, what_is_told_stays,
 };
 pub use sending::{says_close, sent};
