@@ -118,8 +118,11 @@ fn changed<'r>(
 
 fn rewritten<'r>(scene: Scene<'r>, line: RequestLine<'r>) -> Scene<'r> {
     let mut scene = scene;
-    scene.original = Some(replace(&mut scene.current, line));
-    scene
+    let first = replace(&mut scene.current, line);
+    Scene {
+        original: Some(first),
+        ..scene
+    }
 }
 
 /// The scene with these variables alone.
