@@ -7,3 +7,6 @@ mod Said
 mod Statuses
 mod Numbers
 mod Loading
+mod Turns
+mod Keys
+mod HandedBack

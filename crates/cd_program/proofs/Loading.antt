@@ -1,18 +1,26 @@
 -- What the bytes that a source gave up come to.
-use Rattle.std.proofs.Common.{◌≡◌, ◌<◌, ◌≤◌, ◌+◌, ◌∙◌, ◌++◌, ◌⊎◌, ℕ, true, List, [], length, Option, Some, None, Result, Ok, Err, length-append, inl, inr, refl, ap, sym, subst, arith}
+use Rattle.std.proofs.Common.{◌≡◌, ◌<◌, ◌≤◌, ◌+◌, ◌∙◌, ◌++◌, ◌⊎◌, ℕ, true, List, [], length, Option, Some, None, Result, Ok, Err, length-append, inl, inr, refl, rules, ap, sym, subst, arith}
 use Rattle.std.specs.Prelude.{nat_lt}
+use Rattle.std.specs.Result.{result_map_both}
 use Rattle.std.proofs.lemmas.Bool.Decides.{nat_tests}
 use Rattle.std.proofs.lemmas.List.{append-nil}
 use Rattle.cd_tree.specs.Reading.{tree_of}
 use Rattle.cd_tree.specs.declared.fault.TreeFault.{TreeFault}
 use Rattle.cd_tree.specs.declared.fault.TreeFault.TheVariants.{TooLong}
 use Rattle.cd_tree.specs.declared.limits.TheConstants.{MAX_TEXT_BYTES}
-use Rattle.cd_tree.specs.declared.tree.Tree.{Tree}
+use Rattle.cd_tree.specs.declared.tree.Tree.{Tree, the_lemmas}
+use Rattle.cd_tree.specs.declared.tree.Tree.TheVariants as tree
 use Rattle.cd_legal.specs.declared.plan.Plan.{Plan}
 use Rattle.cd_module.specs.declared.fault.LoadFault.{LoadFault}
 use Rattle.cd_program.specs.Config.{Gave}
-use Rattle.cd_program.specs.Configuration.{configured}
-use Rattle.cd_program.specs.Top.{Loads}
+use Rattle.cd_standard.specs.Acting.{plan_of_tree}
+use Rattle.cd_standard.specs.Loading.{loaded, nothing_said, planned}
+use Rattle.cd_standard.specs.Plans.{plan_of}
+use Rattle.cd_program.specs.declared.initial.Initial.{Initial}
+use Rattle.cd_program.specs.declared.initial.Initial.TheVariants.{OfFile, Null}
+use Rattle.cd_program.specs.Configuration.{configured, if_planned}
+use Rattle.cd_program.specs.Top.{Begins, Loads}
+use Rattle.cd_program.specs.Words.{is_of_file}
 use Rattle.cd_program.specs.declared.refusal.Refusal.{Refusal}
 use Rattle.cd_program.specs.declared.refusal.Refusal.TheVariants.{NoTree}
 
@@ -43,3 +51,23 @@ pub all_loaded : (plan : Tree → Result Plan LoadFault) (bytes : List ℕ) (lef
 all_loaded plan bytes (Some left) found loads =
     read_so plan loads.bytes bytes left (Some-injective loads.gave.given) loads.gave.all ∙ loads.is
 all_loaded plan bytes None found loads = let none = loads.gave.given in cc
+
+-- where null is a configuration, one that is refused is that of a file
+pub refused_of_file : (plan : Tree → Result Plan LoadFault) → ((refusal : Refusal) → if_planned tree.Null (plan tree.Null) ≡ Err refusal → ⊥)
+    → (initial : Initial) (old new : Option (List ℕ)) (refusal : Refusal) → Begins plan initial old new (Err refusal) → (is_of_file initial ≡ true) × Loads plan old new (Err refusal)
+refused_of_file plan fine OfFile old new refusal loads = (refl, loads)
+refused_of_file plan fine Null old new refusal is = absurd (fine refusal is)
+
+loaded_null : loaded tree.Null ≡ Ok (planned nothing_said)
+unfolding loaded
+loaded_null = search (rules, the_lemmas)
+
+apart : (t : Tree) (refusal : Refusal) → ◌≡◌ {A = Result Tree Refusal} (Ok t) (Err refusal) → ⊥
+apart t refusal e = cc
+
+-- the tree null is a configuration of the standard modules
+pub null_is_fine : (refusal : Refusal) → if_planned tree.Null (plan_of_tree tree.Null) ≡ Err refusal → ⊥
+null_is_fine refusal is =
+    let plans : plan_of_tree tree.Null ≡ Ok (plan_of nothing_said) = ap (result_map_both (λ configured. configured.plan) (λ fault. fault)) loaded_null in
+    let fine : if_planned tree.Null (plan_of_tree tree.Null) ≡ Ok tree.Null = ap (if_planned tree.Null) plans in
+    apart tree.Null refusal (sym fine ∙ is)

@@ -10,3 +10,10 @@ counted ending counts = record {
   answered = min (counts.answered + ending.answered) count_end;
   cut = if is_cut ending.way then raised counts.cut else counts.cut;
 }
+
+-- the counts of two runs together
+abbrev pub both_counted : Counts → Counts → Counts
+both_counted one other = record {
+  answered = min (one.answered + other.answered) count_end;
+  cut = min (one.cut + other.cut) count_end;
+}

@@ -5,5 +5,6 @@ pub mod Connections
 pub mod Going
 pub mod Counted
 pub mod Config
+pub mod Lanes
 pub mod Output
 pub mod Top

@@ -1,5 +1,8 @@
 -- What is written on the program's own output.
 use Rattle.std.specs.Prelude.{◌≡◌, ◌<◌, ◌++◌, ℕ, List, length, codes, decimal, Option, Some, option_map}
+use Rattle.cd_outside.specs.declared.key.Key.{Key}
+use Rattle.cd_outside.specs.declared.key.Key.TheVariants.{Listen, Writer}
+use Rattle.cd_addr.specs.Addresses.{written}
 
 abbrev pub serving_line : List ℕ
 serving_line = codes "serving initial configuration\n"
@@ -14,6 +17,15 @@ run_text answered published = serving_line ++ served_line answered published
 -- the line of a refusal in these words
 abbrev pub refused_line : List ℕ → List ℕ
 refused_line words = codes "refused: " ++ words ++ codes "\n"
+
+-- what a line calls a key
+abbrev pub key_words : Key → List ℕ
+key_words (Listen address) = codes "listen " ++ written address
+key_words (Writer name) = codes "writer " ++ name
+
+-- the line for a key that can't be opened
+abbrev pub unopened_line : Key → List ℕ
+unopened_line key = refused_line (codes "cannot open " ++ key_words key)
 
 abbrev pub valid_line : List ℕ
 valid_line = codes "valid configuration\n"

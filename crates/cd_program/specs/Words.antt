@@ -2,7 +2,9 @@
 use Rattle.std.specs.Prelude.{ℕ, ◌&&◌, Bool, true, false, List, [], ◌∷◌, codes, bytes_eq, decimal, ◌^◌, nat_lt, if◌then◌else◌}
 use Rattle.std.specs.Str.Parse.{digits_value}
 use Rattle.cd_program.specs.declared.command.Command.{Command}
-use Rattle.cd_program.specs.declared.command.Command.TheVariants.{Stdio, Validate, Unbuilt, Unknown}
+use Rattle.cd_program.specs.declared.command.Command.TheVariants.{Serve, Validate, Unbuilt, Unknown}
+use Rattle.cd_program.specs.declared.initial.Initial.{Initial}
+use Rattle.cd_program.specs.declared.initial.Initial.TheVariants.{OfFile, Null}
 
 -- the decimal of a number below 2^64
 abbrev pub is_number : List ℕ → Bool
@@ -11,26 +13,45 @@ is_number text = bytes_eq text (decimal (digits_value 10 text)) && nat_lt (digit
 -- what a word asks for that `--config FILE` follows
 abbrev pub with_file : List ℕ → Command
 with_file word =
-    if bytes_eq word (codes "stdio") then Stdio
+    if bytes_eq word (codes "stdio") then Serve OfFile
+    else if bytes_eq word (codes "run") then Serve OfFile
     else if bytes_eq word (codes "validate") then Validate
-    else if bytes_eq word (codes "run") then Unbuilt
     else Unknown
 
--- what the words ask for: `stdio --config FILE`, `validate --config FILE`, or what is not built yet: `run`,
--- `run --config FILE` and `storm N`
+-- what the words ask for: `stdio --config FILE`, `run --config FILE`, `run`, `validate --config FILE`, or `storm N`, which is
+-- not built yet
 abbrev pub command : List (List ℕ) → Command
 command [] = Unknown
-command (word ∷ []) = if bytes_eq word (codes "run") then Unbuilt else Unknown
+command (word ∷ []) = if bytes_eq word (codes "run") then Serve Null else Unknown
 command (word ∷ number ∷ []) = if bytes_eq word (codes "storm") && is_number number then Unbuilt else Unknown
 command (word ∷ option ∷ file ∷ []) = if bytes_eq option (codes "--config") then with_file word else Unknown
 command (word ∷ option ∷ file ∷ other ∷ more) = Unknown
 
 -- it is built
 abbrev pub is_built : Command → Bool
-is_built Stdio = true
+is_built (Serve initial) = true
 is_built Validate = true
 is_built Unbuilt = false
 is_built Unknown = false
+
+-- it is a run
+abbrev pub is_run : Command → Bool
+is_run (Serve initial) = true
+is_run Validate = false
+is_run Unbuilt = false
+is_run Unknown = false
+
+-- a run begins with the configuration of a file
+abbrev pub is_of_file : Initial → Bool
+is_of_file OfFile = true
+is_of_file Null = false
+
+-- a file is read
+abbrev pub has_file : Command → Bool
+has_file (Serve initial) = is_of_file initial
+has_file Validate = true
+has_file Unbuilt = false
+has_file Unknown = false
 
 abbrev pub usage_line : List ℕ
 usage_line = codes "usage: caddy_run run [--config FILE] | stdio --config FILE | validate --config FILE | storm N\n"
@@ -40,7 +61,7 @@ unbuilt_line = codes "not yet\n"
 
 -- the line for words that start nothing
 abbrev pub idle_line : Command → List ℕ
-idle_line Stdio = usage_line
+idle_line (Serve initial) = usage_line
 idle_line Validate = usage_line
 idle_line Unbuilt = unbuilt_line
 idle_line Unknown = usage_line

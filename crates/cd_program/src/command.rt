@@ -1,17 +1,17 @@
 ghost use Rattle.std.specs.Prelude.{◌≡◌, ◌<◌, length};
 ghost use Rattle.cd_program.specs.Words.{command, with_file, is_number, idle_line};
 
+use crate::initial::Initial;
 use cd_text::{Text, number_of};
 
 /// What the words of the command line ask for.
 #[derive(Clone, Copy, Debug, PartialEq, Eq)]
 pub enum Command {
-    /// `stdio --config FILE`: to serve one lane of standard input and output.
-    Stdio,
+    /// `stdio --config FILE`, `run --config FILE` or `run`: to serve the lanes, beginning with this configuration.
+    Serve(Initial),
     /// `validate --config FILE`: to say whether the configuration is one.
     Validate,
-    /// `run`, `run --config FILE` or `storm N`, which have a meaning that is not built yet. N is the decimal of a number below
-    /// 2^64.
+    /// `storm N`, which has a meaning that is not built yet. N is the decimal of a number below 2^64.
     Unbuilt,
     /// Nothing that is known.
     Unknown,
@@ -23,7 +23,7 @@ impl Command {
         ensures { result ≡ command words.now }
     {
         match words {
-            [word] if word.equals("run") => Command::Unbuilt,
+            [word] if word.equals("run") => Command::Serve(Initial::Null),
             [word, number] if word.equals("storm") && is_number(number.as_str()) =>
                 Command::Unbuilt,
             [word, option, _] if option.equals("--config") => with_file(word),
@@ -38,7 +38,7 @@ impl Command {
     {
         match self {
             Command::Unbuilt => "not yet\n",
-            Command::Stdio | Command::Validate | Command::Unknown => {
+            Command::Serve(_) | Command::Validate | Command::Unknown => {
                 "usage: caddy_run run [--config FILE] | stdio --config FILE | validate --config FILE | storm N\n"
             }
         }
@@ -50,11 +50,11 @@ fn with_file(word: &Text) -> Command
     ensures { result ≡ with_file word.now }
 {
     if word.equals("stdio") {
-        Command::Stdio
+        Command::Serve(Initial::OfFile)
+    } else if word.equals("run") {
+        Command::Serve(Initial::OfFile)
     } else if word.equals("validate") {
         Command::Validate
-    } else if word.equals("run") {
-        Command::Unbuilt
     } else {
         Command::Unknown
     }

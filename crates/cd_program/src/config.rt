@@ -1,18 +1,20 @@
-ghost use Rattle.std.specs.Prelude.{◌≡◌, ◌≤◌, IfOk, IsErrOf};
+ghost use Rattle.std.specs.Prelude.{◌≡◌, ◌≤◌, false, true, IfOk, IsErrOf};
 ghost use Rattle.std.specs.Result.{result_map_both};
 ghost use Rattle.cd_text.specs.Gives.{Gives};
 ghost use Rattle.cd_outside.specs.Counts.{Rose};
 ghost use Rattle.cd_program.specs.Config.{Gave};
-ghost use Rattle.cd_program.specs.Configuration.{configured};
-ghost use Rattle.cd_program.specs.Top.{Loads};
+ghost use Rattle.cd_program.specs.Configuration.{configured, if_planned};
+ghost use Rattle.cd_program.specs.Top.{Begins, Loads};
+ghost use Rattle.cd_program.specs.Words.{is_of_file};
 ghost use Rattle.cd_program.specs.declared.refusal.Refusal.{Refusal as Refused};
 
+use crate::initial::Initial;
 use crate::refusal::Refusal;
 use cd_module::LoadFault;
 use cd_module_set::{Loaded, ModuleSet};
 use cd_outside::{Source, Taken};
 use cd_text::Octets;
-use cd_tree::{MAX_TEXT_BYTES, TreeFault, read};
+use cd_tree::{MAX_TEXT_BYTES, Tree, TreeFault, read};
 use std::alloc::Global;
 
 /// Why the bytes of a configuration could not be had.
@@ -89,5 +91,35 @@ pub fn load<M: ModuleSet, S: Source>(alloc: Global, config: &mut S) -> Result<Lo
         Ok(loaded) => Ok(loaded),
         Err(Refusal::NoMemory) => Err(Unloaded::NoMemory),
         Err(refusal) => Err(Unloaded::Refused(refusal)),
+    }
+}
+
+// Loads the tree null, and reads nothing.
+fn load_null<M: ModuleSet>(alloc: Global) -> Result<Loaded<M>, Unloaded>
+    ensures fine { IfOk result (λ loaded. if_planned Tree.Null (M.plan Tree.Null) ≡ Ok loaded.tree) }
+    ensures refused { (refusal : Refused) → result ≡ Err (Unloaded.Refused refusal) → if_planned Tree.Null (M.plan Tree.Null) ≡ Err refusal }
+    ensures read { ¬ (result ≡ Err Unloaded.Failed) }
+{
+    match M::load(alloc, Tree::Null) {
+        Ok(loaded) => Ok(loaded),
+        Err(LoadFault::Refused(fault)) => Err(Unloaded::Refused(Refusal::Faulty(fault))),
+        Err(LoadFault::NoMemory) => Err(Unloaded::NoMemory),
+    }
+}
+
+/// Loads the configuration that a run begins with.
+pub fn load_initial<M: ModuleSet, S: Source>(
+    alloc: Global,
+    initial: Initial,
+    config: &mut S,
+) -> Result<Loaded<M>, Unloaded>
+    ensures fine { IfOk result (λ loaded. Begins M.plan initial (S.left config.old) (S.left config.new) (Ok loaded.tree)) }
+    ensures refused { (refusal : Refused) → result ≡ Err (Unloaded.Refused refusal) → Begins M.plan initial (S.left config.old) (S.left config.new) (Err refusal) }
+    ensures failed { result ≡ Err Unloaded.Failed → (is_of_file initial ≡ true) × Rose (S.faults config.old) (S.faults config.new) }
+    ensures unread { is_of_file initial ≡ false → config.new ≡ config.old }
+{
+    match initial {
+        Initial::OfFile => load(alloc, config),
+        Initial::Null => load_null(alloc),
     }
 }

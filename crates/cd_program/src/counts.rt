@@ -10,7 +10,7 @@ pub struct Counts {
 }
 
 impl Counts {
-    ghost use Rattle.cd_program.specs.Counted.{counted};
+    ghost use Rattle.cd_program.specs.Counted.{counted, both_counted};
 
     /// Nothing was counted yet.
     pub fn new() -> Counts
@@ -31,5 +31,13 @@ impl Counts {
             Way::NoMemory => self.cut = self.cut.saturating_add(1),
             Way::Clean | Way::Cut | Way::Refused(_) | Way::Closed | Way::Failed | Way::Dropped => {}
         }
+    }
+
+    /// Adds what was counted elsewhere. Each sum stays at its end.
+    pub fn add_all(&mut self, more: Counts)
+        ensures { self.new ≡ both_counted self.old more }
+    {
+        self.answered = self.answered.saturating_add(more.answered);
+        self.cut = self.cut.saturating_add(more.cut);
     }
 }

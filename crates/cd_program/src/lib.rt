@@ -5,9 +5,10 @@
 //! configuration. The forms in memory of `cd_outside` are given it to run whole conversations.
 //!
 //! The words ask for a `Command` (command.rt). The modules in between read and load the configuration (config.rt), by whatever
-//! set of modules there is; say that it is valid (validating.rt), or why there is none (declining.rt); or run it (running.rt):
-//! serve the connections of a lane one after another by what the configuration does at their addresses (serve.rt,
-//! connection.rt), count them (counts.rt), and say what was done (output.rt).
+//! set of modules there is; say that it is valid (validating.rt), or why there is none (declining.rt); or run it: open its
+//! keys (starting.rt), say so, serve the lanes and close the keys (hosting.rt, output.rt). Lanes are served side by side, each in
+//! a slot that counts what was done (lanes.rt, slot.rt, seats.rt, counts.rt), and each serves its connections one after another
+//! by what the configuration does at their addresses (serve.rt, connection.rt).
 #![tactic(auto)]
 
 mod command;
@@ -15,11 +16,17 @@ mod config;
 mod connection;
 mod counts;
 mod declining;
+mod hosting;
+mod initial;
+mod lanes;
 mod laws;
 mod output;
 mod refusal;
-mod running;
+mod report;
+mod seats;
 mod serve;
+mod slot;
+mod starting;
 mod status;
 mod top;
 mod validating;

@@ -2,10 +2,11 @@ ghost use Rattle.std.specs.Prelude.{◌≡◌, ◌≤◌, ◌<◌, ◌++◌, Lis
 ghost use Rattle.cd_outside.specs.Counts.{Rose};
 ghost use Rattle.cd_outside.specs.Given.{IsGivenOf};
 ghost use Rattle.cd_program.specs.Configuration.{words_of};
-ghost use Rattle.cd_program.specs.Output.{Wrote, served_line, refused_line};
+ghost use Rattle.cd_program.specs.Output.{Wrote, key_words, served_line, refused_line, unopened_line};
 
 use crate::refusal::{Refusal, fault_words};
-use cd_outside::{Given, Sink};
+use cd_addr::write;
+use cd_outside::{Given, Key, Sink};
 use cd_text::{NoMemory, Text};
 use std::alloc::Global;
 
@@ -55,4 +56,25 @@ pub fn refused_line(alloc: Global, refusal: &Refusal) -> Result<Text, NoMemory>
         Refusal::Faulty(fault) => line_of(alloc, fault.words(alloc)?.as_str()),
         Refusal::NoMemory => line_of(alloc, ""),
     }
+}
+
+// What a line says of a key that can't be opened.
+fn unopened_words(alloc: Global, key: &Key) -> Result<Text, NoMemory>
+    ensures { IfOk result (λ words. words ≡ codes "cannot open " ++ key_words key.now) }
+{
+    let words = match key {
+        Key::Listen(address) => {
+            let address = write(alloc, address)?;
+            format!(in alloc; "cannot open listen {}", address.as_str())?
+        }
+        Key::Writer(name) => format!(in alloc; "cannot open writer {}", name.as_str())?,
+    };
+    Ok(Text::from_string(words))
+}
+
+/// The line for a key that can't be opened.
+pub fn unopened_line(alloc: Global, key: &Key) -> Result<Text, NoMemory>
+    ensures { IfOk result (λ line. line ≡ unopened_line key.now) }
+{
+    line_of(alloc, unopened_words(alloc, key)?.as_str())
 }

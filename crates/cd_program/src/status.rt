@@ -7,6 +7,8 @@ pub enum Status {
     Done,
     /// The configuration is refused.
     Refused,
+    /// A key of the configuration could not be opened.
+    Unopened,
     /// The words are none that the program knows, or none that is built yet.
     Usage,
     /// The configuration could not be read.
@@ -26,7 +28,7 @@ impl Status {
     {
         match self {
             Status::Done => 0,
-            Status::Refused => 1,
+            Status::Refused | Status::Unopened => 1,
             Status::Usage => 2,
             Status::ReadFault => 3,
             Status::WriteFault => 4,

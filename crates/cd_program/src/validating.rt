@@ -18,6 +18,7 @@ pub fn validate<M: ModuleSet, S: Source, O: Sink>(
     out: &mut O,
 ) -> Status
     ensures known { result ≢ Status.Usage }
+    ensures opens { result ≢ Status.Unopened }
     ensures valid { IsAccepted (code_of result) → IsValid M.plan (S.left config.old) (S.left config.new) }
     ensures valid_text { IsAccepted (code_of result) → Wrote valid_line (code_of result ≡ 0) (O.holds out.old) (O.holds out.new) }
     ensures refused { result ≡ Status.Refused → WasRefused M.plan (S.left config.old) (S.left config.new)

@@ -2,7 +2,7 @@ use Rattle.std.proofs.Common.{◌∙◌}
 use Rattle.cd_outside.specs.declared.given.Given.TheVariants as given
 use Rattle.cd_program.specs.Output.{served_line}
 use Rattle.cd_program.proofs.Said.{wrote_line}
-use Rattle.cd_program.proofs.running.say_served.Goals as goal
+use Rattle.cd_program.proofs.hosting.say_served.Goals as goal
 
 pub returns-clause-text : goal.returns-clause-text
 returns-clause-text g c =
