@@ -1,6 +1,6 @@
 -- Drafts that are made and opened in a turn.
-use Rattle.std.proofs.Common.{◌≡◌, ℕ, zero, suc, ◌+◌, ◌==◌, Bool, true, false, not, cond, List, [], ◌∷◌, ◌++◌, length, take, slice_get, Option, Some, None, option_map, refl, sym, ap, subst, ◌∙◌, eq-eqb}
-use Rattle.std.specs.Prelude.{◌&&◌, ◌||◌, is_some, is_none, is_err, Result, Ok, Err}
+use Rattle.std.proofs.Common.{◌≡◌, ℕ, zero, suc, ◌+◌, ◌==◌, Bool, true, false, cond, List, [], ◌∷◌, ◌++◌, length, take, slice_get, Option, Some, None, option_map, refl, sym, ap, subst, ◌∙◌, eq-eqb}
+use Rattle.std.specs.Prelude.{◌||◌, is_some, is_none, is_err, Result, Ok, Err}
 use Rattle.std.proofs.lemmas.Bool.{eqb-true}
 use Rattle.cd_outside.specs.declared.key.Key.{Key}
 use Rattle.cd_outside.specs.declared.holder.Pair.{Pair}
@@ -8,7 +8,7 @@ use Rattle.cd_outside.specs.Keys.{key_eq, has_key, keys_in}
 use Rattle.cd_outside.proofs.KeyLemmas.{has_key-append}
 use Rattle.cd_tree.specs.declared.tree.Tree.{Tree}
 use Rattle.cd_legal.specs.declared.entry.Entry.{Entry}
-use Rattle.cd_legal.specs.declared.entry.Entry.TheVariants.{Draft, Made, Started}
+use Rattle.cd_legal.specs.declared.entry.Entry.TheVariants.{Made, Started}
 use Rattle.cd_legal.specs.declared.entry.Signed.{Signed}
 use Rattle.cd_legal.specs.declared.part.Part.{Part}
 use Rattle.cd_legal.specs.declared.part.Part.TheVariants.{Instance, App}

@@ -1,5 +1,5 @@
 -- Requests that begin and end in a turn.
-use Rattle.std.proofs.Common.{◌≡◌, ◌≤◌, ◌<◌, ℕ, zero, suc, ◌+◌, ◌==◌, min, Bool, true, false, nat_lt, cond, List, [], ◌∷◌, ◌++◌, Option, Some, None, refl, sym, ap, subst, ◌∙◌, eq-eqb, arith}
+use Rattle.std.proofs.Common.{◌≡◌, ◌≤◌, ◌<◌, ℕ, zero, suc, ◌+◌, ◌==◌, min, Bool, true, false, nat_lt, cond, List, [], ◌∷◌, ◌++◌, Some, None, refl, sym, ap, subst, ◌∙◌, eq-eqb, arith}
 use Rattle.std.specs.Prelude.{◌&&◌, is_some}
 use Rattle.std.proofs.lemmas.Bool.{eqb-true}
 use Rattle.cd_outside.specs.Counts.{count_end}
@@ -8,7 +8,7 @@ use Rattle.cd_legal.specs.declared.entry.Entry.TheVariants.{Begin, Finish}
 use Rattle.cd_legal.specs.declared.entry.Signed.{Signed}
 use Rattle.cd_legal.specs.declared.limits.TheConstants.{MAX_BEGINS}
 use Rattle.cd_legal.specs.declared.state.State.{State}
-use Rattle.cd_legal.specs.Begins.{begins_now, begins_by}
+use Rattle.cd_legal.specs.Begins.{begins_now}
 use Rattle.cd_legal.specs.Entry.{signed, entries}
 use Rattle.cd_legal.specs.State.{Conf, conf_of, has_ticket, ticket_of, open_at}
 use Rattle.cd_legal.specs.Legal.{allowed, after, state_at, may_retire}
@@ -22,10 +22,10 @@ use Rattle.cd_gate.specs.declared.gate.Gate.{Gate}
 use Rattle.cd_gate.specs.declared.pass.Pass.{Pass}
 use Rattle.cd_gate.specs.declared.pass.Turn.{Turn}
 use Rattle.cd_gate.specs.declared.view.View.{View}
-use Rattle.cd_gate.specs.Growing.{Grows, Since}
+use Rattle.cd_gate.specs.Growing.{Since}
 use Rattle.cd_gate.specs.Knowing.{Knows, is_calm, due_at}
 use Rattle.cd_gate.specs.Passes.{view, IsIdleOf, opening_of}
-use Rattle.cd_gate.specs.Steps.{may_note, leaves_room, is_due, with_turn, without_turn, noted}
+use Rattle.cd_gate.specs.Steps.{may_note, with_turn, without_turn, noted}
 use Rattle.cd_gate.specs.Words.{owed}
 use Rattle.cd_gate.proofs.Grown.{since_more}
 use Rattle.cd_gate.proofs.InTurn.{calm, ticket_at, may_finish, finished, told}

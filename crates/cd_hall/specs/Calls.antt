@@ -1,5 +1,5 @@
 -- What calls of the hall tell.
-use Rattle.std.specs.Prelude.{◌≡◌, ℕ, ◌+◌, ◌<◌, ◌≤◌, true, false, List, [], ◌∷◌, Option, Some, None, Result, Ok, Err}
+use Rattle.std.specs.Prelude.{◌≡◌, ℕ, ◌<◌, true, List, [], ◌∷◌, Option, Some, None, Result, Ok, Err}
 use Rattle.cd_outside.specs.declared.key.Key.{Key}
 use Rattle.cd_outside.specs.Counts.{Rose}
 use Rattle.cd_legal.specs.declared.entry.Signed.{Signed}

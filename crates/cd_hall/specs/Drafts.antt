@@ -4,7 +4,6 @@ use Rattle.cd_outside.specs.declared.key.Key.{Key}
 use Rattle.cd_outside.specs.Keys.{key_eq}
 use Rattle.cd_tree.specs.declared.tree.Tree.{Tree}
 use Rattle.cd_legal.specs.declared.plan.Plan.{Plan}
-use Rattle.cd_legal.specs.declared.part.Part.{Part}
 use Rattle.cd_legal.specs.declared.part.Part.TheVariants.{Instance, App}
 use Rattle.cd_legal.specs.declared.entry.Entry.{Entry}
 use Rattle.cd_legal.specs.declared.entry.Entry.TheVariants.{Draft, Made, Started}

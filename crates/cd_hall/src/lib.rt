@@ -5,9 +5,9 @@
 //! What a call of the hall tells is `Grows` of `cd_gate`: the pass has seen a history that begins with all that it had seen, and of its
 //! own entries it has these more, at the end. `InTurn` of specs/Turns.antt says what holds between two entries of one turn.
 //!
-//! Files: turns.rt takes a turn, adds entries in it, and leaves it, whatever is guarded, and names.rt says which entries are added; beginning.rt makes a hall; requests.rt begins
-//! and ends requests; drafting.rt makes drafts, and makes and starts what they consist of. Tickets and duties are values that are not
-//! dropped. Only `new`, `begin` and `draft` take memory.
+//! Files: turns.rt takes a turn, adds entries in it, and leaves it, whatever is guarded, and names.rt says which entries are added;
+//! beginning.rt makes a hall; requests.rt begins and ends requests; drafting.rt makes drafts, and makes and starts what they consist
+//! of. Tickets and duties are values that are not dropped. Only `new`, `begin` and `draft` take memory.
 #![tactic(auto)]
 
 mod beginning;

@@ -1,4 +1,3 @@
-use Rattle.cd_gate.specs.Passes.{view}
 use Rattle.cd_hall.proofs.Turned.{added}
 use Rattle.cd_hall.proofs.turns.add.Goals as goal
 

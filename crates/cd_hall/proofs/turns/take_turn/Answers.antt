@@ -1,13 +1,9 @@
 use Rattle.std.proofs.Common.{ap, ◌∙◌, slice_get}
-use Rattle.cd_legal.specs.declared.entry.Signed.{Signed}
 use Rattle.cd_legal.specs.Legal.{state_at}
 use Rattle.cd_legal.specs.Whole.{nothing_left}
 use Rattle.cd_gate.specs.declared.view.View.{View}
-use Rattle.cd_gate.specs.Knowing.{Knows}
 use Rattle.cd_gate.specs.Passes.{view, opening_of}
-use Rattle.cd_gate.specs.Steps.{with_turn}
 use Rattle.cd_gate.proofs.Grown.{since_none}
-use Rattle.cd_gate.proofs.InTurn.{finds}
 use Rattle.cd_gate.proofs.Staying.{kept}
 use Rattle.cd_hall.proofs.Turned.{seen_is, in_turn, room_is}
 use Rattle.cd_hall.proofs.turns.take_turn.Goals as goal

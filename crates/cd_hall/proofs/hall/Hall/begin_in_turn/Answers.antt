@@ -1,10 +1,5 @@
-use Rattle.std.proofs.Common.{◌≡◌, ◌∙◌, ap, sym, refl, arith}
-use Rattle.cd_legal.specs.declared.entry.Entry.TheVariants.{Begin}
-use Rattle.cd_legal.specs.State.{conf_of}
-use Rattle.cd_legal.specs.Legal.{state_at}
-use Rattle.cd_gate.specs.declared.view.View.{View}
-use Rattle.cd_gate.specs.Passes.{view, opening_of}
-use Rattle.cd_hall.proofs.Requested.{calm_self, worn_is, few_after, conf_after, serial_here}
+use Rattle.std.proofs.Common.{arith}
+use Rattle.cd_hall.proofs.Requested.{few_after, conf_after, serial_here}
 use Rattle.cd_hall.proofs.hall.Hall.begin_in_turn.Goals as goal
 
 pub share-requires : goal.share-requires

@@ -1,5 +1,4 @@
-use Rattle.std.proofs.Common.{◌≡◌, ◌∙◌, ap, sym, List}
-use Rattle.cd_legal.specs.declared.entry.Entry.TheVariants.{Finish}
+use Rattle.std.proofs.Common.{◌∙◌, ap, sym, List}
 use Rattle.cd_legal.specs.declared.entry.Signed.{Signed}
 use Rattle.cd_legal.specs.Legal.{state_at}
 use Rattle.cd_gate.specs.Knowing.{due_at}

@@ -1,6 +1,5 @@
-use Rattle.std.proofs.Common.{◌≡◌, ◌∙◌, ◌++◌, ◌∷◌, [], sym, refl, true}
+use Rattle.std.proofs.Common.{◌≡◌, ◌++◌, ◌∷◌, [], sym, refl, true}
 use Rattle.cd_legal.specs.Entry.{signed}
-use Rattle.cd_legal.specs.Legal.{allowed, state_at}
 use Rattle.cd_gate.specs.Passes.{view, opening_of}
 use Rattle.cd_gate.specs.Steps.{may_note, noted}
 use Rattle.cd_hall.specs.Drafts.{failed_in, started_entry}
