@@ -1,4 +1,5 @@
 pub mod Fine
+pub mod Nulls
 pub mod Tags
 pub mod Texts
 pub mod Types

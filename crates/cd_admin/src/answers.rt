@@ -1,5 +1,5 @@
 //! The answers of the admin API.
-ghost use Rattle.std.specs.Prelude.{◌≡◌, ◌∷◌, [], IfOk};
+ghost use Rattle.std.specs.Prelude.{◌≡◌, ◌∷◌, [], false, IfOk};
 ghost use Rattle.cd_tree.specs.Tree.{text};
 ghost use Rattle.cd_admin.specs.Answers.{field, json_type, line, error_tree, allow_fields, refusal, shown, done};
 
@@ -40,8 +40,8 @@ pub(crate) fn shown(alloc: Global, tag: &Text, value: &Text) -> Result<Answer, N
     })
 }
 
-/// That what was asked for is so. It takes no memory.
-pub(crate) fn done(alloc: Global) -> Answer
+/// That what was asked for is so: 200, without fields or a body. It takes no memory.
+pub fn done(alloc: Global) -> Answer
     ensures { result ≡ done }
 {
     Answer {
@@ -50,6 +50,21 @@ pub(crate) fn done(alloc: Global) -> Answer
         body: Octets::new(alloc),
         close: false,
     }
+}
+
+/// An answer with this status and these words, as refusals have them: `{"error":WORDS}` and a newline.
+pub fn error_answer(alloc: Global, status: u16, words: Text) -> Result<Answer, NoMemory>
+    ensures { IfOk result (λ answer. answer ≡ record { status = status; fields = json_type ∷ []; body = line (text (error_tree words)); close = false }) }
+{
+    let mut fields = List::new(alloc);
+    fields.push(json_type(alloc)?)?;
+    let body = error_line(alloc, words)?;
+    Ok(Answer {
+        status,
+        fields,
+        body,
+        close: false,
+    })
 }
 
 fn field(alloc: Global, name: &str, value: &str) -> Result<Field, NoMemory>

@@ -5,7 +5,7 @@ ghost use Rattle.cd_text.specs.Gives.{Gives};
 ghost use Rattle.cd_tree.specs.Tree.{IsSound};
 ghost use Rattle.cd_ids.specs.Ids.{id_fault};
 ghost use Rattle.cd_wire.specs.declared.request.Request.{Request};
-ghost use Rattle.cd_admin.specs.Deciding.{decided, replaced, fine, ended};
+ghost use Rattle.cd_admin.specs.Deciding.{decided, replaced, fine, ended, new_tree};
 ghost use Rattle.cd_admin.specs.Decisions.{IsServed, IsBy, said};
 
 use crate::administered::Administered;
@@ -15,6 +15,7 @@ use crate::copying::copy_request;
 use crate::decision::Decision;
 use crate::denial::Denial;
 use crate::ending::Ending;
+use crate::laws::changes_are_decided;
 use crate::making::make;
 use cd_legal::Change;
 use cd_module::LoadFault;
@@ -33,6 +34,8 @@ use std::alloc::Global;
 /// `must-revalidate` (else 200, and nothing changes); the set of modules finds no fault (400). Then the tree is replaced.
 ///
 /// A replacement comes with the request as its change: a copy, since the request is decided anew where another change came first.
+/// Its tree is the one that the request asks for by the meaning of the set, so that a board may publish it by this change; an
+/// answer and the halt come where the request asks for none.
 #[tactic(auto, unfolding(crate::specs::Deciding::decided))]
 pub fn decide<M: Administered>(
     alloc: Global,
@@ -42,8 +45,10 @@ pub fn decide<M: Administered>(
     requires sound { IsSound tree.now }
     requires served { IsServed M.plan tree.now }
     ensures exact { IfOk result (λ decision. said decision ≡ decided M.plan tree.now request.now) }
+    ensures asked { IfOk result (λ decision. M.change tree.now request.now ≡ new_tree (said decision)) }
     ensures change { IfOk result (λ decision. IsBy request.now decision) }
 {
+    changes_are_decided::<M>();
     match replaced::<M>(alloc, tree, request) {
         Ok(loaded) => {
             let change = Change::Request(copy_request(alloc, request)?);

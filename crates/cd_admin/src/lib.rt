@@ -32,6 +32,7 @@ mod paths;
 mod wording;
 
 pub use administered::Administered;
+pub use answers::{done, error_answer};
 pub use deciding::decide;
 pub use decision::Decision;
-pub use laws::{changes_are_fine, tags_have_their_form};
+pub use laws::{changes_are_decided, changes_are_fine, tags_have_their_form};

@@ -1,3 +1,4 @@
+pub mod Lent
 pub mod Scene
 pub mod Values
 pub mod Filling

@@ -31,7 +31,7 @@ fn put_closed(
     alloc: Global,
     out: &mut Octets,
     form: Form,
-    scene: &Scene,
+    scene: &Scene<'_>,
     piece: &[u8],
 ) -> Result<(), NoMemory>
     ensures { OnOk result (out.new ≡ out.old ++ closed_piece form scene.now piece.now) }
@@ -77,7 +77,12 @@ fn bounded(filled: Octets) -> Result<Octets, FillFault>
 }
 
 /// The bytes of a text filled in that form. `TooLong` exactly where there are more than `MAX_FILLED_BYTES`.
-pub fn fill_as(alloc: Global, form: Form, text: &[u8], scene: &Scene) -> Result<Octets, FillFault>
+pub fn fill_as(
+    alloc: Global,
+    form: Form,
+    text: &[u8],
+    scene: &Scene<'_>,
+) -> Result<Octets, FillFault>
     ensures { Gives FillFault.NoMemory result (fill_as form scene.now text.now) }
 {
     let mut out = Octets::new(alloc);
@@ -95,7 +100,7 @@ pub fn fill_as(alloc: Global, form: Form, text: &[u8], scene: &Scene) -> Result<
 }
 
 /// The text with its placeholders replaced. `TooLong` exactly where that has more than `MAX_FILLED_BYTES`.
-pub fn fill(alloc: Global, text: &Text, scene: &Scene) -> Result<Octets, FillFault>
+pub fn fill(alloc: Global, text: &Text, scene: &Scene<'_>) -> Result<Octets, FillFault>
     ensures { Gives FillFault.NoMemory result (fill scene.now text.now) }
 {
     fill_as(alloc, Form::Plain, text.as_str().as_bytes(), scene)

@@ -1,6 +1,5 @@
 //! Values that stand in one text, with commas between them.
 ghost use Rattle.std.specs.Prelude.{◌≡◌, ◌++◌, ◌∷◌, OnOk, if◌then◌else◌};
-ghost use Rattle.std.specs.Str.{str_eq_ignore_ascii_case};
 ghost use Rattle.cd_fill.specs.Values.{with_commas, header_values};
 
 use cd_text::{NoMemory, Octets};
@@ -17,12 +16,6 @@ pub(crate) fn put_next(out: &mut Octets, is_first: bool, value: &[u8]) -> Result
     Ok(())
 }
 
-fn is_same_name(one: &[u8], other: &[u8]) -> bool
-    ensures { result ≡ str_eq_ignore_ascii_case one.now other.now }
-{
-    one.eq_ignore_ascii_case(other)
-}
-
 /// Writes the values of the fields of that name, in any case.
 #[tactic(auto, unfolding(crate::specs::Values::header_values, crate::specs::Values::with_commas))]
 pub(crate) fn put_header(out: &mut Octets, name: &[u8], fields: &[Field]) -> Result<(), NoMemory>
@@ -30,7 +23,7 @@ pub(crate) fn put_header(out: &mut Octets, name: &[u8], fields: &[Field]) -> Res
 {
     let mut is_first = true;
     for field in fields {
-        if is_same_name(field.name.as_str().as_bytes(), name) {
+        if field.is_called(name) {
             put_next(out, is_first, field.value.as_slice())?;
             is_first = false;
         }

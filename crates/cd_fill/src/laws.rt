@@ -1,8 +1,14 @@
-//! What filling means in the words of the rule, as a call that does nothing.
+//! What filling means in the words of the rule, and its limit as a number, as calls that do nothing.
 ghost use Rattle.std.specs.Prelude.{◌≡◌, ℕ, List, [], ◌∷◌, ◌++◌, false, All};
 ghost use Rattle.cd_fill.specs.declared.form.Form.{Form};
+ghost use Rattle.cd_fill.specs.declared.limits.TheConstants.{MAX_FILLED_BYTES};
 ghost use Rattle.cd_fill.specs.declared.scene.Scene.{Scene};
 ghost use Rattle.cd_fill.specs.Filling.{is_brace, close_brace, written, named, filled_as};
+
+/// The limit of a filled text, which the contracts cite by name, as a number.
+pub fn filled_bytes_are()
+    ensures { MAX_FILLED_BYTES ≡ 8388608 }
+{}
 
 /// In each form a placeholder is replaced wherever it stands, and what stands on its two sides is filled by itself: so what
 /// is filled in makes no placeholder, neither in itself nor with what stands around it, and no escape that is written goes on

@@ -1,23 +1,36 @@
-ghost use Rattle.std.specs.Prelude.{◌≡◌, IfOk};
+ghost use Rattle.std.specs.Prelude.{◌≡◌, [], IfOk, unwrap_or};
 
-use cd_text::{NoMemory, Octets, Text};
+use crate::Lent;
+use cd_text::{NoMemory, Octets};
 use std::alloc::Global;
 
-/// What is asked for, which handlers may rewrite.
+/// What is asked for, which handlers may rewrite. What they leave is lent by the request.
 #[derive(Debug, Drop)]
-pub struct RequestLine {
-    /// The method. Case counts.
-    pub method: Text,
+pub struct RequestLine<'r> {
+    /// The method, a token. Case counts.
+    pub method: Lent<'r, u8>,
     /// The path, with its escapes read.
-    pub path: Octets,
+    pub path: Lent<'r, u8>,
     /// The query as it came, where there is one.
-    pub query: Option<Octets>,
+    pub query: Option<Lent<'r, u8>>,
     /// The path and the query as one text, with their escapes: what `{http.request.uri}` stands for.
-    pub uri: Octets,
+    pub uri: Lent<'r, u8>,
 }
 
-/// A copy of a query, where there is one.
-pub(crate) fn copy_query(alloc: Global, query: &Option<Octets>) -> Result<Option<Octets>, NoMemory>
+/// The query of a request, where there is one.
+pub(crate) fn lent_query<'r>(query: &'r Option<Octets>) -> Option<Lent<'r, u8>>
+    ensures { result ≡ query.now }
+{
+    match query {
+        Some(query) => Some(Lent::shared(query.as_slice())),
+        None => None,
+    }
+}
+
+fn copy_query<'r>(
+    alloc: Global,
+    query: &Option<Lent<'r, u8>>,
+) -> Result<Option<Lent<'r, u8>>, NoMemory>
     ensures { IfOk result (λ made. made ≡ query.now) }
 {
     match query {
@@ -26,9 +39,19 @@ pub(crate) fn copy_query(alloc: Global, query: &Option<Octets>) -> Result<Option
     }
 }
 
-impl RequestLine {
-    /// A copy.
-    pub fn copy(&self, alloc: Global) -> Result<RequestLine, NoMemory>
+impl<'r> RequestLine<'r> {
+    /// The query, and nothing where there is none. It takes no memory.
+    pub fn query_or_empty(&self) -> &[u8]
+        ensures { result.now ≡ unwrap_or self.now.query [] }
+    {
+        match &self.query {
+            Some(query) => query.as_slice(),
+            None => &[],
+        }
+    }
+
+    /// A copy, of what is lent too.
+    pub fn copy(&self, alloc: Global) -> Result<RequestLine<'r>, NoMemory>
         ensures { IfOk result (λ made. made ≡ self.now) }
     {
         Ok(RequestLine {

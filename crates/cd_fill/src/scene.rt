@@ -1,28 +1,28 @@
 ghost use Rattle.std.specs.Prelude.{◌≡◌, [], ◌∷◌, IfOk};
 ghost use Rattle.cd_fill.specs.Scene.{line_of, server_field, scene_of, original_line};
 
-use crate::request_line::copy_query;
+use crate::request_line::lent_query;
 use crate::uri::uri_of;
-use crate::{Failure, RequestLine, Variable};
+use crate::{Failure, Lent, RequestLine, Variable};
 use cd_text::{List, NoMemory, Octets, Text};
 use cd_wire::{Field, Request};
 use std::alloc::Global;
 
-/// The state of a request on its way through the routes.
+/// The state of a request on its way through the routes. What handlers have not changed is lent by the request.
 #[derive(Debug, Drop)]
-pub struct Scene {
+pub struct Scene<'r> {
     /// What is asked for, as handlers have left it.
-    pub current: RequestLine,
+    pub current: RequestLine<'r>,
     /// What was asked for at first, once something is rewritten. Until then `current` is that too: see `original_line`.
-    pub original: Option<RequestLine>,
+    pub original: Option<RequestLine<'r>>,
     /// The host that is asked for, with its port where one is named.
-    pub host: Octets,
+    pub host: Lent<'r, u8>,
     /// The second number of the version: 1 for HTTP/1.1.
     pub minor: u8,
     /// The fields of the request.
-    pub fields: List<Field>,
+    pub fields: Lent<'r, Field>,
     /// The body of the request.
-    pub body: Octets,
+    pub body: Lent<'r, u8>,
     /// The variables that were set.
     pub variables: List<Variable>,
     /// The groups of which a route was taken.
@@ -33,34 +33,16 @@ pub struct Scene {
     pub error: Option<Failure>,
 }
 
-fn line_of(alloc: Global, request: &Request) -> Result<RequestLine, NoMemory>
+fn line_of<'r>(alloc: Global, request: &'r Request) -> Result<RequestLine<'r>, NoMemory>
     ensures { IfOk result (λ line. line ≡ line_of request.now) }
 {
+    let uri = uri_of(alloc, request.target.as_slice())?;
     Ok(RequestLine {
-        method: request.method.copy(alloc)?,
-        path: request.path.copy(alloc)?,
-        query: copy_query(alloc, &request.query)?,
-        uri: uri_of(alloc, request.target.as_slice())?,
+        method: Lent::shared(request.method.as_str().as_bytes()),
+        path: Lent::shared(request.path.as_slice()),
+        query: lent_query(&request.query),
+        uri,
     })
-}
-
-fn copy_field(alloc: Global, field: &Field) -> Result<Field, NoMemory>
-    ensures { IfOk result (λ made. made ≡ field.now) }
-{
-    Ok(Field {
-        name: field.name.copy(alloc)?,
-        value: field.value.copy(alloc)?,
-    })
-}
-
-fn copy_fields(alloc: Global, fields: &[Field]) -> Result<List<Field>, NoMemory>
-    ensures { IfOk result (λ made. made ≡ fields.now) }
-{
-    let mut copies = Vec::with_capacity(alloc, fields.len())?;
-    for field in fields {
-        copies.push(copy_field(alloc, field)?)?;
-    }
-    Ok(List::from_vec(copies))
 }
 
 // The field that names this server.
@@ -81,30 +63,29 @@ fn first_response(alloc: Global) -> Result<List<Field>, NoMemory>
     Ok(fields)
 }
 
-impl Scene {
+impl<'r> Scene<'r> {
     /// The scene in which a request meets the first route.
-    pub fn new(alloc: Global, request: &Request) -> Result<Scene, NoMemory>
+    pub fn new(alloc: Global, request: &'r Request) -> Result<Scene<'r>, NoMemory>
         ensures { IfOk result (λ scene. scene ≡ scene_of request.now) }
     {
-        let host = request.host.copy(alloc)?;
-        let fields = copy_fields(alloc, request.fields.as_slice())?;
-        let body = request.body.copy(alloc)?;
+        let response = first_response(alloc)?;
+        let current = line_of(alloc, request)?;
         Ok(Scene {
-            current: line_of(alloc, request)?,
-            response: first_response(alloc)?,
+            current,
             original: None,
-            host,
+            host: Lent::shared(request.host.as_slice()),
             minor: request.minor,
-            fields,
-            body,
+            fields: Lent::shared(request.fields.as_slice()),
+            body: Lent::shared(request.body.as_slice()),
             variables: List::new(alloc),
             groups: List::new(alloc),
+            response,
             error: None,
         })
     }
 
     /// What was asked for at first. It takes no memory.
-    pub fn original_line(&self) -> &RequestLine
+    pub fn original_line(&self) -> &RequestLine<'r>
         ensures { result.now ≡ original_line self.now }
     {
         match &self.original {

@@ -43,7 +43,7 @@ fn put_braced(out: &mut Octets, name: &[u8]) -> Result<(), NoMemory>
 fn put_placeholder(
     alloc: Global,
     out: &mut Octets,
-    scene: &Scene,
+    scene: &Scene<'_>,
     name: &[u8],
 ) -> Result<(), NoMemory>
     ensures { OnOk result (out.new ≡ out.old ++ placeholder scene.now name.now) }
@@ -68,7 +68,7 @@ fn put_encoded(out: &mut Octets, value: &[u8]) -> Result<(), NoMemory>
 fn put_encoded_placeholder(
     alloc: Global,
     out: &mut Octets,
-    scene: &Scene,
+    scene: &Scene<'_>,
     name: &[u8],
 ) -> Result<(), NoMemory>
     ensures { OnOk result (out.new ≡ out.old ++ encoded_placeholder scene.now name.now) }
@@ -91,7 +91,7 @@ pub(crate) fn put_named(
     alloc: Global,
     out: &mut Octets,
     form: Form,
-    scene: &Scene,
+    scene: &Scene<'_>,
     name: &[u8],
 ) -> Result<(), NoMemory>
     ensures { OnOk result (out.new ≡ out.old ++ named form scene.now name.now) }

@@ -40,24 +40,15 @@ fn proto(minor: u8) -> &'static [u8]
     if minor == 0 { b"HTTP/1.0" } else { b"HTTP/1.1" }
 }
 
-fn or_empty(query: &Option<Octets>) -> &[u8]
-    ensures { result.now ≡ unwrap_or query.now [] }
-{
-    match query {
-        Some(query) => query.as_slice(),
-        None => &[],
-    }
-}
-
 // `http.request.NAME` of what the scene has as it is.
 #[tactic(auto, unfolding(crate::specs::Values::kept_value))]
-fn kept_value<'a>(scene: &'a Scene, name: &[u8]) -> Option<&'a [u8]>
+fn kept_value<'a>(scene: &'a Scene<'_>, name: &[u8]) -> Option<&'a [u8]>
     ensures { option_copied result ≡ kept_value scene.now name.now }
 {
     if is(name, "method") {
-        Some(scene.current.method.as_str().as_bytes())
+        Some(scene.current.method.as_slice())
     } else if is(name, "orig_method") {
-        Some(scene.original_line().method.as_str().as_bytes())
+        Some(scene.original_line().method.as_slice())
     } else if is(name, "host") {
         Some(host_without_port(scene.host.as_slice()))
     } else if is(name, "hostport") {
@@ -71,13 +62,13 @@ fn kept_value<'a>(scene: &'a Scene, name: &[u8]) -> Option<&'a [u8]>
     } else if is(name, "uri.path") {
         Some(scene.current.path.as_slice())
     } else if is(name, "uri.query") {
-        Some(or_empty(&scene.current.query))
+        Some(scene.current.query_or_empty())
     } else if is(name, "orig_uri") {
         Some(scene.original_line().uri.as_slice())
     } else if is(name, "orig_uri.path") {
         Some(scene.original_line().path.as_slice())
     } else if is(name, "orig_uri.query") {
-        Some(or_empty(&scene.original_line().query))
+        Some(scene.original_line().query_or_empty())
     } else {
         None
     }
@@ -88,7 +79,7 @@ fn kept_value<'a>(scene: &'a Scene, name: &[u8]) -> Option<&'a [u8]>
 fn put_request_value(
     alloc: Global,
     out: &mut Octets,
-    scene: &Scene,
+    scene: &Scene<'_>,
     name: &[u8],
 ) -> Result<bool, NoMemory>
     ensures known { IfOk result (λ known. known ≡ is_some (request_value scene.now name.now)) }
@@ -99,7 +90,7 @@ fn put_request_value(
             alloc,
             out,
             behind(name, "uri.query."),
-            or_empty(&scene.current.query),
+            scene.current.query_or_empty(),
         )?;
         return Ok(true);
     }
@@ -186,7 +177,7 @@ fn put_error_named(
 pub(crate) fn put_value(
     alloc: Global,
     out: &mut Octets,
-    scene: &Scene,
+    scene: &Scene<'_>,
     name: &[u8],
 ) -> Result<bool, NoMemory>
     ensures known { IfOk result (λ known. known ≡ is_some (value scene.now name.now)) }
@@ -205,7 +196,7 @@ pub(crate) fn put_value(
 }
 
 #[tactic(auto, unfolding(crate::specs::Values::request_value))]
-fn lent_request_value<'a>(scene: &'a Scene, name: &[u8]) -> Option<&'a [u8]>
+fn lent_request_value<'a>(scene: &'a Scene<'_>, name: &[u8]) -> Option<&'a [u8]>
     ensures { IfSome result (λ lent. request_value scene.now name.now ≡ Some lent.now) }
 {
     if begins(name, "uri.query.") || begins(name, "header.") {
@@ -216,7 +207,7 @@ fn lent_request_value<'a>(scene: &'a Scene, name: &[u8]) -> Option<&'a [u8]>
 
 /// What a name stands for, if the scene has that as it is: then nothing has to be written to look at it.
 #[tactic(auto, unfolding(crate::specs::Values::value))]
-pub(crate) fn lent_value<'a>(scene: &'a Scene, name: &[u8]) -> Option<&'a [u8]>
+pub(crate) fn lent_value<'a>(scene: &'a Scene<'_>, name: &[u8]) -> Option<&'a [u8]>
     ensures { IfSome result (λ lent. value scene.now name.now ≡ Some lent.now) }
 {
     if begins(name, "http.request.") {

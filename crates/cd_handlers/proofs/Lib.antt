@@ -3,3 +3,4 @@ pub mod Bare
 pub mod PlainStart
 pub mod Tokens
 pub mod Naming
+pub mod NoChange

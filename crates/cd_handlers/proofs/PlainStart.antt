@@ -17,7 +17,7 @@ use Rattle.cd_tree.specs.declared.fault.TreeFault.{TreeFault}
 use Rattle.cd_tree.specs.declared.fault.TreeFault.TheVariants.{NotJson, TooDeep, TooLong}
 use Rattle.cd_tree.specs.declared.limits.TheConstants.{MAX_DEPTH, MAX_TEXT_BYTES}
 use Rattle.cd_tree.specs.declared.tree.Tree.{Tree, the_lemmas}
-use Rattle.cd_handlers.specs.StaticResponse.{nests_if_tree, is_json, starts_plain}
+use Rattle.cd_handlers.specs.Body.{nests_if_tree, is_json, starts_plain}
 
 -- ---- tokens
 

@@ -1,10 +1,11 @@
 -- What handlers do.
-use Rattle.std.specs.Prelude.{Option, None}
+use Rattle.std.specs.Prelude.{Bool, true, false, Option, None}
 use Rattle.cd_fill.specs.declared.scene.Scene.{Scene}
 use Rattle.cd_handlers.specs.declared.changes.FilledChanges.{FilledChanges}
 use Rattle.cd_handlers.specs.declared.handler.Handler.{Handler}
 use Rattle.cd_handlers.specs.declared.handler.Handler.TheVariants as kind
 use Rattle.cd_handlers.specs.declared.outcome.Effect.{Effect}
+use Rattle.cd_handlers.specs.declared.outcome.Effect.TheVariants.{Next, Answered, Failed}
 use Rattle.cd_handlers.specs.Error.{error_effect}
 use Rattle.cd_handlers.specs.Headers.{headers_effect, headers_deferred}
 use Rattle.cd_handlers.specs.Rewrite.{rewrite_effect}
@@ -26,3 +27,9 @@ deferred (kind.Headers s) x = headers_deferred s x
 deferred (kind.Rewrite s) x = None
 deferred (kind.Vars s) x = None
 deferred (kind.Error s) x = None
+
+-- whether the request goes on
+abbrev pub has_gone_on : Effect → Bool
+has_gone_on (Next x) = true
+has_gone_on (Answered a) = false
+has_gone_on (Failed x status message) = false

@@ -4,6 +4,7 @@ pub mod FieldValues
 pub mod Fields
 pub mod Changes
 pub mod Failing
+pub mod Body
 pub mod StaticResponse
 pub mod Headers
 pub mod Rewrite

@@ -1,13 +1,7 @@
 -- `static_response` (Caddy, JSON Config Structure, http.handlers.static_response).
-use Rattle.std.specs.Prelude.{ℕ, ◌==◌, ◌||◌, not, Bool, true, false, if◌then◌else◌, List, [], ◌∷◌, ◌++◌, length, codes, unwrap_or, Result, Ok, Err}
+use Rattle.std.specs.Prelude.{ℕ, ◌==◌, ◌||◌, false, if◌then◌else◌, List, [], ◌∷◌, ◌++◌, length, codes, unwrap_or, Result, Ok}
 use Rattle.std.specs.List.{list_any}
-use Rattle.json.specs.Word.{is_space}
 use Rattle.cd_text.specs.Steps.{◌▷◌}
-use Rattle.cd_tree.specs.Reading.{tree_of}
-use Rattle.cd_tree.specs.declared.fault.TreeFault.{TreeFault}
-use Rattle.cd_tree.specs.declared.tree.Member.{Member}
-use Rattle.cd_tree.specs.declared.tree.Tree.{Tree, out-Tree}
-use Rattle.cd_tree.specs.declared.tree.Tree.TheOpen.{Tree-F}
 use Rattle.cd_wire.specs.Fields.{is_named}
 use Rattle.cd_wire.specs.declared.answer.Answer.{Answer}
 use Rattle.cd_wire.specs.declared.fields.Field.{Field}
@@ -18,6 +12,7 @@ use Rattle.cd_handlers.specs.declared.outcome.Effect.{Effect}
 use Rattle.cd_handlers.specs.declared.outcome.Effect.TheVariants.{Answered}
 use Rattle.cd_handlers.specs.declared.static_response.StaticResponse.{StaticResponse}
 use Rattle.cd_handlers.specs.declared.static_response.Parts.{Parts}
+use Rattle.cd_handlers.specs.Body.{is_json}
 use Rattle.cd_handlers.specs.Failing.{or_failed}
 use Rattle.cd_handlers.specs.FieldValues.{field_list, fields_or_none}
 use Rattle.cd_handlers.specs.Fields.{replaced}
@@ -36,28 +31,6 @@ static_response t at =
     Ok (record { status = status; headers = fields_or_none headers; body = unwrap_or body []; close = unwrap_or close false })
 
 -- ---- the content type
-
--- a list or an object
-abbrev pub nests : Tree-F Tree Member → Bool
-nests Tree-F.Null = false
-nests (Tree-F.Bool b) = false
-nests (Tree-F.Num n) = false
-nests (Tree-F.Text t) = false
-nests (Tree-F.Items items) = true
-nests (Tree-F.Object members) = true
-
--- what is no tree counts as text, whatever its fault is
-abbrev pub nests_if_tree : Result Tree TreeFault → Bool
-nests_if_tree (Ok t) = nests (out-Tree t)
-nests_if_tree (Err fault) = false
-
--- a body of a list or an object is JSON
-abbrev pub is_json : List ℕ → Bool
-is_json body = nests_if_tree (tree_of body)
-
--- a byte that neither opens a list or an object in JSON nor may stand in front of one (RFC 8259, section 2)
-abbrev pub starts_plain : ℕ → Bool
-starts_plain byte = not (byte == 123 || (byte == 91 || is_space byte))
 
 abbrev pub content_type : List ℕ
 content_type = codes "content-type"

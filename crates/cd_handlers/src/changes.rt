@@ -3,13 +3,13 @@ ghost use Rattle.std.specs.Prelude.{◌≡◌, ◌||◌, ◌&&◌, not, filter, 
 ghost use Rattle.std.specs.List.{list_any};
 ghost use Rattle.cd_text.specs.Gives.{Gives};
 ghost use Rattle.cd_handlers.specs.declared.fault.HandlerFault.{HandlerFault};
-ghost use Rattle.cd_handlers.specs.Changes.{is_star, stays, deletes, cleared, remaining, changed_by, changed, values_filled, changes_filled};
+ghost use Rattle.cd_handlers.specs.Changes.{is_star, stays, deletes, cleared, remaining, changed_by, changed, values_filled};
 
 use crate::fault::HandlerFault;
 use crate::field_values::FieldValues;
-use crate::fields::{FilledField, added, copy_filled, replaced};
+use crate::fields::{FilledField, added, replaced};
 use crate::filling::fields_filled;
-use cd_fill::Scene;
+use cd_fill::{Lent, Scene};
 use cd_module::Pattern;
 use cd_text::{List, NoMemory};
 use cd_wire::Field;
@@ -33,11 +33,11 @@ pub struct FilledValues {
     pub set: List<FilledField>,
 }
 
-/// Changes of the fields of an answer, with filled values.
+/// Changes of the fields of an answer, with filled values. What is deleted is lent by the settings.
 #[derive(Debug, Drop)]
-pub struct FilledChanges {
+pub struct FilledChanges<'a> {
     pub values: FilledValues,
-    pub delete: List<Pattern>,
+    pub delete: Lent<'a, Pattern>,
 }
 
 /// Whose fields are changed.
@@ -57,10 +57,10 @@ fn is_star(pattern: &Pattern) -> bool
     }
 }
 
-fn has_star(patterns: &List<Pattern>) -> bool
+fn has_star(patterns: &[Pattern]) -> bool
     ensures { result ≡ list_any is_star patterns.now }
 {
-    patterns.as_slice().iter().any(|pattern| is_star(pattern))
+    patterns.iter().any(|pattern| is_star(pattern))
 }
 
 // Whether no deletion removes the field.
@@ -79,10 +79,10 @@ fn deletes(pattern: &Pattern, field: &Field) -> bool
     !is_star(pattern) && pattern.fits_in_any_case(field.name.as_str().as_bytes())
 }
 
-fn is_deleted(patterns: &List<Pattern>, field: &Field) -> bool
+fn is_deleted(patterns: &[Pattern], field: &Field) -> bool
     ensures { result ≡ list_any (deletes field.now) patterns.now }
 {
-    for pattern in patterns.as_slice() {
+    for pattern in patterns {
         if deletes(pattern, field) {
             return true;
         }
@@ -100,7 +100,7 @@ fn staying(side: Side, fields: List<Field>) -> List<Field>
 }
 
 // What is left before anything is added.
-fn cleared(side: Side, patterns: &List<Pattern>, fields: List<Field>) -> List<Field>
+fn cleared(side: Side, patterns: &[Pattern], fields: List<Field>) -> List<Field>
     ensures { result ≡ cleared side patterns.now fields }
 {
     if has_star(patterns) {
@@ -111,7 +111,7 @@ fn cleared(side: Side, patterns: &List<Pattern>, fields: List<Field>) -> List<Fi
 }
 
 // What is left at the end.
-fn remaining(side: Side, patterns: &List<Pattern>, fields: List<Field>) -> List<Field>
+fn remaining(side: Side, patterns: &[Pattern], fields: List<Field>) -> List<Field>
     ensures { result ≡ remaining side patterns.now fields }
 {
     let mut kept = fields.into_vec();
@@ -125,7 +125,7 @@ pub(crate) fn changed_by(
     alloc: Global,
     side: Side,
     values: FilledValues,
-    delete: &List<Pattern>,
+    delete: &[Pattern],
     fields: List<Field>,
 ) -> Result<List<Field>, NoMemory>
     ensures { IfOk result (λ made. made ≡ changed_by side values delete.now fields) }
@@ -140,16 +140,13 @@ pub(crate) fn changed_by(
 /// The fields of an answer with the changes that a handler left for it.
 pub fn changed(
     alloc: Global,
-    changes: &FilledChanges,
+    changes: FilledChanges<'_>,
     fields: List<Field>,
 ) -> Result<List<Field>, NoMemory>
-    ensures { IfOk result (λ made. made ≡ changed changes.now fields) }
+    ensures { IfOk result (λ made. made ≡ changed changes.entry fields) }
 {
-    let values = FilledValues {
-        add: copy_filled(alloc, &changes.values.add)?,
-        set: copy_filled(alloc, &changes.values.set)?,
-    };
-    changed_by(alloc, Side::Answer, values, &changes.delete, fields)
+    let FilledChanges { values, delete } = changes;
+    changed_by(alloc, Side::Answer, values, delete.as_slice(), fields)
 }
 
 /// What is added and replaced, filled in a scene.
@@ -157,46 +154,11 @@ pub fn changed(
 pub(crate) fn values_filled(
     alloc: Global,
     changes: &Changes,
-    scene: &Scene,
+    scene: &Scene<'_>,
 ) -> Result<FilledValues, HandlerFault>
     ensures { Gives HandlerFault.NoMemory result (values_filled scene.now changes.now) }
 {
     let add = fields_filled(alloc, &changes.add, scene)?;
     let set = fields_filled(alloc, &changes.set, scene)?;
     Ok(FilledValues { add, set })
-}
-
-fn copy_pattern(alloc: Global, pattern: &Pattern) -> Result<Pattern, NoMemory>
-    ensures { IfOk result (λ made. made ≡ pattern.now) }
-{
-    Ok(match pattern {
-        Pattern::Exact(all) => Pattern::Exact(all.copy(alloc)?),
-        Pattern::Prefix(front) => Pattern::Prefix(front.copy(alloc)?),
-        Pattern::Suffix(end) => Pattern::Suffix(end.copy(alloc)?),
-        Pattern::Part(part) => Pattern::Part(part.copy(alloc)?),
-    })
-}
-
-fn copy_patterns(alloc: Global, patterns: &List<Pattern>) -> Result<List<Pattern>, NoMemory>
-    ensures { IfOk result (λ made. made ≡ patterns.now) }
-{
-    let mut copies = List::new(alloc);
-    for pattern in patterns.as_slice() {
-        copies.push(copy_pattern(alloc, pattern)?)?;
-    }
-    Ok(copies)
-}
-
-/// The changes, filled in a scene.
-#[tactic(auto, unfolding(crate::specs::Changes::changes_filled))]
-pub(crate) fn changes_filled(
-    alloc: Global,
-    changes: &Changes,
-    scene: &Scene,
-) -> Result<FilledChanges, HandlerFault>
-    ensures { Gives HandlerFault.NoMemory result (changes_filled scene.now changes.now) }
-{
-    let values = values_filled(alloc, changes, scene)?;
-    let delete = copy_patterns(alloc, &changes.delete)?;
-    Ok(FilledChanges { values, delete })
 }

@@ -1,11 +1,10 @@
-ghost use Rattle.std.specs.Prelude.{◌≡◌, IfOk};
-ghost use Rattle.cd_handlers.specs.Effect.{effect, deferred};
+ghost use Rattle.std.specs.Prelude.{◌≡◌, true, IfOk, None};
+ghost use Rattle.cd_handlers.specs.Effect.{effect, deferred, has_gone_on};
 
-use crate::changes::FilledChanges;
 use crate::error::error_effect;
 use crate::handler::Handler;
-use crate::headers::{headers_deferred, headers_effect};
-use crate::outcome::Effect;
+use crate::headers::headers_deed;
+use crate::outcome::{Deed, Effect};
 use crate::rewriting::rewrite_effect;
 use crate::static_response::static_effect;
 use crate::vars::variables_set;
@@ -13,32 +12,45 @@ use cd_fill::Scene;
 use cd_text::NoMemory;
 use std::alloc::Global;
 
-/// What a handler does by itself with a request in that scene.
-#[tactic(auto, unfolding(crate::specs::Effect::effect))]
-pub fn effect(alloc: Global, handler: &Handler, scene: Scene) -> Result<Effect, NoMemory>
-    ensures { IfOk result (λ made. made ≡ effect handler.now scene) }
+// An effect that leaves no changes.
+fn alone<'a, 'r>(effect: Effect<'r>) -> Deed<'a, 'r>
+    ensures effect { result.effect ≡ effect.entry }
+    ensures changes { result.changes ≡ None }
 {
-    match handler {
-        Handler::StaticResponse(settings) => static_effect(alloc, settings, scene),
-        Handler::Headers(settings) => headers_effect(alloc, settings, scene),
-        Handler::Rewrite(settings) => rewrite_effect(alloc, settings, scene),
-        Handler::Vars(settings) => variables_set(alloc, settings, scene),
-        Handler::Error(settings) => error_effect(alloc, settings, scene),
+    Deed {
+        effect,
+        changes: None,
     }
 }
 
-/// The changes that a handler leaves for the answer of what follows it, filled in the scene that it found. There are none where
-/// it leaves none, and where they can't be filled: then `effect` fails.
-#[tactic(auto, unfolding(crate::specs::Effect::deferred))]
-pub fn deferred(
+/// What a handler does with a request in that scene, and the changes that it leaves for the answer of what follows it, where the
+/// request goes on. They are filled in the scene that it found.
+#[tactic(auto, unfolding(crate::specs::Effect::effect, crate::specs::Effect::deferred))]
+pub fn deed<'a, 'r>(
     alloc: Global,
-    handler: &Handler,
-    scene: &Scene,
-) -> Result<Option<FilledChanges>, NoMemory>
-    ensures { IfOk result (λ made. made ≡ deferred handler.now scene.now) }
+    handler: &'a Handler,
+    scene: Scene<'r>,
+) -> Result<Deed<'a, 'r>, NoMemory>
+    ensures effect { IfOk result (λ deed. deed.effect ≡ effect handler.now scene.entry) }
+    ensures changes { IfOk result (λ deed. has_gone_on deed.effect ≡ true → deed.changes ≡ deferred handler.now scene.entry) }
 {
     match handler {
-        Handler::Headers(settings) => headers_deferred(alloc, settings, scene),
-        _ => Ok(None),
+        Handler::StaticResponse(settings) => Ok(alone(static_effect(alloc, settings, scene)?)),
+        Handler::Headers(settings) => headers_deed(alloc, settings, scene),
+        Handler::Rewrite(settings) => Ok(alone(rewrite_effect(alloc, settings, scene)?)),
+        Handler::Vars(settings) => Ok(alone(variables_set(alloc, settings, scene)?)),
+        Handler::Error(settings) => Ok(alone(error_effect(alloc, settings, scene)?)),
     }
+}
+
+/// What a handler does by itself with a request in that scene.
+pub fn effect<'r>(
+    alloc: Global,
+    handler: &Handler,
+    scene: Scene<'r>,
+) -> Result<Effect<'r>, NoMemory>
+    ensures { IfOk result (λ made. made ≡ effect handler.now scene.entry) }
+{
+    let Deed { effect, changes: _ } = deed(alloc, handler, scene)?;
+    Ok(effect)
 }

@@ -42,7 +42,7 @@ impl Settings for StaticError {
 fn failure_filled(
     alloc: Global,
     settings: &StaticError,
-    scene: &Scene,
+    scene: &Scene<'_>,
 ) -> Result<Failure, HandlerFault>
     ensures { Gives HandlerFault.NoMemory result (failure_filled settings.now scene.now) }
 {
@@ -53,12 +53,12 @@ fn failure_filled(
 
 /// Fails with the status and the message of the settings.
 #[tactic(auto, unfolding(crate::specs::Error::error_effect))]
-pub(crate) fn error_effect(
+pub(crate) fn error_effect<'r>(
     alloc: Global,
     settings: &StaticError,
-    scene: Scene,
-) -> Result<Effect, NoMemory>
-    ensures { IfOk result (λ made. made ≡ error_effect settings.now scene) }
+    scene: Scene<'r>,
+) -> Result<Effect<'r>, NoMemory>
+    ensures { IfOk result (λ made. made ≡ error_effect settings.now scene.entry) }
 {
     match failure_filled(alloc, settings, &scene) {
         Ok(failure) => Ok(Effect::Failed(scene, failure.status, failure.message)),

@@ -105,29 +105,3 @@ pub(crate) fn has_field(fields: &List<Field>, name: &str) -> bool
     }
     false
 }
-
-fn copy_values(alloc: Global, values: &List<Octets>) -> Result<List<Octets>, NoMemory>
-    ensures { IfOk result (λ made. made ≡ values.now) }
-{
-    let mut copies = List::new(alloc);
-    for value in values.as_slice() {
-        copies.push(value.copy(alloc)?)?;
-    }
-    Ok(copies)
-}
-
-/// A copy.
-pub(crate) fn copy_filled(
-    alloc: Global,
-    fields: &List<FilledField>,
-) -> Result<List<FilledField>, NoMemory>
-    ensures { IfOk result (λ made. made ≡ fields.now) }
-{
-    let mut copies = List::new(alloc);
-    for field in fields.as_slice() {
-        let values = copy_values(alloc, &field.values)?;
-        let name = field.name.copy(alloc)?;
-        copies.push(FilledField { name, values })?;
-    }
-    Ok(copies)
-}

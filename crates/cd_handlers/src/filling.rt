@@ -11,7 +11,11 @@ use cd_text::{List, Octets, Text};
 use std::alloc::Global;
 
 #[tactic(auto, unfolding(crate::specs::Filling::text_filled))]
-pub(crate) fn text_filled(alloc: Global, text: &Text, scene: &Scene) -> Result<Octets, HandlerFault>
+pub(crate) fn text_filled(
+    alloc: Global,
+    text: &Text,
+    scene: &Scene<'_>,
+) -> Result<Octets, HandlerFault>
     ensures { Gives HandlerFault.NoMemory result (text_filled scene.now text.now) }
 {
     let filled = fill(alloc, text, scene)?;
@@ -22,7 +26,7 @@ pub(crate) fn text_filled(alloc: Global, text: &Text, scene: &Scene) -> Result<O
 fn all_filled(
     alloc: Global,
     texts: &List<Text>,
-    scene: &Scene,
+    scene: &Scene<'_>,
 ) -> Result<List<Octets>, HandlerFault>
     ensures { Gives HandlerFault.NoMemory result (all_filled scene.now texts.now) }
 {
@@ -37,7 +41,7 @@ fn all_filled(
 pub(crate) fn fields_filled(
     alloc: Global,
     settings: &List<FieldValues>,
-    scene: &Scene,
+    scene: &Scene<'_>,
 ) -> Result<List<FilledField>, HandlerFault>
     ensures { Gives HandlerFault.NoMemory result (fields_filled scene.now settings.now) }
 {

@@ -1,16 +1,19 @@
-ghost use Rattle.std.specs.Prelude.{◌≡◌, IfOk};
+ghost use Rattle.std.specs.Prelude.{◌≡◌, true, List, Ok, IfOk};
 ghost use Rattle.cd_text.specs.Gives.{Gives};
+ghost use Rattle.cd_wire.specs.declared.fields.Field.{Field};
+ghost use Rattle.cd_handlers.specs.declared.changes.Side.{Side};
+ghost use Rattle.cd_handlers.specs.declared.changes.Side.TheVariants as side;
 ghost use Rattle.cd_handlers.specs.declared.fault.HandlerFault.{HandlerFault};
-ghost use Rattle.cd_handlers.specs.Changes.{changed_by};
+ghost use Rattle.cd_handlers.specs.declared.outcome.Effect.TheVariants as does;
+ghost use Rattle.cd_handlers.specs.Changes.{changed_by, values_filled};
+ghost use Rattle.cd_handlers.specs.Effect.{has_gone_on};
 ghost use Rattle.cd_handlers.specs.Headers.{request_changes, response_changes, no_changes, request_or_none, response_or_none, headers, both_filled, goes_on, headers_effect, headers_deferred};
 
-use crate::changes::{
-    Changes, FilledChanges, FilledValues, Side, changed_by, changes_filled, values_filled,
-};
+use crate::changes::{Changes, FilledChanges, FilledValues, Side, changed_by, values_filled};
 use crate::fault::HandlerFault;
 use crate::field_values::{FieldList, RequestFieldList, fields_or_none, request_fields_or_none};
-use crate::outcome::{Effect, let_go};
-use cd_fill::Scene;
+use crate::outcome::{Deed, Effect, let_go};
+use cd_fill::{Lent, Scene};
 use cd_module::{LoadFault, Pattern, Settings, fields_of, optional};
 use cd_text::{List, NoMemory, Octets};
 use cd_tree::{Path, Tree};
@@ -134,80 +137,145 @@ pub(crate) struct Both {
 }
 
 #[tactic(auto, unfolding(crate::specs::Headers::both_filled))]
-fn both_filled(alloc: Global, settings: &Headers, scene: &Scene) -> Result<Both, HandlerFault>
-    ensures { Gives HandlerFault.NoMemory result (both_filled settings.now scene.now) }
+fn both_filled(alloc: Global, settings: &Headers, scene: &Scene<'_>) -> Result<Both, HandlerFault>
+    ensures both { Gives HandlerFault.NoMemory result (both_filled settings.now scene.now) }
+    ensures response { IfOk result (λ both. values_filled scene.now settings.now.response.changes ≡ Ok both.response) }
 {
     let request = values_filled(alloc, &settings.request, scene)?;
     let response = values_filled(alloc, &settings.response.changes, scene)?;
     Ok(Both { request, response })
 }
 
-fn change(
+// Whether there is nothing to change.
+fn changes_nothing(values: &FilledValues, delete: &List<Pattern>) -> bool
+    ensures { result ≡ true → (side : Side) → (fields : List Field) → changed_by side values.now delete.now fields ≡ fields }
+{
+    if !values.add.is_empty() {
+        return false;
+    }
+    if !values.set.is_empty() {
+        return false;
+    }
+    delete.is_empty()
+}
+
+// The fields of the request, which are copied where anything is to be changed.
+fn request_changed<'r>(
     alloc: Global,
-    side: Side,
     values: FilledValues,
     delete: &List<Pattern>,
+    fields: Lent<'r, Field>,
+) -> Result<Lent<'r, Field>, NoMemory>
+    ensures { IfOk result (λ made. made ≡ changed_by side.Request values delete.now fields.entry) }
+{
+    if changes_nothing(&values, delete) {
+        return Ok(fields);
+    }
+    let fields = fields.into_list(alloc)?;
+    let made = changed_by(alloc, Side::Request, values, delete.as_slice(), fields)?;
+    Ok(Lent::own(made))
+}
+
+fn with_request_changes<'r>(
+    alloc: Global,
+    settings: &Headers,
+    values: FilledValues,
+    scene: Scene<'r>,
+) -> Result<Scene<'r>, NoMemory>
+    ensures { IfOk result (λ made. made ≡ record scene.entry {
+      fields = changed_by side.Request values settings.now.request.delete scene.entry.fields;
+    }) }
+{
+    let mut scene = scene;
+    let delete = &settings.request.delete;
+    let fields = replace(&mut scene.fields, Lent::shared(&[]));
+    match request_changed(alloc, values, delete, fields) {
+        Ok(fields) => {
+            scene.fields = fields;
+            Ok(scene)
+        }
+        Err(NoMemory) => Err(let_go(scene)),
+    }
+}
+
+fn response_changed(
+    alloc: Global,
+    values: FilledValues,
+    delete: &[Pattern],
     fields: &mut List<Field>,
 ) -> Result<(), NoMemory>
-    ensures { IfOk result (λ _. fields.new ≡ changed_by side values delete.now fields.old) }
+    ensures { IfOk result (λ _. fields.new ≡ changed_by side.Answer values delete.now fields.old) }
 {
     let now = replace(fields, List::new(alloc));
-    *fields = changed_by(alloc, side, values, delete, now)?;
+    *fields = changed_by(alloc, Side::Answer, values, delete, now)?;
     Ok(())
 }
 
-// The scene in which the request goes on.
-#[tactic(auto, unfolding(crate::specs::Headers::goes_on))]
-fn goes_on(alloc: Global, settings: &Headers, both: Both, scene: Scene) -> Result<Scene, NoMemory>
-    ensures { IfOk result (λ made. made ≡ goes_on settings.now scene both) }
+fn with_response_changes<'r>(
+    alloc: Global,
+    settings: &Headers,
+    values: FilledValues,
+    scene: Scene<'r>,
+) -> Result<Scene<'r>, NoMemory>
+    ensures { IfOk result (λ made. made ≡ record scene.entry {
+      response = changed_by side.Answer values settings.now.response.changes.delete scene.entry.response;
+    }) }
 {
-    let Both { request, response } = both;
     let mut scene = scene;
-    let delete = &settings.request.delete;
-    let Ok(()) = change(alloc, Side::Request, request, delete, &mut scene.fields) else {
-        return Err(let_go(scene));
-    };
-    if settings.response.deferred {
-        return Ok(scene);
-    }
-    let delete = &settings.response.changes.delete;
-    match change(alloc, Side::Answer, response, delete, &mut scene.response) {
+    let delete = settings.response.changes.delete.as_slice();
+    match response_changed(alloc, values, delete, &mut scene.response) {
         Ok(()) => Ok(scene),
         Err(NoMemory) => Err(let_go(scene)),
     }
 }
 
-/// Changes the fields of the request, and those of the answer unless that is deferred.
-#[tactic(auto, unfolding(crate::specs::Headers::headers_effect))]
-pub(crate) fn headers_effect(
+// The request goes on, and changes of the answer are made now or left for it.
+#[tactic(auto, unfolding(crate::specs::Headers::goes_on, crate::specs::Headers::headers_deferred, crate::specs::Changes::changes_filled))]
+fn gone_on<'a, 'r>(
     alloc: Global,
-    settings: &Headers,
-    scene: Scene,
-) -> Result<Effect, NoMemory>
-    ensures { IfOk result (λ made. made ≡ headers_effect settings.now scene) }
+    settings: &'a Headers,
+    both: Both,
+    scene: Scene<'r>,
+) -> Result<Deed<'a, 'r>, NoMemory>
+    requires { values_filled scene settings.now.response.changes ≡ Ok both.response }
+    ensures effect { IfOk result (λ deed. deed.effect ≡ does.Next (goes_on settings.now scene.entry both)) }
+    ensures changes { IfOk result (λ deed. deed.changes ≡ headers_deferred settings.now scene.entry) }
 {
-    match both_filled(alloc, settings, &scene) {
-        Ok(both) => Ok(Effect::Next(goes_on(alloc, settings, both, scene)?)),
-        Err(HandlerFault::Unable) => Ok(Effect::Failed(scene, 500, Octets::new(alloc))),
-        Err(HandlerFault::NoMemory) => Err(let_go(scene)),
+    let Both { request, response } = both;
+    let scene = with_request_changes(alloc, settings, request, scene)?;
+    if settings.response.deferred {
+        return Ok(Deed {
+            effect: Effect::Next(scene),
+            changes: Some(FilledChanges {
+                values: response,
+                delete: Lent::shared(settings.response.changes.delete.as_slice()),
+            }),
+        });
     }
+    let scene = with_response_changes(alloc, settings, response, scene)?;
+    Ok(Deed {
+        effect: Effect::Next(scene),
+        changes: None,
+    })
 }
 
-/// The changes that are left for the answer of what follows.
-#[tactic(auto, unfolding(crate::specs::Headers::headers_deferred))]
-pub(crate) fn headers_deferred(
+/// Changes the fields of the request, and those of the answer unless that is deferred: then the changes are left for the answer
+/// of what follows.
+#[tactic(auto, unfolding(crate::specs::Headers::headers_effect))]
+pub(crate) fn headers_deed<'a, 'r>(
     alloc: Global,
-    settings: &Headers,
-    scene: &Scene,
-) -> Result<Option<FilledChanges>, NoMemory>
-    ensures { IfOk result (λ made. made ≡ headers_deferred settings.now scene.now) }
+    settings: &'a Headers,
+    scene: Scene<'r>,
+) -> Result<Deed<'a, 'r>, NoMemory>
+    ensures effect { IfOk result (λ deed. deed.effect ≡ headers_effect settings.now scene.entry) }
+    ensures changes { IfOk result (λ deed. has_gone_on deed.effect ≡ true → deed.changes ≡ headers_deferred settings.now scene.entry) }
 {
-    if !settings.response.deferred {
-        return Ok(None);
-    }
-    match changes_filled(alloc, &settings.response.changes, scene) {
-        Ok(changes) => Ok(Some(changes)),
-        Err(HandlerFault::Unable) => Ok(None),
-        Err(HandlerFault::NoMemory) => Err(NoMemory),
+    match both_filled(alloc, settings, &scene) {
+        Ok(both) => gone_on(alloc, settings, both, scene),
+        Err(HandlerFault::Unable) => Ok(Deed {
+            effect: Effect::Failed(scene, 500, Octets::new(alloc)),
+            changes: None,
+        }),
+        Err(HandlerFault::NoMemory) => Err(let_go(scene)),
     }
 }

@@ -7,7 +7,7 @@
 //! A handler whose texts can't be filled fails with 500 and an empty message, in the scene that it found, where its texts are
 //! filled too. `vars` alone sets one variable after another: each text sees those before, and they stay where it fails.
 //! `rewrite` has its settings in rewrite.rt; rewriting.rt fills its texts, and the crate `cd_rewrite` has its steps.
-//! Changes that `headers` defers are `deferred`, and `changed` makes them.
+//! `deed` is that, with the changes that `headers` leaves for the answer, and `changed` makes them.
 //!
 //! Trees that differ in ids alone are the same handler (laws.rt).
 //!
@@ -15,6 +15,7 @@
 //! `subroute`, which has routes inside.
 #![tactic(auto)]
 
+mod body;
 mod changes;
 mod effects;
 mod error;
@@ -34,8 +35,9 @@ mod status;
 mod texts;
 mod vars;
 
+pub use body::BodyText;
 pub use changes::{Changes, FilledChanges, FilledValues, changed};
-pub use effects::{deferred, effect};
+pub use effects::{deed, effect};
 pub use error::StaticError;
 pub use field_values::{FieldList, FieldValues};
 pub use fields::FilledField;
@@ -43,7 +45,7 @@ pub use handler::Handler;
 pub use headers::{Headers, ResponseChanges};
 pub use kind::HandlerKind;
 pub use laws::{handlers_have_their_names, handlers_see_no_ids};
-pub use outcome::Effect;
+pub use outcome::{Deed, Effect};
 pub use rewrite::{MethodText, Rewrite, Substring};
 pub use static_response::StaticResponse;
 pub use status::{Status, usual_status};

@@ -1,11 +1,8 @@
 //! What `rewrite` does: its texts are filled, and then the steps are done.
-ghost use Rattle.std.specs.Prelude.{◌≡◌, IfOk, Option, map};
+ghost use Rattle.std.specs.Prelude.{◌≡◌, IfOk, Option, unwrap_or, map};
 ghost use Rattle.std.specs.Char.{to_ascii_uppercase};
-ghost use Rattle.std.specs.List.{before_first, position};
-ghost use Rattle.std.specs.Option.{option_copied};
 ghost use Rattle.cd_text.specs.Gives.{Gives};
-ghost use Rattle.cd_wire.specs.Targets.{is_question_mark, query_of};
-ghost use Rattle.cd_fill.specs.Scene.{original_line, with_slash};
+ghost use Rattle.cd_wire.specs.Targets.{query_of};
 ghost use Rattle.cd_fill.specs.Filling.{fill_as};
 ghost use Rattle.cd_rewrite.specs.Steps.{rewritten};
 ghost use Rattle.cd_handlers.specs.declared.fault.HandlerFault.{HandlerFault};
@@ -16,9 +13,10 @@ use crate::fault::HandlerFault;
 use crate::filling::text_filled;
 use crate::outcome::{Effect, let_go};
 use crate::rewrite::{MethodText, Rewrite, Substring, is_token};
-use cd_fill::{Form, RequestLine, Scene, fill_as, with_slash};
+use cd_fill::{Form, Lent, RequestLine, Scene, fill_as, with_slash_before};
 use cd_rewrite::{QueryChange, Replacement, Rewriting, Target, rewritten};
 use cd_text::{List, NoMemory, Octets, Text};
+use cd_wire::{before_question_mark, query_of};
 use std::alloc::Global;
 use std::mem::replace;
 
@@ -45,7 +43,7 @@ fn method_said(method: Vec<u8>) -> Result<Option<Text>, HandlerFault>
 fn method_filled(
     alloc: Global,
     method: &Option<MethodText>,
-    scene: &Scene,
+    scene: &Scene<'_>,
 ) -> Result<Option<Text>, HandlerFault>
     ensures { Gives HandlerFault.NoMemory result (method_filled scene.now method.now) }
 {
@@ -59,16 +57,12 @@ fn method_filled(
     }
 }
 
-fn with_slash_before(alloc: Global, text: Octets) -> Result<Octets, NoMemory>
-    ensures { IfOk result (λ made. made ≡ with_slash text) }
-{
-    if text.as_slice().starts_with(b"/") {
-        return Ok(text);
-    }
-    with_slash(alloc, text.as_slice())
-}
-
-fn filled_as(alloc: Global, form: Form, text: &[u8], scene: &Scene) -> Result<Octets, HandlerFault>
+fn filled_as(
+    alloc: Global,
+    form: Form,
+    text: &[u8],
+    scene: &Scene<'_>,
+) -> Result<Octets, HandlerFault>
     ensures { Gives HandlerFault.NoMemory result (or_unable (fill_as form scene.now text.now)) }
 {
     let filled = fill_as(alloc, form, text, scene)?;
@@ -76,7 +70,11 @@ fn filled_as(alloc: Global, form: Form, text: &[u8], scene: &Scene) -> Result<Oc
 }
 
 #[tactic(auto, unfolding(crate::specs::Rewrite::path_filled))]
-fn path_filled(alloc: Global, text: &[u8], scene: &Scene) -> Result<Option<Octets>, HandlerFault>
+fn path_filled(
+    alloc: Global,
+    text: &[u8],
+    scene: &Scene<'_>,
+) -> Result<Option<Octets>, HandlerFault>
     ensures { Gives HandlerFault.NoMemory result (path_filled scene.now text.now) }
 {
     if text.is_empty() {
@@ -92,35 +90,11 @@ fn query_said(query: Octets) -> Option<Octets>
     if query.is_empty() { None } else { Some(query) }
 }
 
-fn question_mark(uri: &[u8]) -> Option<usize>
-    ensures { result ≡ position is_question_mark uri.now }
-{
-    uri.iter().position(|byte| *byte == b'?')
-}
-
-fn before_question_mark(uri: &[u8]) -> &[u8]
-    ensures { result.now ≡ before_first is_question_mark uri.now }
-{
-    match question_mark(uri) {
-        Some(end) => &uri[..end],
-        None => uri,
-    }
-}
-
-fn behind_question_mark(uri: &[u8]) -> Option<&[u8]>
-    ensures { option_copied result ≡ query_of uri.now }
-{
-    match question_mark(uri) {
-        Some(end) => Some(&uri[end + 1..]),
-        None => None,
-    }
-}
-
 #[tactic(auto, unfolding(crate::specs::Rewrite::query_filled))]
-fn query_filled(alloc: Global, uri: &[u8], scene: &Scene) -> Result<QueryChange, HandlerFault>
+fn query_filled(alloc: Global, uri: &[u8], scene: &Scene<'_>) -> Result<QueryChange, HandlerFault>
     ensures { Gives HandlerFault.NoMemory result (query_filled scene.now (query_of uri.now)) }
 {
-    match behind_question_mark(uri) {
+    match query_of(uri) {
         Some(text) => {
             let query = filled_as(alloc, Form::Query, text, scene)?;
             Ok(QueryChange::Becomes(query_said(query)))
@@ -130,7 +104,11 @@ fn query_filled(alloc: Global, uri: &[u8], scene: &Scene) -> Result<QueryChange,
 }
 
 #[tactic(auto, unfolding(crate::specs::Rewrite::target_filled))]
-fn target_filled(alloc: Global, uri: &Option<Text>, scene: &Scene) -> Result<Target, HandlerFault>
+fn target_filled(
+    alloc: Global,
+    uri: &Option<Text>,
+    scene: &Scene<'_>,
+) -> Result<Target, HandlerFault>
     ensures { Gives HandlerFault.NoMemory result (target_filled scene.now uri.now) }
 {
     match uri {
@@ -151,7 +129,7 @@ fn target_filled(alloc: Global, uri: &Option<Text>, scene: &Scene) -> Result<Tar
 fn prefix_filled(
     alloc: Global,
     prefix: &Option<Text>,
-    scene: &Scene,
+    scene: &Scene<'_>,
 ) -> Result<Option<Octets>, HandlerFault>
     ensures { Gives HandlerFault.NoMemory result (prefix_filled scene.now prefix.now) }
 {
@@ -168,7 +146,7 @@ fn prefix_filled(
 fn suffix_filled(
     alloc: Global,
     suffix: &Option<Text>,
-    scene: &Scene,
+    scene: &Scene<'_>,
 ) -> Result<Option<Octets>, HandlerFault>
     ensures { Gives HandlerFault.NoMemory result (suffix_filled scene.now suffix.now) }
 {
@@ -182,7 +160,7 @@ fn suffix_filled(
 fn substring_filled(
     alloc: Global,
     substring: &Substring,
-    scene: &Scene,
+    scene: &Scene<'_>,
 ) -> Result<Replacement, HandlerFault>
     ensures { Gives HandlerFault.NoMemory result (substring_filled scene.now substring.now) }
 {
@@ -200,7 +178,7 @@ fn substring_filled(
 fn each_filled(
     alloc: Global,
     substrings: &List<Substring>,
-    scene: &Scene,
+    scene: &Scene<'_>,
 ) -> Result<List<Replacement>, HandlerFault>
     ensures { Gives HandlerFault.NoMemory result (each_filled scene.now substrings.now) }
 {
@@ -215,7 +193,7 @@ fn each_filled(
 fn substrings_filled(
     alloc: Global,
     substrings: &Option<List<Substring>>,
-    scene: &Scene,
+    scene: &Scene<'_>,
 ) -> Result<Option<List<Replacement>>, HandlerFault>
     ensures { Gives HandlerFault.NoMemory result (substrings_filled scene.now substrings.now) }
 {
@@ -230,7 +208,7 @@ fn substrings_filled(
 fn rewrite_filled(
     alloc: Global,
     settings: &Rewrite,
-    scene: &Scene,
+    scene: &Scene<'_>,
 ) -> Result<Rewriting, HandlerFault>
     ensures { Gives HandlerFault.NoMemory result (rewrite_filled settings.now scene.now) }
 {
@@ -248,49 +226,87 @@ fn rewrite_filled(
     })
 }
 
-fn line_rewritten(
-    alloc: Global,
-    filled: Rewriting,
-    line: &RequestLine,
-) -> Result<RequestLine, NoMemory>
-    ensures { IfOk result (λ made. made ≡ rewritten filled line.now) }
-{
-    let line = line.copy(alloc)?;
-    rewritten(alloc, filled, line)
+fn no_line<'r>() -> RequestLine<'r> {
+    RequestLine {
+        method: Lent::shared(&[]),
+        path: Lent::shared(&[]),
+        query: None,
+        uri: Lent::shared(&[]),
+    }
 }
 
-fn put_line(line: RequestLine, scene: &mut Scene)
-    ensures { scene.new ≡ record scene.old { current = line; original = Option.Some (original_line scene.old) } }
+// What was asked for at first. What is asked for now is copied where it is that.
+fn first_line<'r>(
+    alloc: Global,
+    original: Option<RequestLine<'r>>,
+    current: &RequestLine<'r>,
+) -> Result<RequestLine<'r>, NoMemory>
+    ensures { IfOk result (λ line. line ≡ unwrap_or original.entry current.now) }
 {
-    let first = replace(&mut scene.current, line);
-    if scene.original.is_none() {
-        scene.original = Some(first);
+    match original {
+        Some(line) => Ok(line),
+        None => current.copy(alloc),
+    }
+}
+
+/// What was asked for at first, and what is asked for now.
+#[derive(Drop)]
+struct Lines<'r> {
+    original: RequestLine<'r>,
+    current: RequestLine<'r>,
+}
+
+fn lines_rewritten<'r>(
+    alloc: Global,
+    filled: Rewriting,
+    original: Option<RequestLine<'r>>,
+    current: RequestLine<'r>,
+) -> Result<Lines<'r>, NoMemory>
+    ensures original { IfOk result (λ lines. lines.original ≡ unwrap_or original.entry current.entry) }
+    ensures current { IfOk result (λ lines. lines.current ≡ rewritten filled current.entry) }
+{
+    let original = first_line(alloc, original, &current)?;
+    let current = rewritten(alloc, filled, current)?;
+    Ok(Lines { original, current })
+}
+
+fn with_lines<'r>(lines: Lines<'r>, scene: Scene<'r>) -> Scene<'r>
+    ensures { result ≡ record scene.entry { current = lines.entry.current; original = Option.Some lines.entry.original } }
+{
+    let Lines { original, current } = lines;
+    Scene {
+        current,
+        original: Some(original),
+        ..scene
     }
 }
 
 // The scene with what is asked for now. What was asked for at first is kept.
 #[tactic(auto, unfolding(crate::specs::Rewrite::rewritten_scene))]
-fn rewritten_scene(alloc: Global, filled: Rewriting, scene: Scene) -> Result<Scene, NoMemory>
-    ensures { IfOk result (λ made. made ≡ rewritten_scene scene filled) }
+fn rewritten_scene<'r>(
+    alloc: Global,
+    filled: Rewriting,
+    scene: Scene<'r>,
+) -> Result<Scene<'r>, NoMemory>
+    ensures { IfOk result (λ made. made ≡ rewritten_scene scene.entry filled) }
 {
     let mut scene = scene;
-    match line_rewritten(alloc, filled, &scene.current) {
-        Ok(line) => {
-            put_line(line, &mut scene);
-            Ok(scene)
-        }
+    let original = replace(&mut scene.original, None);
+    let current = replace(&mut scene.current, no_line());
+    match lines_rewritten(alloc, filled, original, current) {
+        Ok(lines) => Ok(with_lines(lines, scene)),
         Err(NoMemory) => Err(let_go(scene)),
     }
 }
 
 /// Rewrites what is asked for.
 #[tactic(auto, unfolding(crate::specs::Rewrite::rewrite_effect))]
-pub(crate) fn rewrite_effect(
+pub(crate) fn rewrite_effect<'r>(
     alloc: Global,
     settings: &Rewrite,
-    scene: Scene,
-) -> Result<Effect, NoMemory>
-    ensures { IfOk result (λ made. made ≡ rewrite_effect settings.now scene) }
+    scene: Scene<'r>,
+) -> Result<Effect<'r>, NoMemory>
+    ensures { IfOk result (λ made. made ≡ rewrite_effect settings.now scene.entry) }
 {
     match rewrite_filled(alloc, settings, &scene) {
         Ok(filled) => Ok(Effect::Next(rewritten_scene(alloc, filled, scene)?)),

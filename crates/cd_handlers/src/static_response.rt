@@ -1,9 +1,9 @@
-ghost use Rattle.std.specs.Prelude.{◌≡◌, true, false, IfOk};
+ghost use Rattle.std.specs.Prelude.{◌≡◌, IfOk};
 ghost use Rattle.cd_text.specs.Gives.{Gives};
-ghost use Rattle.cd_tree.specs.declared.tree.Tree.{out-Tree};
 ghost use Rattle.cd_handlers.specs.declared.fault.HandlerFault.{HandlerFault};
-ghost use Rattle.cd_handlers.specs.StaticResponse.{static_response, nests, is_json, starts_plain, type_field, with_type, parts_filled, answered, static_effect};
+ghost use Rattle.cd_handlers.specs.StaticResponse.{static_response, type_field, with_type, parts_filled, answered, static_effect};
 
+use crate::body::BodyText;
 use crate::fault::HandlerFault;
 use crate::field_values::{FieldList, FieldValues, fields_or_none};
 use crate::fields::{FilledField, has_field, replaced};
@@ -14,7 +14,7 @@ use crate::texts::no_text;
 use cd_fill::Scene;
 use cd_module::{LoadFault, Settings, fields_of, optional};
 use cd_text::{List, NoMemory, Octets, Text};
-use cd_tree::{Path, Tree, TreeFault, read};
+use cd_tree::{Path, Tree};
 use cd_wire::{Answer, Field};
 use std::alloc::Global;
 
@@ -27,7 +27,7 @@ pub struct StaticResponse {
     /// The fields whose values are replaced, by rising name.
     pub headers: List<FieldValues>,
     /// The text of the body. A body that is not empty gets a content type where there is none.
-    pub body: Text,
+    pub body: BodyText,
     /// Whether the connection is closed behind the answer.
     pub close: bool,
 }
@@ -43,60 +43,21 @@ impl Settings for StaticResponse {
         let headers = optional::<FieldList>(alloc, &fields, at, "headers")?;
         let body = optional::<Text>(alloc, &fields, at, "body")?;
         let close = optional::<bool>(alloc, &fields, at, "close")?;
+        let body = BodyText::of(alloc, body.unwrap_or(no_text(alloc)))?;
         Ok(StaticResponse {
             status,
             headers: fields_or_none(alloc, headers),
-            body: body.unwrap_or(no_text(alloc)),
+            body,
             close: close.unwrap_or(false),
         })
     }
 }
 
-fn nests(tree: &Tree) -> bool
-    ensures { result ≡ nests (out-Tree tree.now) }
-{
-    match tree {
-        Tree::Items(_) => true,
-        Tree::Object(_) => true,
-        _ => false,
-    }
-}
-
-fn starts_plain(byte: u8) -> bool
-    ensures { result ≡ starts_plain byte }
-{
-    !(byte == b'{'
-        || (byte == b'[' || (byte == b' ' || byte == b'\t' || byte == b'\n' || byte == b'\r')))
-}
-
-// Whether the first byte shows that the body is neither a list nor an object, so that it need not be read.
-fn is_seen_plain(body: &[u8]) -> bool
-    ensures { result ≡ true → is_json body.now ≡ false }
-{
-    match body.first() {
-        Some(first) => starts_plain(*first),
-        None => false,
-    }
-}
-
-fn is_json(alloc: Global, body: &Octets) -> Result<bool, NoMemory>
-    ensures { IfOk result (λ is. is ≡ is_json body.now) }
-{
-    if is_seen_plain(body.as_slice()) {
-        return Ok(false);
-    }
-    match read(alloc, body.as_slice()) {
-        Ok(tree) => Ok(nests(&tree)),
-        Err(TreeFault::NoMemory) => Err(NoMemory),
-        Err(_) => Ok(false),
-    }
-}
-
 #[tactic(auto, unfolding(crate::specs::StaticResponse::type_field))]
-fn type_field(alloc: Global, body: &Octets) -> Result<Field, NoMemory>
+fn type_field(alloc: Global, settings: &BodyText, body: &Octets) -> Result<Field, NoMemory>
     ensures { IfOk result (λ field. field ≡ type_field body.now) }
 {
-    let value: &[u8] = if is_json(alloc, body)? {
+    let value: &[u8] = if settings.is_json_as(alloc, body.as_slice())? {
         b"application/json"
     } else {
         b"text/plain; charset=utf-8"
@@ -108,14 +69,19 @@ fn type_field(alloc: Global, body: &Octets) -> Result<Field, NoMemory>
 }
 
 #[tactic(auto, unfolding(crate::specs::StaticResponse::with_type))]
-fn with_type(alloc: Global, body: &Octets, fields: List<Field>) -> Result<List<Field>, NoMemory>
+fn with_type(
+    alloc: Global,
+    settings: &BodyText,
+    body: &Octets,
+    fields: List<Field>,
+) -> Result<List<Field>, NoMemory>
     ensures { IfOk result (λ made. made ≡ with_type body.now fields) }
 {
     if body.is_empty() || has_field(&fields, "content-type") {
         return Ok(fields);
     }
     let mut fields = fields;
-    fields.push(type_field(alloc, body)?)?;
+    fields.push(type_field(alloc, settings, body)?)?;
     Ok(fields)
 }
 
@@ -131,14 +97,14 @@ pub(crate) struct Parts {
 fn parts_filled(
     alloc: Global,
     settings: &StaticResponse,
-    scene: &Scene,
+    scene: &Scene<'_>,
 ) -> Result<Parts, HandlerFault>
     ensures { Gives HandlerFault.NoMemory result (parts_filled settings.now scene.now) }
 {
     let usual = usual_status(&scene.error);
     let status = status_given(alloc, &settings.status, usual, scene)?;
     let headers = fields_filled(alloc, &settings.headers, scene)?;
-    let body = text_filled(alloc, &settings.body, scene)?;
+    let body = text_filled(alloc, settings.body.text(), scene)?;
     Ok(Parts {
         status,
         headers,
@@ -160,7 +126,7 @@ fn answered(
         body,
     } = parts;
     let fields = replaced(alloc, headers, response)?;
-    let fields = with_type(alloc, &body, fields)?;
+    let fields = with_type(alloc, &settings.body, &body, fields)?;
     Ok(Answer {
         status,
         fields,
@@ -171,12 +137,12 @@ fn answered(
 
 /// What a static response does.
 #[tactic(auto, unfolding(crate::specs::StaticResponse::static_effect))]
-pub(crate) fn static_effect(
+pub(crate) fn static_effect<'r>(
     alloc: Global,
     settings: &StaticResponse,
-    scene: Scene,
-) -> Result<Effect, NoMemory>
-    ensures { IfOk result (λ made. made ≡ static_effect settings.now scene) }
+    scene: Scene<'r>,
+) -> Result<Effect<'r>, NoMemory>
+    ensures { IfOk result (λ made. made ≡ static_effect settings.now scene.entry) }
 {
     match parts_filled(alloc, settings, &scene) {
         Ok(parts) => {

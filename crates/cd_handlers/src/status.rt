@@ -96,7 +96,7 @@ pub(crate) fn status_given(
     alloc: Global,
     status: &Option<Status>,
     usual: u16,
-    scene: &Scene,
+    scene: &Scene<'_>,
 ) -> Result<u16, HandlerFault>
     ensures { Gives HandlerFault.NoMemory result (status_given status.now usual scene.now) }
 {

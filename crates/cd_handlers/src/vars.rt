@@ -106,8 +106,13 @@ fn add_variable(
     variables.push(Variable { name, value })
 }
 
-fn with_variable(alloc: Global, name: &Text, value: Octets, scene: Scene) -> Result<Scene, NoMemory>
-    ensures { IfOk result (λ made. made ≡ with_variable name.now value scene) }
+fn with_variable<'r>(
+    alloc: Global,
+    name: &Text,
+    value: Octets,
+    scene: Scene<'r>,
+) -> Result<Scene<'r>, NoMemory>
+    ensures { IfOk result (λ made. made ≡ with_variable name.now value scene.entry) }
 {
     let mut scene = scene;
     match add_variable(alloc, name, value, &mut scene.variables) {
@@ -118,12 +123,12 @@ fn with_variable(alloc: Global, name: &Text, value: Octets, scene: Scene) -> Res
 
 /// Sets one variable after another. Each text is filled in the scene that the ones before left.
 #[tactic(auto, unfolding(crate::specs::Vars::variables_set))]
-pub(crate) fn variables_set(
+pub(crate) fn variables_set<'r>(
     alloc: Global,
     settings: &Vars,
-    scene: Scene,
-) -> Result<Effect, NoMemory>
-    ensures { IfOk result (λ made. made ≡ variables_set settings.now.settings scene) }
+    scene: Scene<'r>,
+) -> Result<Effect<'r>, NoMemory>
+    ensures { IfOk result (λ made. made ≡ variables_set settings.now.settings scene.entry) }
 {
     let mut scene = scene;
     for setting in settings.settings.as_slice() {

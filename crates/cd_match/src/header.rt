@@ -1,7 +1,6 @@
 //! The matcher `header`.
 ghost use Rattle.std.specs.Prelude.{◌≡◌, ◌==◌, not, length};
 ghost use Rattle.std.specs.List.{list_any};
-ghost use Rattle.std.specs.Str.{str_eq_ignore_ascii_case};
 ghost use Rattle.cd_fill.specs.Values.{header_values};
 ghost use Rattle.cd_module.specs.Patterns.{fits};
 ghost use Rattle.cd_match.specs.Header.{field_test, header_matcher, some_fits, values_pass, field_passes, header_holds};
@@ -60,19 +59,13 @@ impl Settings for HeaderMatcher {
     }
 }
 
-fn is_same_name(one: &[u8], other: &[u8]) -> bool
-    ensures { result ≡ str_eq_ignore_ascii_case one.now other.now }
-{
-    one.eq_ignore_ascii_case(other)
-}
-
 // Whether the fields have the name.
 #[tactic(auto, unfolding(cd_fill::specs::Values::header_values))]
 fn has_field(name: &[u8], fields: &[Field]) -> bool
     ensures { result ≡ not (length (header_values name.now fields.now) == 0) }
 {
     for field in fields {
-        if is_same_name(field.name.as_str().as_bytes(), name) {
+        if field.is_called(name) {
             return true;
         }
     }
@@ -96,9 +89,7 @@ fn has_fitting_field(name: &[u8], patterns: &[Pattern], fields: &[Field]) -> boo
     ensures { result ≡ some_fits patterns.now (header_values name.now fields.now) }
 {
     for field in fields {
-        if is_same_name(field.name.as_str().as_bytes(), name)
-            && fits_one(patterns, field.value.as_slice())
-        {
+        if field.is_called(name) && fits_one(patterns, field.value.as_slice()) {
             return true;
         }
     }
@@ -106,7 +97,7 @@ fn has_fitting_field(name: &[u8], patterns: &[Pattern], fields: &[Field]) -> boo
 }
 
 #[tactic(auto, unfolding(crate::specs::Header::field_passes))]
-fn field_passes(scene: &Scene, test: &FieldTest) -> bool
+fn field_passes(scene: &Scene<'_>, test: &FieldTest) -> bool
     ensures { result ≡ field_passes scene.now test.now }
 {
     let name = test.name.as_str().as_bytes();
@@ -125,7 +116,7 @@ fn field_passes(scene: &Scene, test: &FieldTest) -> bool
 
 impl HeaderMatcher {
     /// Whether it holds. It takes no memory.
-    pub fn holds(&self, scene: &Scene) -> bool
+    pub fn holds(&self, scene: &Scene<'_>) -> bool
         ensures { result ≡ header_holds self.now scene.now }
     {
         for test in self.tests.as_slice() {

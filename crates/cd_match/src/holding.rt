@@ -12,7 +12,7 @@ use std::alloc::Global;
 impl Sets {
     /// Whether some set holds, or there is none.
     #[tactic(auto, unfolding(crate::specs::Holds::holds))]
-    pub fn holds(&self, alloc: Global, scene: &Scene) -> Result<bool, NoMemory>
+    pub fn holds(&self, alloc: Global, scene: &Scene<'_>) -> Result<bool, NoMemory>
         ensures { IfOk result (λ answer. answer ≡ holds self.now scene.now) }
     {
         if self.sets.is_empty() {
@@ -23,7 +23,7 @@ impl Sets {
 }
 
 #[cycle(holding)]
-fn some_holds(alloc: Global, sets: &[MatcherSet], scene: &Scene) -> Result<bool, NoMemory>
+fn some_holds(alloc: Global, sets: &[MatcherSet], scene: &Scene<'_>) -> Result<bool, NoMemory>
     ensures { IfOk result (λ answer. answer ≡ list_any (set_holds scene.now) sets.now) }
 {
     for set in sets {
@@ -35,7 +35,7 @@ fn some_holds(alloc: Global, sets: &[MatcherSet], scene: &Scene) -> Result<bool,
 }
 
 #[cycle(holding)]
-fn set_holds(alloc: Global, set: &MatcherSet, scene: &Scene) -> Result<bool, NoMemory>
+fn set_holds(alloc: Global, set: &MatcherSet, scene: &Scene<'_>) -> Result<bool, NoMemory>
     ensures { IfOk result (λ answer. answer ≡ set_holds scene.now set.now) }
 {
     for matcher in set.matchers.as_slice() {
@@ -48,7 +48,7 @@ fn set_holds(alloc: Global, set: &MatcherSet, scene: &Scene) -> Result<bool, NoM
 
 #[cycle(holding)]
 #[tactic(auto, unfolding(crate::specs::Holds::matcher_holds))]
-fn matcher_holds(alloc: Global, matcher: &Matcher, scene: &Scene) -> Result<bool, NoMemory>
+fn matcher_holds(alloc: Global, matcher: &Matcher, scene: &Scene<'_>) -> Result<bool, NoMemory>
     ensures { IfOk result (λ answer. answer ≡ matcher_holds scene.now matcher.now) }
 {
     match matcher {

@@ -83,7 +83,7 @@ fn host_fits(pattern: &[u8], host: &[u8]) -> bool
 
 impl HostMatcher {
     /// Whether it holds. It takes no memory.
-    pub fn holds(&self, scene: &Scene) -> bool
+    pub fn holds(&self, scene: &Scene<'_>) -> bool
         ensures { result ≡ host_holds self.now scene.now }
     {
         let host = host_without_port(scene.host.as_slice());

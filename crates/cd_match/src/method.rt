@@ -27,12 +27,12 @@ impl Settings for MethodMatcher {
 
 impl MethodMatcher {
     /// Whether it holds. It takes no memory.
-    pub fn holds(&self, scene: &Scene) -> bool
+    pub fn holds(&self, scene: &Scene<'_>) -> bool
         ensures { result ≡ method_holds self.now scene.now }
     {
         let method = &scene.current.method;
         for listed in self.methods.as_slice() {
-            if method.equals(listed.as_str()) {
+            if method.equals(listed.as_str().as_bytes()) {
                 return true;
             }
         }

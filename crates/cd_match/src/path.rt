@@ -52,7 +52,7 @@ impl Settings for PathMatcher {
 
 impl PathMatcher {
     /// Whether it holds. It takes no memory.
-    pub fn holds(&self, scene: &Scene) -> bool
+    pub fn holds(&self, scene: &Scene<'_>) -> bool
         ensures { result ≡ path_holds self.now scene.now }
     {
         let path = scene.current.path.as_slice();

@@ -1,5 +1,5 @@
 //! The matcher `query`.
-ghost use Rattle.std.specs.Prelude.{◌≡◌, ◌==◌, [], length, unwrap_or};
+ghost use Rattle.std.specs.Prelude.{◌≡◌, ◌==◌, length};
 ghost use Rattle.std.specs.List.{list_all};
 ghost use Rattle.form_urlencoded.specs.Form.{raw_pairs};
 ghost use Rattle.cd_fill.specs.Values.{decoded};
@@ -8,7 +8,7 @@ ghost use Rattle.cd_match.specs.Query.{key_test, query_matcher, is_wanted, key_p
 use crate::escapes::stands_for;
 use cd_fill::Scene;
 use cd_module::{LoadFault, Named, Settings, object_by_name};
-use cd_text::{List, Octets, Text};
+use cd_text::{List, Text};
 use cd_tree::{Path, Tree};
 use form_urlencoded::raw_pairs;
 use std::alloc::Global;
@@ -56,15 +56,6 @@ impl Settings for QueryMatcher {
     }
 }
 
-fn or_empty(query: &Option<Octets>) -> &[u8]
-    ensures { result.now ≡ unwrap_or query.now [] }
-{
-    match query {
-        Some(query) => query.as_slice(),
-        None => &[],
-    }
-}
-
 // Whether a value passes.
 fn is_wanted(listed: &[Text], raw: &[u8]) -> bool
     ensures { result ≡ is_wanted listed.now (decoded raw.now) }
@@ -108,11 +99,11 @@ fn has_no_pairs(query: &[u8]) -> bool
 }
 
 impl QueryMatcher {
-    /// Whether it holds.
-    pub fn holds(&self, scene: &Scene) -> bool
+    /// Whether it holds. It takes no memory.
+    pub fn holds(&self, scene: &Scene<'_>) -> bool
         ensures { result ≡ query_holds self.now scene.now }
     {
-        let query = or_empty(&scene.current.query);
+        let query = scene.current.query_or_empty();
         if self.tests.is_empty() {
             has_no_pairs(query)
         } else {

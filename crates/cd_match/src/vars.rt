@@ -66,7 +66,7 @@ fn is_listed(values: &[Text], value: &[u8]) -> bool
 }
 
 // Whether the filled key is listed.
-fn filled_passes(alloc: Global, scene: &Scene, test: &VariableTest) -> Result<bool, NoMemory>
+fn filled_passes(alloc: Global, scene: &Scene<'_>, test: &VariableTest) -> Result<bool, NoMemory>
     ensures { IfOk result (λ passes. passes ≡ is_among (test.now).values (fill scene.now (test.now).key)) }
 {
     match fill(alloc, &test.key, scene) {
@@ -77,7 +77,7 @@ fn filled_passes(alloc: Global, scene: &Scene, test: &VariableTest) -> Result<bo
 }
 
 #[tactic(auto, unfolding(crate::specs::Vars::variable_passes))]
-fn variable_passes(alloc: Global, scene: &Scene, test: &VariableTest) -> Result<bool, NoMemory>
+fn variable_passes(alloc: Global, scene: &Scene<'_>, test: &VariableTest) -> Result<bool, NoMemory>
     ensures { IfOk result (λ passes. passes ≡ variable_passes scene.now test.now) }
 {
     let key = test.key.as_str().as_bytes();
@@ -91,7 +91,7 @@ fn variable_passes(alloc: Global, scene: &Scene, test: &VariableTest) -> Result<
 
 impl VarsMatcher {
     /// Whether it holds. It takes memory for the keys that are filled.
-    pub fn holds(&self, alloc: Global, scene: &Scene) -> Result<bool, NoMemory>
+    pub fn holds(&self, alloc: Global, scene: &Scene<'_>) -> Result<bool, NoMemory>
         ensures { IfOk result (λ answer. answer ≡ vars_hold self.now scene.now) }
     {
         for test in self.tests.as_slice() {

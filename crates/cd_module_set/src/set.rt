@@ -20,7 +20,7 @@ use std::alloc::Global;
 /// A set of modules, by what configurations mean to it (Caddy, Extending Caddy).
 pub trait ModuleSet: Sized {
     /// What a configuration is turned into when it is loaded, from which its requests are answered.
-    type Compiled: Drop;
+    type Compiled: Send + Sync + Drop;
 
     /// The modules and apps that a tree comes to as a configuration, or its first fault.
     ghost plan: { Tree → Result Plan LoadFault };

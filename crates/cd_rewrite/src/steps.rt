@@ -10,12 +10,12 @@ ghost use Rattle.cd_rewrite.specs.Steps.{same_query, moved, method_changed, quer
 use crate::rewriting::{QueryChange, Replacement, Rewriting, Target};
 use crate::substrings::substituted;
 use crate::uri_text::uri_text;
-use cd_fill::{RequestLine, with_slash};
+use cd_fill::{Lent, RequestLine, with_slash, with_slash_before};
 use cd_module::{ends_in_any_case, starts_in_any_case};
 use cd_text::{List, NoMemory, Octets, Text};
 use std::alloc::Global;
 
-fn same_query(query: &Option<Octets>, other: &Option<Octets>) -> bool
+fn same_query(query: &Option<Lent<'_, u8>>, other: &Option<Octets>) -> bool
     ensures { result ≡ same_query query.now other.now }
 {
     match (query, other) {
@@ -25,18 +25,24 @@ fn same_query(query: &Option<Octets>, other: &Option<Octets>) -> bool
     }
 }
 
+fn text_bytes<'r>(text: Text) -> Lent<'r, u8>
+    ensures { result ≡ text }
+{
+    Lent::octets(Octets::from_vec(text.into_string().into_bytes()))
+}
+
 #[tactic(auto, unfolding(crate::specs::Steps::method_changed))]
-fn method_changed(method: Option<Text>, line: RequestLine) -> RequestLine
-    ensures { result ≡ method_changed method line }
+fn method_changed<'r>(method: Option<Text>, line: RequestLine<'r>) -> RequestLine<'r>
+    ensures { result ≡ method_changed method line.entry }
 {
     let mut line = line;
     if let Some(method) = method {
-        line.method = method;
+        line.method = text_bytes(method);
     }
     line
 }
 
-fn keeps_path(path: &Option<Octets>, old: &Octets) -> bool
+fn keeps_path(path: &Option<Octets>, old: &Lent<'_, u8>) -> bool
     ensures { result ≡ bytes_eq old.now (unwrap_or path.now old.now) }
 {
     match path {
@@ -45,7 +51,7 @@ fn keeps_path(path: &Option<Octets>, old: &Octets) -> bool
     }
 }
 
-fn keeps_query(change: &QueryChange, old: &Option<Octets>) -> bool
+fn keeps_query(change: &QueryChange, old: &Option<Lent<'_, u8>>) -> bool
     ensures { result ≡ same_query old.now (query_changed change.now old.now) }
 {
     match change {
@@ -54,19 +60,33 @@ fn keeps_query(change: &QueryChange, old: &Option<Octets>) -> bool
     }
 }
 
-fn query_changed(change: QueryChange, old: Option<Octets>) -> Option<Octets>
-    ensures { result ≡ query_changed change old }
+fn path_changed_to<'r>(path: Option<Octets>, old: Lent<'r, u8>) -> Lent<'r, u8>
+    ensures { result ≡ unwrap_or path old.entry }
+{
+    match path {
+        Some(path) => Lent::octets(path),
+        None => old,
+    }
+}
+
+fn query_changed<'r>(change: QueryChange, old: Option<Lent<'r, u8>>) -> Option<Lent<'r, u8>>
+    ensures { result ≡ query_changed change old.entry }
 {
     match change {
-        QueryChange::Becomes(query) => query,
+        QueryChange::Becomes(Some(query)) => Some(Lent::octets(query)),
+        QueryChange::Becomes(None) => None,
         QueryChange::Stays => old,
     }
 }
 
 // The uri is written again, unless path and query stay.
 #[tactic(auto, unfolding(crate::specs::Steps::target_changed, crate::specs::Steps::moved))]
-fn target_changed(alloc: Global, target: Target, line: RequestLine) -> Result<RequestLine, NoMemory>
-    ensures { IfOk result (λ made. made ≡ target_changed target line) }
+fn target_changed<'r>(
+    alloc: Global,
+    target: Target,
+    line: RequestLine<'r>,
+) -> Result<RequestLine<'r>, NoMemory>
+    ensures { IfOk result (λ made. made ≡ target_changed target line.entry) }
 {
     if keeps_path(&target.path, &line.path) && keeps_query(&target.query, &line.query) {
         return Ok(line);
@@ -77,9 +97,9 @@ fn target_changed(alloc: Global, target: Target, line: RequestLine) -> Result<Re
         query,
         uri: _,
     } = line;
-    let path = target.path.unwrap_or(path);
+    let path = path_changed_to(target.path, path);
     let query = query_changed(target.query, query);
-    let uri = uri_text(alloc, path.as_slice(), &query)?;
+    let uri = Lent::octets(uri_text(alloc, path.as_slice(), &query)?);
     Ok(RequestLine {
         method,
         path,
@@ -90,12 +110,12 @@ fn target_changed(alloc: Global, target: Target, line: RequestLine) -> Result<Re
 
 // Another path, where there is one.
 #[tactic(auto, unfolding(crate::specs::Steps::target_changed))]
-fn path_changed(
+fn path_changed<'r>(
     alloc: Global,
     path: Option<Octets>,
-    line: RequestLine,
-) -> Result<RequestLine, NoMemory>
-    ensures { IfOk result (λ made. made ≡ moved (unwrap_or path line.path) line.query line) }
+    line: RequestLine<'r>,
+) -> Result<RequestLine<'r>, NoMemory>
+    ensures { IfOk result (λ made. made ≡ moved (unwrap_or path line.entry.path) line.entry.query line.entry) }
 {
     let query = QueryChange::Stays;
     target_changed(alloc, Target { path, query }, line)
@@ -125,12 +145,12 @@ fn without_prefix(alloc: Global, prefix: &[u8], path: &[u8]) -> Result<Option<Oc
 }
 
 #[tactic(auto, unfolding(crate::specs::Steps::prefix_stripped))]
-fn prefix_stripped(
+fn prefix_stripped<'r>(
     alloc: Global,
     prefix: &Option<Octets>,
-    line: RequestLine,
-) -> Result<RequestLine, NoMemory>
-    ensures { IfOk result (λ made. made ≡ prefix_stripped prefix.now line) }
+    line: RequestLine<'r>,
+) -> Result<RequestLine<'r>, NoMemory>
+    ensures { IfOk result (λ made. made ≡ prefix_stripped prefix.now line.entry) }
 {
     match prefix {
         Some(prefix) => {
@@ -167,12 +187,12 @@ fn without_suffix(alloc: Global, suffix: &[u8], path: &[u8]) -> Result<Option<Oc
 }
 
 #[tactic(auto, unfolding(crate::specs::Steps::suffix_stripped))]
-fn suffix_stripped(
+fn suffix_stripped<'r>(
     alloc: Global,
     suffix: &Option<Octets>,
-    line: RequestLine,
-) -> Result<RequestLine, NoMemory>
-    ensures { IfOk result (λ made. made ≡ suffix_stripped suffix.now line) }
+    line: RequestLine<'r>,
+) -> Result<RequestLine<'r>, NoMemory>
+    ensures { IfOk result (λ made. made ≡ suffix_stripped suffix.now line.entry) }
 {
     match suffix {
         Some(suffix) => {
@@ -199,11 +219,11 @@ fn replaced(alloc: Global, one: &Replacement, text: &[u8]) -> Result<Octets, NoM
 fn all_substituted(
     alloc: Global,
     replacements: &List<Replacement>,
-    text: &Octets,
+    text: &[u8],
 ) -> Result<Octets, NoMemory>
     ensures { IfOk result (λ made. made ≡ all_substituted replacements.now text.now) }
 {
-    let mut now = text.copy(alloc)?;
+    let mut now = Octets::from_slice(alloc, text)?;
     for one in replacements.as_slice() {
         now = replaced(alloc, one, now.as_slice())?;
     }
@@ -213,12 +233,12 @@ fn all_substituted(
 fn query_substituted(
     alloc: Global,
     replacements: &List<Replacement>,
-    query: &Option<Octets>,
+    query: &Option<Lent<'_, u8>>,
 ) -> Result<Option<Octets>, NoMemory>
     ensures { IfOk result (λ made. made ≡ option_map (all_substituted replacements.now) query.now) }
 {
     match query {
-        Some(query) => Ok(Some(all_substituted(alloc, replacements, query)?)),
+        Some(query) => Ok(Some(all_substituted(alloc, replacements, query.as_slice())?)),
         None => Ok(None),
     }
 }
@@ -227,27 +247,27 @@ fn query_substituted(
 fn target_replaced(
     alloc: Global,
     replacements: &List<Replacement>,
-    line: &RequestLine,
+    line: &RequestLine<'_>,
 ) -> Result<Target, NoMemory>
     ensures { IfOk result (λ target. target ≡ record {
       path = Option.Some (with_slash (all_substituted replacements.now line.now.path));
       query = Becomes (option_map (all_substituted replacements.now) line.now.query);
     }) }
 {
-    let path = all_substituted(alloc, replacements, &line.path)?;
-    let path = Some(with_slash(alloc, path.as_slice())?);
+    let path = all_substituted(alloc, replacements, line.path.as_slice())?;
+    let path = Some(with_slash_before(alloc, path)?);
     let query = query_substituted(alloc, replacements, &line.query)?;
     let query = QueryChange::Becomes(query);
     Ok(Target { path, query })
 }
 
 #[tactic(auto, unfolding(crate::specs::Steps::substrings_replaced, crate::specs::Steps::target_changed))]
-fn substrings_replaced(
+fn substrings_replaced<'r>(
     alloc: Global,
     replacements: &Option<List<Replacement>>,
-    line: RequestLine,
-) -> Result<RequestLine, NoMemory>
-    ensures { IfOk result (λ made. made ≡ substrings_replaced replacements.now line) }
+    line: RequestLine<'r>,
+) -> Result<RequestLine<'r>, NoMemory>
+    ensures { IfOk result (λ made. made ≡ substrings_replaced replacements.now line.entry) }
 {
     match replacements {
         Some(replacements) => {
@@ -261,12 +281,12 @@ fn substrings_replaced(
 /// What is asked for, rewritten step by step: first the method, then path and query by a target, then a prefix and a suffix of
 /// the path, then what is replaced in the path and in the query.
 #[tactic(auto, unfolding(crate::specs::Steps::rewritten))]
-pub fn rewritten(
+pub fn rewritten<'r>(
     alloc: Global,
     rewriting: Rewriting,
-    line: RequestLine,
-) -> Result<RequestLine, NoMemory>
-    ensures { IfOk result (λ made. made ≡ rewritten rewriting line) }
+    line: RequestLine<'r>,
+) -> Result<RequestLine<'r>, NoMemory>
+    ensures { IfOk result (λ made. made ≡ rewritten rewriting line.entry) }
 {
     let line = method_changed(rewriting.method, line);
     let line = target_changed(alloc, rewriting.target, line)?;

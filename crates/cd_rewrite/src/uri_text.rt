@@ -2,6 +2,7 @@
 ghost use Rattle.std.specs.Prelude.{◌≡◌, IfOk};
 ghost use Rattle.cd_rewrite.specs.UriText.{path_text, uri_text};
 
+use cd_fill::Lent;
 use cd_text::{NoMemory, Octets};
 use percent_encoding::{AsciiSet, NON_ALPHANUMERIC, ascii_set, percent_encode};
 use std::alloc::Global;
@@ -34,7 +35,7 @@ const ESCAPED: AsciiSet = ascii_set!(
 pub(crate) fn uri_text(
     alloc: Global,
     path: &[u8],
-    query: &Option<Octets>,
+    query: &Option<Lent<'_, u8>>,
 ) -> Result<Octets, NoMemory>
     ensures { IfOk result (λ made. made ≡ uri_text path.now query.now) }
 {

@@ -1,5 +1,5 @@
 -- What a push or a pop of work means, and how much work it leaves.
-use Rattle.std.proofs.Common.{◌≡◌, ℕ, ◌+◌, ◌≤◌, ◌++◌, List, [], ◌∷◌, map, sym, ap, ◌∙◌, refl, arith, Option, Some, None, option_map}
+use Rattle.std.proofs.Common.{◌≡◌, true, ℕ, ◌+◌, ◌≤◌, ◌++◌, List, [], ◌∷◌, map, sym, ap, ◌∙◌, refl, arith, Option, Some, None, option_map}
 use Rattle.std.specs.Prelude.{IfOk, Result, Ok, Err}
 use Rattle.std.specs.Borrow.{Bor}
 use Rattle.cd_text.specs.declared.memory.NoMemory.{NoMemory}
@@ -16,7 +16,8 @@ use Rattle.cd_handlers.specs.declared.handler.Handler.{Handler}
 use Rattle.cd_handlers.specs.declared.changes.FilledChanges.{FilledChanges}
 use Rattle.cd_handlers.specs.declared.outcome.Effect.TheVariants as effect
 use Rattle.cd_handlers.specs.Effect as handlers
-use Rattle.cd_handlers.specs.Effect.{deferred}
+use Rattle.cd_handlers.specs.Effect.{deferred, has_gone_on}
+use Rattle.cd_handlers.specs.declared.outcome.Effect.{Effect}
 use Rattle.cd_routes.specs.Running.{Rest, in_order, handled, after, with_changes, nothing_left, caught, with_error, run_route, run_routes, run_step, run_steps}
 use Rattle.cd_routes.specs.Work.{all_changes, weight_left, total, errors_weight, route_weight, step_weight, done, weight, item_done, item_weight}
 use Rattle.cd_routes.proofs.Equations.{all_changes_push, done_push, weight_push, routes_more, steps_more}
@@ -93,10 +94,12 @@ nest_failed errors given routes pushed caught_by rest new later x y next status 
 
 -- ---- handlers
 
-pub goes_on : (h : Handler) (rest : Rest) (x y : Scene) → deferred h x ≡ None → handlers.effect h x ≡ effect.Next y → rest y ≡ handled h rest x
-unfolding with_changes
-goes_on h rest x y none next =
-    sym (ap (λ d. after d rest (handlers.effect h x)) none ∙ ap (λ e. after None rest e) next)
+-- what a handler leaves matters where the request goes on alone
+pub after_same : (changes left : Option FilledChanges) (rest : Rest) (does : Effect) → (has_gone_on does ≡ true → changes ≡ left) →
+    after changes rest does ≡ after left rest does
+after_same changes left rest (effect.Next x) same = ap (λ d. with_changes d (rest x)) (same refl)
+after_same changes left rest (effect.Answered a) same = refl
+after_same changes left rest (effect.Failed x status message) same = refl
 
 -- ---- pushing on a copy
 

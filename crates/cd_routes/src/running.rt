@@ -5,29 +5,23 @@ ghost use Rattle.cd_match.specs.Holds.{holds};
 ghost use Rattle.cd_routes.specs.declared.route.Route.{Route as RouteSettings, out-Route};
 ghost use Rattle.cd_routes.specs.declared.route.Subroute.{out-Subroute};
 ghost use Rattle.cd_routes.specs.declared.work.Work.TheVariants.{Routes};
-ghost use Rattle.cd_routes.specs.Running.{Rest, nothing_left, with_changes, handled, caught, is_taken, with_group, with_error, run_route, run_routes, run_step, run_steps};
+ghost use Rattle.cd_routes.specs.Running.{Rest, nothing_left, with_changes, after, handled, caught, is_taken, with_group, with_error, run_route, run_routes, run_step, run_steps};
 ghost use Rattle.cd_routes.specs.Work.{done, all_changes, weight, route_weight, step_weight, told, weight_left, total, subroute_weight};
 
-use crate::outcome::{Outcome, let_go, response_of};
+use crate::outcome::{Outcome, bare_answer, let_go, response_of};
 use crate::route::{Route, Step, Subroute};
 use crate::work::{Progress, Work, behind, first_route, first_step, take_next};
 use cd_fill::{Failure, Scene};
-use cd_handlers::{Effect, FilledChanges, Handler, changed, deferred, effect, usual_status};
+use cd_handlers::{Deed, Effect, FilledChanges, Handler, changed, deed, usual_status};
 use cd_text::{List, NoMemory, Octets, Text};
-use cd_wire::Answer;
 use std::alloc::Global;
 
 #[tactic(auto, unfolding(crate::specs::Running::nothing_left))]
-fn nothing_left(alloc: Global, scene: Scene) -> Outcome
-    ensures { result ≡ nothing_left scene }
+fn nothing_left<'r>(alloc: Global, scene: Scene<'r>) -> Outcome<'r>
+    ensures { result ≡ nothing_left scene.entry }
 {
     let status = usual_status(&scene.error);
-    Outcome::Answered(Answer {
-        status,
-        fields: response_of(scene),
-        body: Octets::new(alloc),
-        close: false,
-    })
+    Outcome::Answered(bare_answer(alloc, status, response_of(scene)))
 }
 
 fn is_listed(texts: &List<Text>, text: &Text) -> bool
@@ -41,7 +35,7 @@ fn is_listed(texts: &List<Text>, text: &Text) -> bool
     false
 }
 
-fn is_taken(group: &Option<Text>, scene: &Scene) -> bool
+fn is_taken(group: &Option<Text>, scene: &Scene<'_>) -> bool
     ensures { result ≡ is_taken group.now scene.now }
 {
     match group {
@@ -57,8 +51,12 @@ fn add_group(alloc: Global, group: &Text, groups: &mut List<Text>) -> Result<(),
     groups.push(group)
 }
 
-fn with_group(alloc: Global, group: &Option<Text>, scene: Scene) -> Result<Scene, NoMemory>
-    ensures { IfOk result (λ made. made ≡ with_group group.now scene) }
+fn with_group<'r>(
+    alloc: Global,
+    group: &Option<Text>,
+    scene: Scene<'r>,
+) -> Result<Scene<'r>, NoMemory>
+    ensures { IfOk result (λ made. made ≡ with_group group.now scene.entry) }
 {
     let mut scene = scene;
     match group {
@@ -71,8 +69,8 @@ fn with_group(alloc: Global, group: &Option<Text>, scene: Scene) -> Result<Scene
 }
 
 /// The scene in which a failure is handled.
-pub fn with_error(status: u16, message: Octets, scene: Scene) -> Scene
-    ensures { result ≡ with_error status message scene }
+pub fn with_error<'r>(status: u16, message: Octets, scene: Scene<'r>) -> Scene<'r>
+    ensures { result ≡ with_error status message scene.entry }
 {
     let mut scene = scene;
     scene.error = Some(Failure { status, message });
@@ -80,12 +78,12 @@ pub fn with_error(status: u16, message: Octets, scene: Scene) -> Scene
 }
 
 #[tactic(auto, unfolding(crate::specs::Running::with_changes))]
-fn with_changes(
+fn with_changes<'r>(
     alloc: Global,
-    changes: &FilledChanges,
-    outcome: Outcome,
-) -> Result<Outcome, NoMemory>
-    ensures { IfOk result (λ made. made ≡ with_changes (Option.Some changes.now) outcome) }
+    changes: FilledChanges<'_>,
+    outcome: Outcome<'r>,
+) -> Result<Outcome<'r>, NoMemory>
+    ensures { IfOk result (λ made. made ≡ with_changes (Option.Some changes.entry) outcome.entry) }
 {
     match outcome {
         Outcome::Answered(answer) => {
@@ -99,22 +97,22 @@ fn with_changes(
 
 // What becomes of the outcome of what handlers left changes for: the last of them comes first.
 #[tactic(auto, using(crate::proofs::Equations::all_changes_push), unfolding(crate::specs::Work::all_changes))]
-fn with_all_changes(
+fn with_all_changes<'r>(
     alloc: Global,
-    changes: List<FilledChanges>,
-    outcome: Outcome,
-) -> Result<Outcome, NoMemory>
-    ensures { IfOk result (λ made. made ≡ all_changes changes outcome) }
+    changes: List<FilledChanges<'_>>,
+    outcome: Outcome<'r>,
+) -> Result<Outcome<'r>, NoMemory>
+    ensures { IfOk result (λ made. made ≡ all_changes changes.entry outcome.entry) }
 {
     let mut changes = changes;
     let mut outcome = outcome;
     while let Some(last) = changes.pop() {
-        outcome = with_changes(alloc, &last, outcome)?;
+        outcome = with_changes(alloc, last, outcome)?;
     }
     Ok(outcome)
 }
 
-fn enters(alloc: Global, route: &Route, scene: &Scene) -> Result<bool, NoMemory>
+fn enters(alloc: Global, route: &Route, scene: &Scene<'_>) -> Result<bool, NoMemory>
     ensures { IfOk result (λ answer. answer
         ≡ (holds (out-Route route.now).matching scene.now && not (is_taken (out-Route route.now).group scene.now))) }
 {
@@ -128,7 +126,7 @@ fn enters(alloc: Global, route: &Route, scene: &Scene) -> Result<bool, NoMemory>
 fn from_first_taken<'a>(
     alloc: Global,
     routes: &'a [Route],
-    scene: &Scene,
+    scene: &Scene<'_>,
 ) -> Result<&'a [Route], NoMemory>
     ensures same { IfOk result (λ left. (rest : Rest) → run_routes left.now rest scene.now ≡ run_routes routes.now rest scene.now) }
     ensures less { IfOk result (λ left. total (map route_weight left.now) ≤ total (map route_weight routes.now)) }
@@ -147,16 +145,16 @@ fn from_first_taken<'a>(
 
 // The steps of a route, and what follows them.
 #[tactic(auto, using(crate::proofs::Equations::done_push, crate::proofs::Equations::weight_push, crate::proofs::Equations::route_weight_is))]
-fn entered<'a>(
+fn entered<'a, 'r>(
     alloc: Global,
     route: &'a Route,
     rest: Vec<Work<'a>>,
-    scene: Scene,
-) -> Result<Progress<'a>, NoMemory>
+    scene: Scene<'r>,
+) -> Result<Progress<'a, 'r>, NoMemory>
     ensures meaning { IfOk result (λ progress. told progress
         ≡ run_steps (out-Route route.now).handle
         (if (out-Route route.now).terminal then nothing_left else done rest.entry.items)
-        (with_group (out-Route route.now).group scene)) }
+        (with_group (out-Route route.now).group scene.entry)) }
     ensures less { IfOk result (λ progress. weight_left progress ≤ weight rest.entry.items + route_weight route.now) }
 {
     let scene = with_group(alloc, &route.group, scene)?;
@@ -168,13 +166,13 @@ fn entered<'a>(
 }
 
 // Routes, and what follows them.
-fn on_routes<'a>(
+fn on_routes<'a, 'r>(
     alloc: Global,
     routes: &'a [Route],
     rest: Vec<Work<'a>>,
-    scene: Scene,
-) -> Result<Progress<'a>, NoMemory>
-    ensures meaning { IfOk result (λ progress. told progress ≡ run_routes routes.now (done rest.entry.items) scene) }
+    scene: Scene<'r>,
+) -> Result<Progress<'a, 'r>, NoMemory>
+    ensures meaning { IfOk result (λ progress. told progress ≡ run_routes routes.now (done rest.entry.items) scene.entry) }
     ensures less { IfOk result (λ progress. weight_left progress ≤ weight rest.entry.items + total (map route_weight routes.now)) }
 {
     let Ok(left) = from_first_taken(alloc, routes, &scene) else {
@@ -192,41 +190,50 @@ fn on_routes<'a>(
     }
 }
 
+// What follows a handler that has done this.
+#[tactic(auto, unfolding(crate::specs::Running::with_changes))]
+fn after<'a, 'r>(deed: Deed<'a, 'r>, rest: Vec<Work<'a>>) -> Progress<'a, 'r>
+    ensures meaning { told result ≡ after deed.entry.changes (done rest.entry.items) deed.entry.effect }
+    ensures less { weight_left result ≤ weight rest.entry.items + 2 }
+{
+    let Deed { effect, changes } = deed;
+    match effect {
+        Effect::Next(scene) => match changes {
+            None => Progress::Goes(rest, scene),
+            Some(changes) => Progress::Leaves(changes, rest, scene),
+        },
+        Effect::Answered(answer) => Progress::Ends(Outcome::Answered(answer)),
+        Effect::Failed(scene, status, message) => {
+            Progress::Ends(Outcome::Failed(scene, status, message))
+        }
+    }
+}
+
 // A handler, and what follows it.
-fn handle<'a>(
+#[tactic(auto, using(crate::proofs::Pushes::after_same))]
+fn handle<'a, 'r>(
     alloc: Global,
     handler: &'a Handler,
     rest: Vec<Work<'a>>,
-    scene: Scene,
-) -> Result<Progress<'a>, NoMemory>
-    ensures meaning { IfOk result (λ progress. told progress ≡ handled handler.now (done rest.entry.items) scene) }
+    scene: Scene<'r>,
+) -> Result<Progress<'a, 'r>, NoMemory>
+    ensures meaning { IfOk result (λ progress. told progress ≡ handled handler.now (done rest.entry.items) scene.entry) }
     ensures less { IfOk result (λ progress. weight_left progress ≤ weight rest.entry.items + 2) }
 {
-    let Ok(changes) = deferred(alloc, handler, &scene) else {
-        return Err(let_go(scene));
-    };
-    match effect(alloc, handler, scene)? {
-        Effect::Next(scene) => match changes {
-            None => Ok(Progress::Goes(rest, scene)),
-            Some(changes) => Ok(Progress::Leaves(changes, rest, scene)),
-        },
-        Effect::Answered(answer) => Ok(Progress::Ends(Outcome::Answered(answer))),
-        Effect::Failed(scene, status, message) => {
-            Ok(Progress::Ends(Outcome::Failed(scene, status, message)))
-        }
-    }
+    let done = deed(alloc, handler, scene)?;
+    Ok(after(done, rest))
 }
 
 // Steps, and what follows them.
 #[cycle(run)]
 #[tactic(auto, unfolding(crate::specs::Running::in_order))]
-fn on_steps<'a>(
+fn on_steps<'a, 'r>(
     alloc: Global,
     steps: &'a [Step],
     rest: Vec<Work<'a>>,
-    scene: Scene,
-) -> Result<Progress<'a>, NoMemory>
-    ensures meaning { IfOk result (λ progress. told progress ≡ run_steps steps.now (done rest.entry.items) scene) }
+    scene: Scene<'r>,
+) -> Result<Progress<'a, 'r>, NoMemory>
+    ensures meaning { IfOk result (λ progress. told progress ≡ run_steps steps.now (done rest.entry.items) scene.entry) }
     ensures less { IfOk result (λ progress. weight_left progress ≤ weight rest.entry.items + total (map step_weight steps.now)) }
 {
     match first_step(steps) {
@@ -243,13 +250,13 @@ fn on_steps<'a>(
 
 // A step, and what follows it.
 #[cycle(run)]
-fn begin<'a>(
+fn begin<'a, 'r>(
     alloc: Global,
     step: &'a Step,
     rest: Vec<Work<'a>>,
-    scene: Scene,
-) -> Result<Progress<'a>, NoMemory>
-    ensures meaning { IfOk result (λ progress. told progress ≡ run_step step.now (done rest.entry.items) scene) }
+    scene: Scene<'r>,
+) -> Result<Progress<'a, 'r>, NoMemory>
+    ensures meaning { IfOk result (λ progress. told progress ≡ run_step step.now (done rest.entry.items) scene.entry) }
     ensures less { IfOk result (λ progress. weight_left progress ≤ weight rest.entry.items + step_weight step.now) }
 {
     match step {
@@ -273,15 +280,15 @@ fn in_front<'a>(
 
 // A subroute, and what follows it.
 #[cycle(run)]
-fn nest<'a>(
+fn nest<'a, 'r>(
     alloc: Global,
     subroute: &'a Subroute,
     rest: Vec<Work<'a>>,
-    scene: Scene,
-) -> Result<Progress<'a>, NoMemory>
+    scene: Scene<'r>,
+) -> Result<Progress<'a, 'r>, NoMemory>
     ensures meaning { IfOk result (λ progress. told progress
         ≡ caught (option_map (map run_route) (out-Subroute subroute.now).errors) (done rest.entry.items)
-        (run_routes (out-Subroute subroute.now).routes (done rest.entry.items) scene)) }
+        (run_routes (out-Subroute subroute.now).routes (done rest.entry.items) scene.entry)) }
     ensures less { IfOk result (λ progress. weight_left progress ≤ weight rest.entry.items + subroute_weight (out-Subroute subroute.now)) }
 {
     match &subroute.errors {
@@ -312,8 +319,12 @@ fn nest<'a>(
 
 // Does the item that comes first.
 #[cycle(run)]
-fn advance<'a>(alloc: Global, work: Vec<Work<'a>>, scene: Scene) -> Result<Progress<'a>, NoMemory>
-    ensures meaning { IfOk result (λ progress. told progress ≡ done work.entry.items scene) }
+fn advance<'a, 'r>(
+    alloc: Global,
+    work: Vec<Work<'a>>,
+    scene: Scene<'r>,
+) -> Result<Progress<'a, 'r>, NoMemory>
+    ensures meaning { IfOk result (λ progress. told progress ≡ done work.entry.items scene.entry) }
     ensures less { IfOk result (λ progress. weight_left progress ≤ weight work.entry.items) }
 {
     let mut work = work;
@@ -326,8 +337,12 @@ fn advance<'a>(alloc: Global, work: Vec<Work<'a>>, scene: Scene) -> Result<Progr
 
 // Does all that is to be done. It calls itself at a subroute with errors alone.
 #[cycle(run)]
-fn run<'a>(alloc: Global, work: Vec<Work<'a>>, scene: Scene) -> Result<Outcome, NoMemory>
-    ensures { IfOk result (λ outcome. outcome ≡ done work.entry.items scene) }
+fn run<'a, 'r>(
+    alloc: Global,
+    work: Vec<Work<'a>>,
+    scene: Scene<'r>,
+) -> Result<Outcome<'r>, NoMemory>
+    ensures { IfOk result (λ outcome. outcome ≡ done work.entry.items scene.entry) }
 {
     let mut left = List::new(alloc);
     let mut progress = Progress::Goes(work, scene);
@@ -347,8 +362,12 @@ fn run<'a>(alloc: Global, work: Vec<Work<'a>>, scene: Scene) -> Result<Outcome, 
 
 /// What routes make of a request, where nothing follows them.
 #[tactic(auto, using(crate::proofs::Pushes::done_one))]
-pub fn run_routes(alloc: Global, routes: &[Route], scene: Scene) -> Result<Outcome, NoMemory>
-    ensures { IfOk result (λ outcome. outcome ≡ run_routes routes.now nothing_left scene) }
+pub fn run_routes<'r>(
+    alloc: Global,
+    routes: &[Route],
+    scene: Scene<'r>,
+) -> Result<Outcome<'r>, NoMemory>
+    ensures { IfOk result (λ outcome. outcome ≡ run_routes routes.now nothing_left scene.entry) }
 {
     let mut work = Vec::new(alloc);
     match work.push(Work::Routes(routes)) {

@@ -1,56 +1,27 @@
-ghost use Rattle.std.specs.Prelude.{◌≡◌, IfOk, [], false};
+ghost use Rattle.std.specs.Prelude.{◌≡◌, IfOk};
 ghost use Rattle.cd_routes.specs.Running.{nothing_left, run_routes, with_error};
 ghost use Rattle.cd_routes.specs.Serving.{answer_from, error_answer, restored, server_answer};
 
-use crate::outcome::{Outcome, let_go, response_of};
+use crate::outcome::{Outcome, bare_answer, let_go, response_of};
 use crate::route::Route;
 use crate::running::{run_routes, with_error};
 use crate::server::Server;
-use cd_fill::Scene;
-use cd_text::{List, NoMemory, Octets};
-use cd_wire::{Answer, Field, Request};
+use cd_fill::{Scene, copy_fields};
+use cd_text::{NoMemory, Octets};
+use cd_wire::{Answer, Request};
 use std::alloc::Global;
+use std::mem::replace;
 
-fn copy_field(alloc: Global, field: &Field) -> Result<Field, NoMemory>
-    ensures { IfOk result (λ made. made ≡ field.now) }
-{
-    Ok(Field {
-        name: field.name.copy(alloc)?,
-        value: field.value.copy(alloc)?,
-    })
-}
-
-fn copy_fields(alloc: Global, fields: &List<Field>) -> Result<List<Field>, NoMemory>
-    ensures { IfOk result (λ made. made ≡ fields.now) }
-{
-    let mut copies = List::new(alloc);
-    for field in fields.as_slice() {
-        copies.push(copy_field(alloc, field)?)?;
-    }
-    Ok(copies)
-}
-
-fn restored(scene: Scene) -> Scene
-    ensures { result ≡ restored scene }
+fn restored<'r>(scene: Scene<'r>) -> Scene<'r>
+    ensures { result ≡ restored scene.entry }
 {
     let mut scene = scene;
-    match scene.original.take() {
-        Some(line) => {
-            scene.current = line;
-            scene
-        }
+    match replace(&mut scene.original, None) {
+        Some(line) => Scene {
+            current: line,
+            ..scene
+        },
         None => scene,
-    }
-}
-
-fn bare_answer(alloc: Global, status: u16, fields: List<Field>) -> Answer
-    ensures { result ≡ record { status = status; fields = fields; body = []; close = false } }
-{
-    Answer {
-        status,
-        fields,
-        body: Octets::new(alloc),
-        close: false,
     }
 }
 
@@ -58,14 +29,14 @@ fn bare_answer(alloc: Global, status: u16, fields: List<Field>) -> Answer
 fn error_answer(
     alloc: Global,
     errors: &[Route],
-    scene: Scene,
+    scene: Scene<'_>,
     status: u16,
     message: Octets,
 ) -> Result<Answer, NoMemory>
     ensures { IfOk result (λ answer. answer
-        ≡ error_answer scene status (run_routes errors.now nothing_left (with_error status message (restored scene)))) }
+        ≡ error_answer scene.entry status (run_routes errors.now nothing_left (with_error status message (restored scene.entry)))) }
 {
-    let Ok(fields) = copy_fields(alloc, &scene.response) else {
+    let Ok(fields) = copy_fields(alloc, scene.response.as_slice()) else {
         return Err(let_go(scene));
     };
     let scene = with_error(status, message, restored(scene));
@@ -80,8 +51,8 @@ fn error_answer(
 
 /// What the server answers to a request that has come to this scene.
 #[tactic(auto, unfolding(crate::specs::Serving::answer_from))]
-pub fn answer_from(alloc: Global, server: &Server, scene: Scene) -> Result<Answer, NoMemory>
-    ensures { IfOk result (λ answer. answer ≡ answer_from server.now scene) }
+pub fn answer_from(alloc: Global, server: &Server, scene: Scene<'_>) -> Result<Answer, NoMemory>
+    ensures { IfOk result (λ answer. answer ≡ answer_from server.now scene.entry) }
 {
     match run_routes(alloc, server.routes.as_slice(), scene)? {
         Outcome::Answered(answer) => Ok(answer),

@@ -16,11 +16,11 @@ pub enum Work<'a> {
 
 /// How far a request has come. What is to be done next is the last item of the work.
 #[derive(Drop)]
-pub enum Progress<'a> {
-    Goes(Vec<Work<'a>>, Scene),
+pub enum Progress<'a, 'r> {
+    Goes(Vec<Work<'a>>, Scene<'r>),
     /// It goes on, and these changes are left for the answer.
-    Leaves(FilledChanges, Vec<Work<'a>>, Scene),
-    Ends(Outcome),
+    Leaves(FilledChanges<'a>, Vec<Work<'a>>, Scene<'r>),
+    Ends(Outcome<'r>),
 }
 
 /// What follows a route: nothing, where the route is terminal.

@@ -1,5 +1,5 @@
 //! Texts with their placeholders replaced, in the scene of a request.
-use crate::scene::scene_of;
+use crate::scene::{asked_of, scene_of};
 use cd_fill::{FillFault, Form, Scene, fill_as};
 use cd_rows::{Outcome, RowFault, bytes_at, find, has, only, refuses, says};
 use cd_text::{Octets, decimal};
@@ -13,11 +13,12 @@ pub fn fill_outcome(alloc: Global, row: &Tree) -> Result<Outcome, RowFault> {
         "fill as asked vars line error filled length refused",
     )?;
     let text = bytes_at(alloc, row, "fill")?;
-    let scene = scene_of(alloc, row)?;
+    let request = asked_of(alloc, row)?;
+    let scene = scene_of(alloc, row, &request)?;
     fill_in(alloc, row, text.as_slice(), &scene)
 }
 
-fn fill_in(alloc: Global, row: &Tree, text: &[u8], scene: &Scene) -> Result<Outcome, RowFault> {
+fn fill_in(alloc: Global, row: &Tree, text: &[u8], scene: &Scene<'_>) -> Result<Outcome, RowFault> {
     match fill_as(alloc, form_of(row)?, text, scene) {
         Ok(bytes) => filled(alloc, row, bytes),
         Err(FillFault::TooLong) => refuses(alloc, "too long"),

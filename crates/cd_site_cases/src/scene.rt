@@ -1,10 +1,10 @@
 //! Scenes: a request as it meets the first route, and what handlers have made of it.
 use crate::asked::request_of;
-use cd_fill::{Failure, RequestLine, Scene, Variable};
+use cd_fill::{Failure, Lent, RequestLine, Scene, Variable};
 use cd_rows::{Outcome, RowFault, bytes_of, find, number_of, only};
 use cd_text::{List, NoMemory, Octets, Text, decimal};
 use cd_tree::Tree;
-use cd_wire::Field;
+use cd_wire::{Field, Request};
 use std::alloc::Global;
 use std::mem::replace;
 
@@ -13,17 +13,23 @@ pub fn scene_outcome(alloc: Global, row: &Tree) -> Result<Outcome, RowFault> {
     only(alloc, row, "scene found")?;
     match find(row, "scene") {
         Some(asked) => {
-            let scene = first_scene(alloc, asked)?;
+            let request = request_of(alloc, asked)?;
+            let bytes = shown_first(alloc, &request)?;
             Ok(Outcome {
                 member: "found",
-                bytes: shown(alloc, &scene)?,
+                bytes,
             })
         }
         None => Err(RowFault::Malformed("no scene")),
     }
 }
 
-fn shown(alloc: Global, scene: &Scene) -> Result<Octets, NoMemory> {
+fn shown_first(alloc: Global, request: &Request) -> Result<Octets, NoMemory> {
+    let scene = Scene::new(alloc, request)?;
+    shown(alloc, &scene)
+}
+
+fn shown(alloc: Global, scene: &Scene<'_>) -> Result<Octets, NoMemory> {
     let mut out = Octets::new(alloc);
     put_line(&mut out, &scene.current)?;
     put_part(&mut out, scene.host.as_slice())?;
@@ -36,8 +42,8 @@ fn shown(alloc: Global, scene: &Scene) -> Result<Octets, NoMemory> {
     Ok(out)
 }
 
-fn put_line(out: &mut Octets, line: &RequestLine) -> Result<(), NoMemory> {
-    put_part(out, line.method.as_str().as_bytes())?;
+fn put_line(out: &mut Octets, line: &RequestLine<'_>) -> Result<(), NoMemory> {
+    put_part(out, line.method.as_slice())?;
     put_part(out, line.path.as_slice())?;
     match &line.query {
         Some(query) => {
@@ -65,39 +71,43 @@ fn put_fields(out: &mut Octets, fields: &[Field]) -> Result<(), NoMemory> {
 }
 
 // Whether no handler has changed anything.
-fn is_new(scene: &Scene) -> bool {
+fn is_new(scene: &Scene<'_>) -> bool {
     scene.original.is_none()
         && scene.variables.is_empty()
         && scene.groups.is_empty()
         && scene.error.is_none()
 }
 
-/// The scene of a row: that of the request `asked`, with its `vars`, its `error`, and its `line` in the place of the first.
+/// The request `asked` of a row.
+pub fn asked_of(alloc: Global, row: &Tree) -> Result<Request, RowFault> {
+    match find(row, "asked") {
+        Some(asked) => request_of(alloc, asked),
+        None => Err(RowFault::Malformed("nothing is asked")),
+    }
+}
+
+/// The scene of a row: that of its request, with its `vars`, its `error`, and its `line` in the place of the first.
 ///
 /// `vars` are pairs of a name and a value, `line` is a list of the method, the path, the query (or null) and the uri, and `error`
 /// is a pair of a status and a message.
-pub fn scene_of(alloc: Global, row: &Tree) -> Result<Scene, RowFault> {
+pub fn scene_of<'r>(
+    alloc: Global,
+    row: &Tree,
+    request: &'r Request,
+) -> Result<Scene<'r>, RowFault> {
     let variables = variables_at(alloc, find(row, "vars"))?;
     let line = line_at(alloc, find(row, "line"))?;
     let error = error_at(alloc, find(row, "error"))?;
-    let Some(asked) = find(row, "asked") else {
-        return Err(RowFault::Malformed("nothing is asked"));
-    };
-    let scene = first_scene(alloc, asked)?;
+    let scene = Scene::new(alloc, request)?;
     Ok(changed(scene, variables, line, error))
 }
 
-fn first_scene(alloc: Global, asked: &Tree) -> Result<Scene, RowFault> {
-    let request = request_of(alloc, asked)?;
-    Ok(Scene::new(alloc, &request)?)
-}
-
-fn changed(
-    scene: Scene,
+fn changed<'r>(
+    scene: Scene<'r>,
     variables: List<Variable>,
-    line: Option<RequestLine>,
+    line: Option<RequestLine<'r>>,
     error: Option<Failure>,
-) -> Scene {
+) -> Scene<'r> {
     let mut scene = with_variables(scene, variables);
     scene.error = error;
     match line {
@@ -106,14 +116,17 @@ fn changed(
     }
 }
 
-fn rewritten(scene: Scene, line: RequestLine) -> Scene {
+fn rewritten<'r>(scene: Scene<'r>, line: RequestLine<'r>) -> Scene<'r> {
     let mut scene = scene;
-    scene.original = Some(replace(&mut scene.current, line));
-    scene
+    let first = replace(&mut scene.current, line);
+    Scene {
+        original: Some(first),
+        ..scene
+    }
 }
 
 /// The scene with these variables alone.
-pub fn with_variables(scene: Scene, variables: List<Variable>) -> Scene {
+pub fn with_variables<'r>(scene: Scene<'r>, variables: List<Variable>) -> Scene<'r> {
     let mut scene = scene;
     scene.variables = variables;
     scene
@@ -156,7 +169,7 @@ fn variable(alloc: Global, name: &Text, value: &Tree) -> Result<Variable, RowFau
     })
 }
 
-fn line_at(alloc: Global, line: Option<&Tree>) -> Result<Option<RequestLine>, RowFault> {
+fn line_at<'r>(alloc: Global, line: Option<&Tree>) -> Result<Option<RequestLine<'r>>, RowFault> {
     match line {
         None => Ok(None),
         Some(Tree::Items(parts)) => Ok(Some(line_of(alloc, parts.as_slice())?)),
@@ -164,35 +177,36 @@ fn line_at(alloc: Global, line: Option<&Tree>) -> Result<Option<RequestLine>, Ro
     }
 }
 
-fn line_of(alloc: Global, parts: &[Tree]) -> Result<RequestLine, RowFault> {
+fn line_of<'r>(alloc: Global, parts: &[Tree]) -> Result<RequestLine<'r>, RowFault> {
     match parts {
         [Tree::Text(method), path, query, uri] => line(alloc, method, path, query, uri),
         _ => Err(RowFault::Malformed("no line")),
     }
 }
 
-fn line(
+fn line<'r>(
     alloc: Global,
     method: &Text,
     path: &Tree,
     query: &Tree,
     uri: &Tree,
-) -> Result<RequestLine, RowFault> {
+) -> Result<RequestLine<'r>, RowFault> {
+    let method = Octets::from_slice(alloc, method.as_str().as_bytes())?;
     let path = bytes_of(alloc, path)?;
     let query = query_of(alloc, query)?;
     let uri = bytes_of(alloc, uri)?;
     Ok(RequestLine {
-        method: method.copy(alloc)?,
-        path,
+        method: Lent::octets(method),
+        path: Lent::octets(path),
         query,
-        uri,
+        uri: Lent::octets(uri),
     })
 }
 
-fn query_of(alloc: Global, query: &Tree) -> Result<Option<Octets>, RowFault> {
+fn query_of<'r>(alloc: Global, query: &Tree) -> Result<Option<Lent<'r, u8>>, RowFault> {
     match query {
         Tree::Null => Ok(None),
-        query => Ok(Some(bytes_of(alloc, query)?)),
+        query => Ok(Some(Lent::octets(bytes_of(alloc, query)?))),
     }
 }
 

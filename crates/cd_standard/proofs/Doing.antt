@@ -1,20 +1,16 @@
 -- What a configuration that was loaded keeps, and what one without apps does.
-use Rattle.std.proofs.Common.{◌≡◌, ℕ, ◌+◌, ◌≤◌, List, [], ◌∷◌, length, map, Result, Ok, Err, refl, sym, ap, ◌∙◌, subst, arith, rules, true, false}
-use Rattle.std.specs.Prelude.{nat_le, if◌then◌else◌, Bool, codes, Option, Some, None}
+use Rattle.std.proofs.Common.{◌≡◌, ℕ, ◌+◌, ◌≤◌, List, [], ◌∷◌, length, map, Result, Ok, Err, refl, sym, ap, ◌∙◌, subst, arith, true, false}
+use Rattle.std.specs.Prelude.{nat_le, if◌then◌else◌, Bool, codes}
 use Rattle.std.specs.Result.{result_map_both}
 use Rattle.std.specs.List.{flat_map}
 use Rattle.std.proofs.lemmas.List.{length-append, length-map}
 use Rattle.std.proofs.lemmas.List.Concat.{flat_map-cons}
 use Rattle.cd_text.specs.Steps.{◌▷◌}
-use Rattle.cd_tree.specs.Fields.{is_null, null_layer}
+use Rattle.cd_tree.specs.Fields.{is_null}
 use Rattle.cd_tree.specs.Path.{◌▸◌}
 use Rattle.cd_tree.specs.declared.path.Path.{Path}
-use Rattle.cd_tree.specs.declared.tree.Member.{Member}
-use Rattle.cd_tree.specs.declared.tree.Tree.{Tree, out-Tree, roll-Tree, roll-out-Tree, the_lemmas}
-use Rattle.cd_tree.specs.declared.tree.Tree.TheOpen.{Tree-F}
+use Rattle.cd_tree.specs.declared.tree.Tree.{Tree, out-Tree}
 use Rattle.cd_ids.specs.Ids.{id_fault}
-use Rattle.cd_ids.specs.declared.fault.IdFault.{IdFault}
-use Rattle.cd_ids.specs.declared.fault.IdFault.TheVariants as id
 use Rattle.cd_module.specs.Faults.{within, limit_reached}
 use Rattle.cd_module.specs.Settings.{all_layer}
 use Rattle.cd_module.specs.declared.fault.LoadFault.{LoadFault}
@@ -119,41 +115,3 @@ does_as_loaded t l h = subst (λ r. DoAlike (acts_of l.configuration) (acts_in r
 -- a configuration without apps, whose admin API is disabled
 pub idle_does_nothing : (c : Configuration) → c.admin.disabled ≡ true → c.apps ≡ [] → DoAlike (acts_of c) nobody
 idle_does_nothing c disabled none = rw (disabled, none) (record { targets = λ at. refl; answers = λ at request. refl; lines = λ at request answer. refl })
-
--- ---- its ids
-
-null_rolled : (x : Tree-F Tree Member) → null_layer x ≡ true → id_fault (roll-Tree x) ≡ None
-null_rolled Tree-F.Null is = search (rules, the_lemmas)
-null_rolled (Tree-F.Bool b) is = cc
-null_rolled (Tree-F.Num n) is = cc
-null_rolled (Tree-F.Text text) is = cc
-null_rolled (Tree-F.Items items) is = cc
-null_rolled (Tree-F.Object members) is = cc
-
-null_has_no_ids : (t : Tree) → is_null t ≡ true → id_fault t ≡ None
-null_has_no_ids t is = ap id_fault (sym (roll-out-Tree t)) ∙ null_rolled (out-Tree t) is
-
-no_fault : (found : Option IdFault) (u : Unit {0}) → of_ids found ≡ Ok u → found ≡ None
-no_fault None u h = refl
-no_fault (Some (id.Repeated name first second)) u h = cc
-no_fault (Some (id.BadKind at)) u h = cc
-no_fault (Some id.NoMemory) u h = cc
-
-object_ids : (t : Tree) (l : Configured) → of_object t ≡ Ok l → id_fault t ≡ None
-object_ids t l h = let step = went (of_ids (id_fault t)) (λ _. of_settings t) l h in no_fault (id_fault t) step.value step.is
-
-ids_by : (t : Tree) (l : Configured) (b : Bool) → is_null t ≡ b → (if b then Ok (planned nothing_said) else (all_layer (out-Tree t) root ▷ λ _. of_object t)) ≡ Ok l → id_fault t ≡ None
-ids_by t l true is h = null_has_no_ids t is
-ids_by t l false is h = object_ids t l (went (all_layer (out-Tree t) root) (λ _. of_object t) l h).rest
-
-loaded_ids : (t : Tree) (l : Configured) → loaded t ≡ Ok l → id_fault t ≡ None
-unfolding loaded
-loaded_ids t l h = ids_by t l (is_null t) refl h
-
-ids_of : (t : Tree) (r : Result Configured LoadFault) (p : Plan) → loaded t ≡ r → result_map_both (λ configured. configured.plan) (λ fault. fault) r ≡ Ok p → id_fault t ≡ None
-ids_of t (Ok l) p is h = loaded_ids t l is
-ids_of t (Err fault) p is h = cc
-
--- a tree without a fault has none of ids
-pub ids_are_fine : (t : Tree) (p : Plan) → plan_of_tree t ≡ Ok p → id_fault t ≡ None
-ids_are_fine t p h = ids_of t (loaded t) p refl h

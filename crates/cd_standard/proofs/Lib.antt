@@ -6,3 +6,4 @@ pub mod Examples
 pub mod Doing
 pub mod Tallies
 pub mod Finding
+pub mod Crossing

@@ -3,3 +3,4 @@ pub mod Plans
 pub mod Loading
 pub mod Walking
 pub mod Acting
+pub mod Administering

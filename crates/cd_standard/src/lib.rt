@@ -12,6 +12,7 @@
 
 mod acting;
 mod admin;
+mod administering;
 mod app;
 mod configuration;
 mod counting;
@@ -32,4 +33,4 @@ pub use http::Http;
 pub use listening::{Listened, addresses_of, apps_of};
 pub use loading::{Configured, load};
 pub use planning::modules_of;
-pub use standard::Standard;
+pub use standard::{Standard, configurations_cross_threads};

@@ -1,5 +1,6 @@
 //! The set of the standard modules.
-ghost use Rattle.std.specs.Prelude.{◌≡◌, IfOk, None};
+ghost use Rattle.std.specs.Prelude.{◌≡◌, IfOk};
+ghost use Rattle.cd_admin.specs.Deciding.{change_of};
 ghost use Rattle.cd_standard.specs.Acting.{acts_of, acts_of_tree, plan_of_tree};
 
 use crate::admin::Admin;
@@ -17,7 +18,7 @@ use std::alloc::Global;
 
 /// The set of the standard modules: the admin API, the apps `echo` and `http`, and the matchers and handlers of `http`.
 ///
-/// No request changes a configuration yet, and no line is logged.
+/// What a request asks for is what the admin API decides, by this set's own verdict. No line is logged yet.
 pub struct Standard;
 
 impl ModuleSet for Standard {
@@ -29,7 +30,7 @@ impl ModuleSet for Standard {
 
     ghost form = { acts_of };
 
-    ghost change = { λ tree request. None };
+    ghost change = { change_of plan_of_tree };
 
     #[tactic(auto, using(crate::proofs::Doing::idle_does_nothing))]
     fn nothing(alloc: Global) -> Result<Configuration, NoMemory> {
@@ -83,4 +84,11 @@ impl ModuleSet for Standard {
     ) -> Result<List<Line>, NoMemory> {
         Ok(List::new(alloc))
     }
+}
+
+fn crosses<T: Send + Sync>(_value: &T) {}
+
+/// A law: a configuration may go to another thread, and threads may share it.
+pub fn configurations_cross_threads(configuration: &Configuration) {
+    crosses(configuration)
 }

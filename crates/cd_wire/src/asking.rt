@@ -3,7 +3,7 @@ ghost use Rattle.std.specs.Prelude.{◌≡◌, ◌<◌, [], ◌∷◌, true, cod
 ghost use Rattle.std.specs.List.{list_any, slice_split, position};
 ghost use Rattle.percent_encoding.specs.Percent.{percent_decode};
 ghost use Rattle.cd_wire.specs.Fields.{is_named, values};
-ghost use Rattle.cd_wire.specs.Targets.{raw_path};
+ghost use Rattle.cd_wire.specs.Targets.{raw_path, query_of};
 ghost use Rattle.cd_wire.specs.Framing.{is_host, is_comma, is_close, is_closing, host_of, request_of};
 
 use crate::fields::{Field, Found, find_field};
@@ -75,6 +75,15 @@ fn path_of(alloc: Global, target: &[u8]) -> Result<Octets, NoMemory>
     Ok(Octets::from_vec(path))
 }
 
+fn kept_query(alloc: Global, target: &[u8]) -> Result<Option<Octets>, NoMemory>
+    ensures { IfOk result (λ query. query ≡ query_of target.now) }
+{
+    match query_of(target) {
+        Some(query) => Ok(Some(Octets::from_slice(alloc, query)?)),
+        None => Ok(None),
+    }
+}
+
 fn host_of(alloc: Global, head: &Head) -> Result<Octets, NoMemory>
     requires { is_host head.now.minor (values (codes "host") head.now.fields) ≡ true }
     ensures { IfOk result (λ host. host ≡ host_of head.now) }
@@ -98,7 +107,7 @@ pub(crate) fn request_of(alloc: Global, head: Head, body: Octets) -> Result<Requ
 {
     Ok(Request {
         path: path_of(alloc, head.target.as_slice())?,
-        query: query_of(alloc, head.target.as_slice())?,
+        query: kept_query(alloc, head.target.as_slice())?,
         host: host_of(alloc, &head)?,
         close: head.minor == 0 || any_closing(head.fields.as_slice()),
         method: head.method,

@@ -1,7 +1,9 @@
-ghost use Rattle.std.specs.Prelude.{◌≡◌, ℕ, List, [], ◌∷◌, ◌++◌};
+ghost use Rattle.std.specs.Prelude.{◌≡◌, ℕ, List, [], ◌∷◌, ◌++◌, IfOk};
+ghost use Rattle.std.specs.Str.{str_eq_ignore_ascii_case};
 ghost use Rattle.cd_wire.specs.Fields.{values, IsFound};
 
-use cd_text::{Octets, Text};
+use cd_text::{NoMemory, Octets, Text};
+use std::alloc::Global;
 
 /// A field of a head (RFC 9110, section 5).
 #[derive(Debug, Drop)]
@@ -10,6 +12,25 @@ pub struct Field {
     pub name: Text,
     /// The value, without white space around it.
     pub value: Octets,
+}
+
+impl Field {
+    /// Whether this is its name, in any case (RFC 9110, section 5.1). It takes no memory.
+    pub fn is_called(&self, name: &[u8]) -> bool
+        ensures { result ≡ str_eq_ignore_ascii_case self.now.name name.now }
+    {
+        self.name.as_str().as_bytes().eq_ignore_ascii_case(name)
+    }
+
+    /// A copy.
+    pub fn copy(&self, alloc: Global) -> Result<Field, NoMemory>
+        ensures { IfOk result (λ made. made ≡ self.now) }
+    {
+        Ok(Field {
+            name: self.name.copy(alloc)?,
+            value: self.value.copy(alloc)?,
+        })
+    }
 }
 
 /// How many fields have a name: none, one with its value, or more.

@@ -39,11 +39,11 @@ fn kept_field(alloc: Global, header: &Header) -> Result<Field, NoMemory>
 fn kept_fields(alloc: Global, headers: &[Header]) -> Result<List<Field>, NoMemory>
     ensures { IfOk result (λ fields. fields ≡ map field_of (map header_parts headers.now)) }
 {
-    let mut fields = List::new(alloc);
+    let mut fields = Vec::with_capacity(alloc, headers.len())?;
     for header in headers {
         fields.push(kept_field(alloc, header)?)?;
     }
-    Ok(fields)
+    Ok(List::from_vec(fields))
 }
 
 // The head at the front of bytes that are no more than a head may have.

@@ -45,3 +45,4 @@ pub use limits::{MAX_BODY_BYTES, MAX_CHUNK_LINE_BYTES, MAX_HEAD_BYTES, MAX_HEAD_
 pub use refusals::refusal;
 pub use rendering::render;
 pub use request::Request;
+pub use targets::{before_question_mark, has_scheme, local_part, query_of};

@@ -8,6 +8,7 @@ use crate::fields::Field;
 use crate::texts::is_text;
 use cd_text::{NoMemory, Octets};
 use http::StatusCode;
+use itoa::Buffer;
 use std::alloc::Global;
 
 fn has_name(field: &Field, name: &[u8]) -> bool
@@ -28,7 +29,7 @@ fn is_sent(field: &Field) -> bool
 fn sent(alloc: Global, fields: &[Field]) -> Result<Vec<&Field>, NoMemory>
     ensures { IfOk result (λ sent. map (λ f. f.now) sent.items ≡ filter is_sent fields.now) }
 {
-    let mut sent: Vec<&Field> = Vec::new(alloc);
+    let mut sent: Vec<&Field> = Vec::with_capacity(alloc, fields.len())?;
     for field in fields {
         if is_sent(field) {
             sent.push(field)?;
@@ -107,11 +108,11 @@ fn put_fields(out: &mut Vec<u8>, fields: &[&Field]) -> Result<(), NoMemory>
     Ok(())
 }
 
-fn put_number(alloc: Global, out: &mut Vec<u8>, number: usize) -> Result<(), NoMemory>
+fn put_number(out: &mut Vec<u8>, number: usize) -> Result<(), NoMemory>
     ensures { OnOk result (out.new.items ≡ out.old.items ++ decimal number) }
 {
-    let digits = format!(in alloc; "{number}")?;
-    put(out, digits.as_bytes())
+    let mut digits = Buffer::new();
+    put(out, digits.format(number).as_bytes())
 }
 
 #[tactic(auto, unfolding(crate::specs::Render::phrase_of))]
@@ -132,11 +133,11 @@ fn reason_of(status: u16) -> &'static str
 }
 
 #[tactic(auto, unfolding(crate::specs::Render::status_line))]
-fn put_status(alloc: Global, out: &mut Vec<u8>, status: u16) -> Result<(), NoMemory>
+fn put_status(out: &mut Vec<u8>, status: u16) -> Result<(), NoMemory>
     ensures { OnOk result (out.new.items ≡ out.old.items ++ status_line status) }
 {
     put(out, b"HTTP/1.1 ")?;
-    put_number(alloc, out, usize::from(status))?;
+    put_number(out, usize::from(status))?;
     put(out, b" ")?;
     put(out, reason_of(status).as_bytes())?;
     put(out, b"\r\n")
@@ -149,12 +150,12 @@ fn has_body(status: u16) -> bool
 }
 
 #[tactic(auto, unfolding(crate::specs::Render::length_line))]
-fn put_length(alloc: Global, out: &mut Vec<u8>, answer: &Answer) -> Result<(), NoMemory>
+fn put_length(out: &mut Vec<u8>, answer: &Answer) -> Result<(), NoMemory>
     ensures { OnOk result (out.new.items ≡ out.old.items ++ length_line answer.now) }
 {
     if has_body(answer.status) {
         put(out, b"Content-Length: ")?;
-        put_number(alloc, out, answer.body.len())?;
+        put_number(out, answer.body.len())?;
         put(out, b"\r\n")
     } else {
         Ok(())
@@ -183,6 +184,16 @@ fn put_body(out: &mut Vec<u8>, answer: &Answer, head: bool) -> Result<(), NoMemo
     }
 }
 
+// How many bytes an answer with few fields has at most, so that they are written without moving.
+fn usual_len(answer: &Answer, head: bool) -> usize {
+    let room = 512;
+    if head {
+        room
+    } else {
+        answer.body.len().saturating_add(room)
+    }
+}
+
 /// The bytes of an answer (RFC 9112, sections 4 to 6).
 ///
 /// `head` says that the request was a HEAD, which gets no body, and `close` that it wants the connection closed. Fields go by
@@ -193,10 +204,10 @@ pub fn render(alloc: Global, answer: &Answer, head: bool, close: bool) -> Result
     ensures { IfOk result (λ bytes. bytes ≡ render answer.now head close) }
 {
     let fields = by_name(alloc, answer.fields.as_slice())?;
-    let mut out = Vec::new(alloc);
-    put_status(alloc, &mut out, answer.status)?;
+    let mut out = Vec::with_capacity(alloc, usual_len(answer, head))?;
+    put_status(&mut out, answer.status)?;
     put_fields(&mut out, fields.as_slice())?;
-    put_length(alloc, &mut out, answer)?;
+    put_length(&mut out, answer)?;
     put_close(&mut out, answer.close || close)?;
     put(&mut out, b"\r\n")?;
     put_body(&mut out, answer, head)?;

@@ -1,14 +1,14 @@
 //! The target of a request, and its parts.
-ghost use Rattle.std.specs.Prelude.{◌≡◌, ℕ, true, length, IfOk};
+ghost use Rattle.std.specs.Prelude.{◌≡◌, ℕ, true, length};
 ghost use Rattle.std.specs.List.{list_all, before_first, position};
+ghost use Rattle.std.specs.Option.{option_copied};
 ghost use Rattle.cd_wire.specs.Targets.{is_question_mark, is_target_byte, scheme_length, has_scheme, ends_authority, authority_of, local_part, raw_path, query_of, has_form, is_target};
 
 use crate::texts::is_text;
-use cd_text::{NoMemory, Octets, Text, escapes_are_whole};
-use std::alloc::Global;
+use cd_text::{Text, escapes_are_whole};
 
 /// Whether the target begins with `http://`.
-pub(crate) fn has_scheme(target: &[u8]) -> bool
+pub fn has_scheme(target: &[u8]) -> bool
     ensures { result ≡ has_scheme target.now }
 {
     target.len() >= 7 && is_text(&target[..7], b"http://")
@@ -32,8 +32,8 @@ pub(crate) fn authority_of(target: &[u8]) -> &[u8]
     }
 }
 
-// The target without scheme and authority.
-fn local_part(target: &[u8]) -> &[u8]
+/// The target without scheme and authority.
+pub fn local_part(target: &[u8]) -> &[u8]
     ensures { result.now ≡ local_part target.now }
 {
     if has_scheme(target) {
@@ -49,7 +49,8 @@ fn question_mark(target: &[u8]) -> Option<usize>
     target.iter().position(|byte| *byte == b'?')
 }
 
-fn before_question_mark(text: &[u8]) -> &[u8]
+/// What stands before the first `?`: all, where there is none.
+pub fn before_question_mark(text: &[u8]) -> &[u8]
     ensures { result.now ≡ before_first is_question_mark text.now }
 {
     match question_mark(text) {
@@ -66,13 +67,13 @@ pub(crate) fn raw_path(target: &[u8]) -> &[u8]
     if path.is_empty() { b"/" } else { path }
 }
 
-/// What stands behind the first `?`.
-pub(crate) fn query_of(alloc: Global, target: &[u8]) -> Result<Option<Octets>, NoMemory>
-    ensures { IfOk result (λ query. query ≡ query_of target.now) }
+/// What stands behind the first `?`, where there is one.
+pub fn query_of(target: &[u8]) -> Option<&[u8]>
+    ensures { option_copied result ≡ query_of target.now }
 {
     match question_mark(target) {
-        Some(end) => Ok(Some(Octets::from_slice(alloc, &target[end + 1..])?)),
-        None => Ok(None),
+        Some(end) => Some(&target[end + 1..]),
+        None => None,
     }
 }
 

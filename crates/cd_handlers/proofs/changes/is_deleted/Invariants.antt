@@ -4,4 +4,4 @@ use Rattle.cd_handlers.specs.Changes.{deletes}
 use Rattle.cd_handlers.proofs.changes.is_deleted.Given as goal
 
 abbrev pub invariant-loop-pattern : goal.invariant-loop-pattern
-invariant-loop-pattern l = list_any (deletes l.field) l.pattern-items ≡ list_any (deletes l.field) (drop l.pattern-index l.pattern-items)
+invariant-loop-pattern l = list_any (deletes l.field) l.patterns ≡ list_any (deletes l.field) (drop l.pattern-index l.patterns)

@@ -1,10 +1,27 @@
 use Rattle.std.proofs.Common.{◌≡◌, ◌∙◌, ℕ, List, length, ap, subst, sym, inl, inr}
+use denote.Exit.{no}
+use denote.Param.Send.{arg_send, arg_sync, param_send, param_sync}
+use Rattle.cd_standard.specs.contracts.configuration.Configuration.{the_row}
+use Rattle.cd_standard.proofs.Crossing.{configuration_send, configuration_sync}
 use Rattle.cd_program.specs.declared.counts.Counts.{Counts}
 use Rattle.cd_program.proofs.Statuses.{whole_again, unpublished, out_of_memory, one_published, by_begun}
 use Rattle.cd_standard.specs.Acting.{acts_of_tree, plan_of_tree}
 use Rattle.cd_program.specs.Output.{Wrote, run_text}
 use Rattle.cd_program.specs.Top.{Ran, EachServed, code_of}
 use Rattle.cd_program.proofs.top.caddy_main.Goals as goal
+
+-- what a configuration is compiled to may go to another thread, and threads may share it
+pub run-report-requires-send-M-Compiled : goal.run-report-requires-send-M-Compiled
+run-report-requires-send-M-Compiled g c κs = param_send _ _ (arg_send _ no the_row configuration_send)
+
+pub run-report-requires-sync-M-Compiled : goal.run-report-requires-sync-M-Compiled
+run-report-requires-sync-M-Compiled g c κs = param_sync _ _ (arg_sync _ no the_row configuration_sync)
+
+pub validate-status-requires-send-M-Compiled : goal.validate-status-requires-send-M-Compiled
+validate-status-requires-send-M-Compiled g c κs = param_send _ _ (arg_send _ no the_row configuration_send)
+
+pub validate-status-requires-sync-M-Compiled : goal.validate-status-requires-sync-M-Compiled
+validate-status-requires-sync-M-Compiled g c κs = param_sync _ _ (arg_sync _ no the_row configuration_sync)
 
 -- memory ran out before the run, or at its last line
 pub returns-in-Stdio-clause-memory : goal.returns-in-Stdio-clause-memory

@@ -5,4 +5,4 @@ use Rattle.cd_wire.proofs.head.kept_fields.Given as goal
 
 -- the fields of the headers so far
 abbrev pub invariant-loop-header : goal.invariant-loop-header
-invariant-loop-header l = l.fields ≡ map field_of (map header_parts (take l.header-index l.headers))
+invariant-loop-header l = l.fields.items ≡ map field_of (map header_parts (take l.header-index l.headers))

@@ -1,0 +1,112 @@
+-- Episodes: what a pass does in the history for a request, from its Begin to its Finish, and how the request is answered for it.
+use Rattle.std.specs.Prelude.{◌≡◌, ◌⊎◌, ℕ, ◌==◌, ◌&&◌, ◌||◌, not, Bool, true, false, List, [], ◌∷◌, ◌++◌, length, IsTrue}
+use Rattle.cd_outside.specs.declared.address.Address.{Address}
+use Rattle.cd_outside.specs.declared.key.Key.{Key}
+use Rattle.cd_outside.specs.declared.past.Logged.{Logged}
+use Rattle.cd_tree.specs.declared.tree.Tree.{Tree}
+use Rattle.cd_wire.specs.declared.answer.Answer.{Answer}
+use Rattle.cd_wire.specs.declared.request.Request.{Request}
+use Rattle.cd_legal.specs.declared.limits.TheConstants.{MAX_DRAFTS}
+use Rattle.cd_legal.specs.declared.entry.Entry.{Entry}
+use Rattle.cd_legal.specs.declared.entry.Entry.TheVariants.{Begin, Finish, Halt}
+use Rattle.cd_legal.specs.declared.entry.Signed.{Signed}
+use Rattle.cd_legal.specs.State.{Conf, conf_of}
+use Rattle.cd_legal.specs.Placed.{Placed, met}
+use Rattle.cd_admin.specs.Answers.{done}
+use Rattle.cd_admin.specs.Deciding.{replace, halt}
+use Rattle.cd_serve.specs.declared.fault.ChangeFault.{ChangeFault}
+use Rattle.cd_serve.specs.declared.fault.ChangeFault.TheVariants.{CannotOpen, NoDraftLeft}
+use Rattle.cd_serve.specs.Meanings.{Meaning, sent, says_close, IsCutOff, IsForNobody, Decides, IsAnswer}
+use Rattle.cd_serve.specs.Faults.{fault_answer, halted_answer}
+use Rattle.cd_serve.specs.Blocks.{due, IsDue}
+use Rattle.cd_serve.specs.Changes.{IsPublished, IsGivenUp, IsUndone, IsKept, IsSuperseded, IsHalted}
+
+-- pass k begins a request under the current serial, does this work, finishes it, and makes the block that follows
+pub record Episode (k : ℕ) (own : List Placed) : Type 0 where
+  pub begin : Placed
+  pub work : List Placed
+  pub finish : Placed
+  pub block : List Placed
+  pub whole : own ≡ begin ∷ (work ++ finish ∷ block)
+  pub begins : begin.entry ≡ Begin k (met begin).serial
+  pub finishes : finish.entry ≡ Finish k
+  pub retires : IsDue (met finish) (due (met finish) k) block
+
+-- the configuration that is current where an entry stands
+abbrev pub conf_met : Placed → Conf
+conf_met p = conf_of (met p) (met p).serial
+
+-- ---- the kinds of answers
+
+-- how a request is answered: by an app, or by the admin API without a change; by a change that was made; since a key could not
+-- be opened; since no configuration may follow; by the halt; since no draft is left
+pub data Kind : Type 0 where
+  served changed unopened kept halting spent : Kind
+
+-- a request that came to an address: which answer and which lines an episode with this Begin, work and Finish gives it
+module _ (m : Meaning) (k : ℕ) (at : Address) (q : Request) where
+  -- the admin API replaces the tree of the configuration by another one, which its modules find without a fault
+  abbrev pub Replaces : Placed → Tree → Type 0
+  Replaces begin tree = Decides m (conf_met begin) at q (replace tree)
+
+  -- it halts
+  abbrev pub Halts : Placed → Type 0
+  Halts begin = Decides m (conf_met begin) at q halt
+
+  abbrev pub Answers : Kind → Placed → List Placed → Placed → Answer → List Logged → Type 0
+  Answers Kind.served begin work finish r lines = IsAnswer m (conf_met begin) at q r lines × (work ≡ [])
+  Answers Kind.changed begin work finish r lines =
+      ((tree : Tree) × Replaces begin tree × IsPublished m tree q (met begin).serial work)
+      × (r ≡ done) × (lines ≡ [])
+  Answers Kind.unopened begin work finish r lines =
+      ((tree : Tree) × (key : Key) × Replaces begin tree × IsUndone m tree key work × (r ≡ fault_answer (CannotOpen key)))
+      × (lines ≡ [])
+  Answers Kind.kept begin work finish r lines =
+      ((tree : Tree) × (why : ChangeFault) × Replaces begin tree × IsKept m tree k (met begin).serial why work × (r ≡ fault_answer why))
+      × (lines ≡ [])
+  Answers Kind.halting begin work finish r lines =
+      Halts begin × IsHalted work × (r ≡ halted_answer) × (lines ≡ [])
+  Answers Kind.spent begin work finish r lines =
+      ((tree : Tree) × Replaces begin tree) × (work ≡ []) × (length (met finish).drafts ≡ MAX_DRAFTS)
+      × (r ≡ fault_answer NoDraftLeft) × (lines ≡ [])
+
+-- ---- requests that are decided again
+
+-- the entry is a Halt
+abbrev pub is_halt : Entry → Bool
+is_halt (Halt n) = true
+is_halt e = false
+
+-- another pass has signed a Halt
+abbrev pub another_halted : ℕ → List Signed → Bool
+another_halted k [] = false
+another_halted k (x ∷ xs) = (is_halt x.entry && not (x.by == k)) || another_halted k xs
+
+module _ (m : Meaning) (k : ℕ) (at : Address) (q : Request) where
+  -- nothing is answered and the request is decided again, since another pass was first: it published before the draft was given
+  -- up, or it halted before the Finish
+  abbrev pub IsAgain : Placed → List Placed → Placed → Type 0
+  IsAgain begin work finish =
+      ((tree : Tree) × Replaces m k at q begin tree × IsSuperseded m tree (met begin).serial work)
+      ⊎ (Halts m k at q begin × (work ≡ []) × IsTrue (another_halted k finish.before))
+
+-- ---- how the last episode of a request ends it
+
+-- answered, and whether the connection closes then; answered, but a line was not logged; broken off before all of its answer was
+-- sent; or dropped, since nobody answers
+pub data Outcome : Type 0 where
+  answered : Bool → Outcome
+  unlogged broken dropped : Outcome
+
+module _ (m : Meaning) (k : ℕ) (at : Address) (q : Request) where
+  -- what is sent and logged
+  abbrev pub Ends : Outcome → Placed → List Placed → Placed → List ℕ → List Logged → Type 0
+  Ends (Outcome.answered close) begin work finish put lines =
+      (kind : Kind) × (r : Answer) × Answers m k at q kind begin work finish r lines × (put ≡ sent q r) × (close ≡ says_close q r)
+  Ends Outcome.unlogged begin work finish put lines =
+      (kind : Kind) × (r : Answer) × (all : List Logged) × Answers m k at q kind begin work finish r all × (put ≡ sent q r) × IsCutOff lines all
+  Ends Outcome.broken begin work finish put lines =
+      (((kind : Kind) × (r : Answer) × (all : List Logged) × Answers m k at q kind begin work finish r all × IsCutOff put (sent q r))
+      ⊎ ((work ≡ []) × (put ≡ []))) × (lines ≡ [])
+  Ends Outcome.dropped begin work finish put lines =
+      IsForNobody m (conf_met begin) at q × (work ≡ []) × (put ≡ []) × (lines ≡ [])

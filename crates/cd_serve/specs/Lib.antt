@@ -1,0 +1,10 @@
+pub mod Meanings
+pub mod Faults
+pub mod Blocks
+pub mod Changes
+pub mod Episodes
+pub mod Replies
+pub mod Connections
+pub mod Lanes
+pub mod Joining
+pub mod Serving

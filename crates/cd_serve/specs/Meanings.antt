@@ -1,0 +1,70 @@
+-- What configurations mean to those who serve requests under them.
+use Rattle.std.specs.Prelude.{◌≡◌, ℕ, ◌<◌, ◌⊎◌, ◌||◌, Bool, List, [], length, take, map, codes, Result}
+use Rattle.std.specs.Str.{bytes_eq}
+use Rattle.cd_outside.specs.declared.address.Address.{Address}
+use Rattle.cd_outside.specs.declared.past.Logged.{Logged}
+use Rattle.cd_tree.specs.declared.tree.Tree.{Tree}
+use Rattle.cd_wire.specs.declared.answer.Answer.{Answer}
+use Rattle.cd_wire.specs.declared.request.Request.{Request}
+use Rattle.cd_wire.specs.Render.{render}
+use Rattle.cd_module.specs.declared.fault.LoadFault.{LoadFault}
+use Rattle.cd_legal.specs.declared.plan.Plan.{Plan}
+use Rattle.cd_legal.specs.State.{Conf}
+use Rattle.cd_module_set.specs.Acts.{Acts, conf_acts}
+use Rattle.cd_module_set.specs.declared.target.Line.{Line}
+use Rattle.cd_module_set.specs.declared.target.Target.TheVariants as who
+use Rattle.cd_admin.specs.Deciding.{Outcome as Decision, reply, decided}
+
+-- what a set of modules means
+pub record Meaning : Type 0 where
+  -- what a configuration with this tree does
+  pub acts : Tree → Acts
+  -- the modules and apps that a tree comes to as a configuration, or its first fault
+  pub plan : Tree → Result Plan LoadFault
+
+-- ---- what is sent for an answer
+
+-- the request is HEAD, whose answer has no body (RFC 9110, section 9.3.2)
+abbrev pub is_head : Request → Bool
+is_head q = bytes_eq q.method (codes "HEAD")
+
+-- the bytes of an answer to the request
+abbrev pub sent : Request → Answer → List ℕ
+sent q r = render r (is_head q) q.close
+
+-- the answer or the request says that the connection closes
+abbrev pub says_close : Request → Answer → Bool
+says_close q r = r.close || q.close
+
+-- a line of an access log, as a lane gives it to its writer
+abbrev pub logged : Line → Logged
+logged l = record { key = l.key; line = l.text }
+
+-- less than all of the whole, from its beginning
+abbrev pub IsCutOff : {A : Type 0} → List A → List A → Type 0
+IsCutOff part whole = (count : ℕ) × (count < length whole) × (part ≡ take count whole)
+
+-- ---- a request under a configuration
+
+-- a request that came to an address, under a configuration
+module _ (m : Meaning) (conf : Conf) (at : Address) (q : Request) where
+  -- nobody answers there
+  abbrev pub IsForNobody : Type 0
+  IsForNobody = (conf_acts m.acts conf).target at ≡ who.Nobody
+
+  -- an app answers there, so and with these lines
+  pub record AppAnswers (r : Answer) (lines : List Logged) : Type 0 where
+    pub there : (conf_acts m.acts conf).target at ≡ who.App
+    pub answer : r ≡ (conf_acts m.acts conf).answer at q
+    pub logs : lines ≡ map logged ((conf_acts m.acts conf).lines at q r)
+
+  -- the admin API answers there, and comes to this decision under the tree of the configuration
+  pub record Decides (decision : Decision) : Type 0 where
+    pub tree : Tree
+    pub runs : conf ≡ Conf.Of tree
+    pub there : (conf_acts m.acts conf).target at ≡ who.Admin
+    pub comes_to : decided m.plan tree q ≡ decision
+
+  -- what is answered where nothing changes: by an app with its lines, or by the admin API, which logs none
+  abbrev pub IsAnswer : Answer → List Logged → Type 0
+  IsAnswer r lines = AppAnswers r lines ⊎ (Decides (reply r) × (lines ≡ []))

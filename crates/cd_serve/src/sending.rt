@@ -1,0 +1,27 @@
+//! What is sent for an answer, and whether the connection closes then.
+ghost use Rattle.std.specs.Prelude.{◌≡◌, IfOk};
+ghost use Rattle.cd_serve.specs.Meanings.{is_head, sent, says_close};
+
+use cd_text::{NoMemory, Octets};
+use cd_wire::{Answer, Request, render};
+use std::alloc::Global;
+
+fn is_head(request: &Request) -> bool
+    ensures { result ≡ is_head request.now }
+{
+    request.method.equals("HEAD")
+}
+
+/// The bytes of an answer to the request.
+pub fn sent(alloc: Global, request: &Request, answer: &Answer) -> Result<Octets, NoMemory>
+    ensures { IfOk result (λ bytes. bytes ≡ sent request.now answer.now) }
+{
+    render(alloc, answer, is_head(request), request.close)
+}
+
+/// Whether the connection closes after the answer: the answer or the request says so.
+pub fn says_close(request: &Request, answer: &Answer) -> bool
+    ensures { result ≡ says_close request.now answer.now }
+{
+    answer.close || request.close
+}
