@@ -1,0 +1,4 @@
+pub mod Turned
+pub mod Told
+pub mod Requested
+pub mod Drafted

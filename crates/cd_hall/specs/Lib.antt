@@ -1,0 +1,4 @@
+pub mod Boards
+pub mod Drafts
+pub mod Calls
+pub mod Turns
