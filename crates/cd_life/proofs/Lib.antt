@@ -1,11 +1,3 @@
-pub mod Keeping
-pub mod Lists
-pub mod Parts
-pub mod Standing
-pub mod Ticketing
-pub mod Openings
-pub mod Planned
-pub mod Drafted
-pub mod Ending
-pub mod Counts
-pub mod Untouched
+pub mod Shelving
+pub mod Standings
+pub mod Laws

@@ -1,22 +1,18 @@
--- Which tree is published, by what asks for it.
-use Rattle.std.specs.Prelude.{◌≡◌, ℕ, ◌==◌, Bool, ◌||◌, is_some, cond, List, [], ◌∷◌, Option, Some, None}
+-- What is kept of the configurations that were published.
+use Rattle.std.specs.Prelude.{◌≡◌, ℕ, ◌==◌, Bool, ◌&&◌, slice_get, cond, List, [], ◌∷◌, Option, Some, None}
+use Rattle.std.specs.Arc.{arc_value}
 use Rattle.cd_tree.specs.declared.tree.Tree.{Tree}
-use Rattle.cd_wire.specs.declared.request.Request.{Request}
-use Rattle.cd_legal.specs.declared.entry.Change.{Change}
 use Rattle.cd_legal.specs.State.{Conf}
-use Rattle.cd_legal.specs.declared.entry.Change.TheVariants as change
+use Rattle.cd_life.specs.declared.board.Board.{Board}
+use Rattle.cd_life.specs.declared.board.Kept.{Kept}
+
+abbrev pub tree_of : {A B : Type 0} {g : _} → Kept A B g → Tree
+tree_of k = (arc_value k.loaded).tree
 
 -- the tree of the first of these with the serial
-abbrev pub tree_at : {K : Type 0} → List K → (K → ℕ) → (K → Tree) → ℕ → Option Tree
-tree_at [] serial tree n = None
-tree_at (k ∷ ks) serial tree n = cond (serial k == n) (Some (tree k)) (tree_at ks serial tree n)
-
--- the first tree is asked for by no request; each other one is what its request makes of the tree before
-abbrev pub Suits : (Tree → Request → Option Tree) → Option Tree → Change → Tree → Type 0
-Suits makes None change.First tree = Unit {0}
-Suits makes None (change.Request request) tree = ⊥
-Suits makes (Some before) change.First tree = ⊥
-Suits makes (Some before) (change.Request request) tree = makes before request ≡ Some tree
+abbrev pub tree_at : {A B : Type 0} {g : _} → List (Kept A B g) → ℕ → Option Tree
+tree_at [] n = None
+tree_at (k ∷ ks) n = cond (k.serial == n) (Some (tree_of k)) (tree_at ks n)
 
 -- what runs where a tree was published, or none
 abbrev pub conf_kept : Option Tree → Conf
@@ -27,6 +23,11 @@ conf_kept (Some tree) = Conf.Of tree
 abbrev pub conf_there : Bool → Option Tree → ℕ → Conf
 conf_there halted kept n = cond halted Conf.Halted (cond (n == 0) Conf.Opening (conf_kept kept))
 
--- there is something to share
-abbrev pub is_there : Bool → Option Tree → ℕ → Bool
-is_there halted kept n = halted || ((n == 0) || is_some kept)
+-- what the board has for a serial
+abbrev pub conf_here : {A F B : Type 0} {g : _} → Board A F B g → ℕ → Conf
+conf_here b n = conf_there (b.desk.halted && (n == b.desk.serial)) (tree_at b.kept.items n) n
+
+-- a place is that of the first one with the serial; none where no one has it
+abbrev pub IsPlaceOf : {A B : Type 0} {g : _} → List (Kept A B g) → ℕ → Option ℕ → Type 0
+IsPlaceOf ks n None = tree_at ks n ≡ None
+IsPlaceOf {A} {B} {g} ks n (Some place) = (k : Kept A B g) × (slice_get ks place ≡ Some k) × (k.serial ≡ n) × (tree_at ks n ≡ Some (tree_of k))

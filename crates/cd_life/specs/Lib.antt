@@ -1,12 +1,4 @@
-pub mod Instances
-pub mod Waiting
-pub mod Lines
-pub mod Rows
-pub mod Books
-pub mod Desks
-pub mod Opening
-pub mod Drafting
-pub mod Publishing
-pub mod Lefts
 pub mod Changes
 pub mod Shares
+pub mod Fits
+pub mod Standing

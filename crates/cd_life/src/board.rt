@@ -1,10 +1,9 @@
-use crate::desk::Desk;
-use crate::left::Left;
 use crate::share::Nothing;
+use cd_desk::{Desk, Left};
 use cd_module_set::{Loaded, ModuleSet};
 use std::sync::Arc;
 
-/// A configuration that was published and is not retired.
+/// A configuration that was published, and is not retired or was published last.
 pub struct Kept<M: ModuleSet> {
     pub(crate) serial: u32,
     pub(crate) loaded: Arc<Loaded<M>>,

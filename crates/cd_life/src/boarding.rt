@@ -1,20 +1,20 @@
-ghost use Rattle.std.specs.Prelude.{◌≡◌, ◌<◌, ◌≤◌, ◌+◌, ◌-◌, ◌^◌, ◌++◌, ◌∷◌, [], ℕ, Err, Some, None, IfOk, IfErr, OnErr, is_err, false, slice_get, length};
+ghost use Rattle.std.specs.Prelude.{◌≡◌, ◌<◌, ◌≤◌, ◌+◌, ◌^◌, ℕ, Err, Some, None, IfOk, IfErr, OnErr, is_err, false, slice_get, length};
 ghost use Rattle.std.specs.Arc.{arc_value};
-ghost use Rattle.std.specs.Vec.{vec_len, vec_capacity};
 ghost use Rattle.cd_outside.specs.Counts.{Rose};
-ghost use Rattle.cd_tree.specs.declared.tree.Tree.{Tree};
 ghost use Rattle.cd_legal.specs.declared.limits.TheConstants.{MAX_DRAFTS};
 ghost use Rattle.cd_legal.specs.declared.entry.Entry.TheVariants as entry;
-ghost use Rattle.cd_life.specs.declared.drafts.DraftFault.TheVariants as fault;
-ghost use Rattle.cd_life.specs.Instances.{failed_in};
-ghost use Rattle.cd_life.specs.Desks.{AddsTo, Keeps, HasTicket};
-ghost use Rattle.cd_life.specs.Drafting.{drafts_in};
-ghost use Rattle.cd_life.specs.Changes.{tree_at, Suits};
-ghost use Rattle.cd_life.specs.Lefts.{IsLeft, IsOf, one_made, one_started, step_at};
+ghost use Rattle.cd_desk.specs.declared.drafts.DraftFault.TheVariants as fault;
+ghost use Rattle.cd_desk.specs.Instances.{failed_in};
+ghost use Rattle.cd_desk.specs.Desks.{HasTicket};
+ghost use Rattle.cd_desk.specs.Drafting.{drafts_in};
+ghost use Rattle.cd_desk.specs.Lefts.{IsLeft, one_made, one_started, step_at};
+ghost use Rattle.cd_life.specs.Changes.{conf_here};
+ghost use Rattle.cd_life.specs.Fits.{Suits};
+ghost use Rattle.cd_life.specs.Standing.{Adds, Keeps};
 
-use crate::board::{Board, Draft, Kept};
-use crate::drafts::DraftFault;
-use crate::left::{Left, Step};
+use crate::board::{Board, Draft};
+use crate::kept::keep;
+use cd_desk::{DraftFault, Left, Step};
 use cd_legal::{Change, Plan};
 use cd_module_set::{Loaded, ModuleSet};
 use cd_outside::{Fixtures, Key};
@@ -43,17 +43,12 @@ impl<M: ModuleSet, F: Fixtures> Board<M, F> {
     /// # Errors
     ///
     /// `Spent` where as many drafts were made as a history may have, and `NoMemory`. The history is as it was after both.
-    #[tactic(auto, using(crate::proofs::Counts::new_is, crate::proofs::Counts::new_of))]
     pub fn draft(&mut self, alloc: Global, loaded: Loaded<M>) -> Result<Draft<M>, DraftFault>
-        ensures entry { IfOk result (λ draft. AddsTo F.calls self.old.desk self.new.desk (entry.Draft draft.left.number loaded.tree loaded.plan)) }
-        ensures at { IfOk result (λ draft. IsLeft self.new.desk.books draft.left) }
-        ensures tree { IfOk result (λ draft. IsOf self.new.desk.books draft.left.number loaded.tree) }
+        ensures entry { IfOk result (λ draft. Adds F.calls M.plan M.change self.old self.new (entry.Draft draft.left.number loaded.tree loaded.plan)) }
+        ensures draft { IfOk result (λ draft. IsLeft self.new.desk.books loaded.tree draft.left) }
+        ensures left { IfOk result (λ draft. draft.left ≡ record { number = draft.left.number; made = 0; modules = length loaded.plan.modules; started = 0; apps = length loaded.plan.apps; failed = false }) }
         ensures loaded { IfOk result (λ draft. arc_value draft.loaded ≡ loaded) }
-        ensures room { IfOk result (λ _. vec_len self.new.kept + self.new.live ≤ vec_capacity self.new.kept) }
-        ensures live { IfOk result (λ _. self.new.live ≡ self.old.live + 1) }
-        ensures kept { self.new.kept.items ≡ self.old.kept.items }
-        ensures opening { self.new.opening ≡ self.old.opening }
-        ensures err { OnErr result (Keeps F.calls self.old.desk self.new.desk) }
+        ensures err { OnErr result (Keeps F.calls M.plan M.change self.old self.new) }
         ensures spent { result ≡ Err fault.Spent → drafts_in self.old.desk.books ≡ MAX_DRAFTS }
         ensures unspent { IfOk result (λ _. drafts_in self.old.desk.books < MAX_DRAFTS) }
     {
@@ -75,18 +70,14 @@ impl<M: ModuleSet, F: Fixtures> Board<M, F> {
     /// Makes the next instance of a draft. It takes the keys of its module in order, and opens each that nobody had. The key in
     /// `Err` is the one that could not be opened in this call: those before it are held until the draft is cleaned.
     pub fn make(&mut self, draft: &mut Draft<M>) -> Result<Step, Key>
-        requires at { IsLeft self.old.desk.books draft.old.left }
+        requires draft { IsLeft self.old.desk.books (arc_value draft.old.loaded).tree draft.old.left }
         requires more { draft.old.left.made < draft.old.left.modules }
         requires unfailed { draft.old.left.failed ≡ false }
-        ensures entry { (taken : ℕ) × AddsTo F.calls self.old.desk self.new.desk (entry.Made draft.old.left.number draft.old.left.made taken (failed_in result)) }
+        ensures entry { (taken : ℕ) × Adds F.calls M.plan M.change self.old self.new (entry.Made draft.old.left.number draft.old.left.made taken (failed_in result)) }
         ensures left { draft.new.left ≡ one_made draft.old.left (is_err result) }
-        ensures at { IsLeft self.new.desk.books draft.new.left }
-        ensures tree { (t : Tree) → IsOf self.old.desk.books draft.old.left.number t → IsOf self.new.desk.books draft.old.left.number t }
-        ensures step { IfOk result (λ step. step ≡ step_at draft.new.left.made draft.new.left.modules) }
+        ensures draft { IsLeft self.new.desk.books (arc_value draft.new.loaded).tree draft.new.left }
         ensures loaded { draft.new.loaded ≡ draft.old.loaded }
-        ensures kept { self.new.kept ≡ self.old.kept }
-        ensures opening { self.new.opening ≡ self.old.opening }
-        ensures live { self.new.live ≡ self.old.live }
+        ensures step { IfOk result (λ step. step ≡ step_at draft.new.left.made draft.new.left.modules) }
         ensures cause { IfErr result (λ _. Rose (F.faults self.old.desk.fixtures) (F.faults self.new.desk.fixtures)) }
     {
         self.desk.make_next(&mut draft.left)
@@ -94,19 +85,15 @@ impl<M: ModuleSet, F: Fixtures> Board<M, F> {
 
     /// Starts the next app of a draft, in the same way.
     pub fn start(&mut self, draft: &mut Draft<M>) -> Result<Step, Key>
-        requires at { IsLeft self.old.desk.books draft.old.left }
+        requires draft { IsLeft self.old.desk.books (arc_value draft.old.loaded).tree draft.old.left }
         requires ready { draft.old.left.made ≡ draft.old.left.modules }
         requires more { draft.old.left.started < draft.old.left.apps }
         requires unfailed { draft.old.left.failed ≡ false }
-        ensures entry { (taken : ℕ) × AddsTo F.calls self.old.desk self.new.desk (entry.Started draft.old.left.number draft.old.left.started taken (failed_in result)) }
+        ensures entry { (taken : ℕ) × Adds F.calls M.plan M.change self.old self.new (entry.Started draft.old.left.number draft.old.left.started taken (failed_in result)) }
         ensures left { draft.new.left ≡ one_started draft.old.left (is_err result) }
-        ensures at { IsLeft self.new.desk.books draft.new.left }
-        ensures tree { (t : Tree) → IsOf self.old.desk.books draft.old.left.number t → IsOf self.new.desk.books draft.old.left.number t }
-        ensures step { IfOk result (λ step. step ≡ step_at draft.new.left.started draft.new.left.apps) }
+        ensures draft { IsLeft self.new.desk.books (arc_value draft.new.loaded).tree draft.new.left }
         ensures loaded { draft.new.loaded ≡ draft.old.loaded }
-        ensures kept { self.new.kept ≡ self.old.kept }
-        ensures opening { self.new.opening ≡ self.old.opening }
-        ensures live { self.new.live ≡ self.old.live }
+        ensures step { IfOk result (λ step. step ≡ step_at draft.new.left.started draft.new.left.apps) }
         ensures cause { IfErr result (λ _. Rose (F.faults self.old.desk.fixtures) (F.faults self.new.desk.fixtures)) }
     {
         self.desk.start_next(&mut draft.left)
@@ -116,51 +103,38 @@ impl<M: ModuleSet, F: Fixtures> Board<M, F> {
     ///
     /// The first one comes by no request. Each other one has the tree that its request makes of the tree of the serial before.
     pub fn publish(&mut self, draft: Draft<M>, from: u32, change: Change)
-        requires at { IsLeft self.old.desk.books draft.left }
+        requires draft { IsLeft self.old.desk.books (arc_value draft.loaded).tree draft.left }
         requires made { draft.left.made ≡ draft.left.modules }
         requires started { draft.left.started ≡ draft.left.apps }
         requires unfailed { draft.left.failed ≡ false }
         requires running { self.old.desk.halted ≡ false }
         requires current { from ≡ self.old.desk.serial }
         requires bound { from + 1 < 2 ^ 32 }
-        requires change { Suits M.change (tree_at self.old.kept.items (λ kept. kept.serial) (λ kept. (arc_value kept.loaded).tree) from) change (arc_value draft.loaded).tree }
-        requires room { vec_len self.old.kept + self.old.live ≤ vec_capacity self.old.kept }
-        requires live { 0 < self.old.live }
-        ensures entry { AddsTo F.calls self.old.desk self.new.desk (entry.Publish draft.left.number (from + 1) from change) }
+        requires change { Suits M.change (conf_here self.old from) change (arc_value draft.loaded).tree }
+        ensures entry { Adds F.calls M.plan M.change self.old self.new (entry.Publish draft.left.number (from + 1) from change) }
         ensures serial { self.new.desk.serial ≡ from + 1 }
-        ensures kept { self.new.kept.items ≡ self.old.kept.items ++ record { serial = from + 1; loaded = draft.loaded } ∷ [] }
-        ensures room { vec_len self.new.kept + self.new.live ≤ vec_capacity self.new.kept }
-        ensures live { self.new.live + 1 ≡ self.old.live }
-        ensures opening { self.new.opening ≡ self.old.opening }
     {
         let Draft { left, loaded } = draft;
         drop(change);
         self.desk.publish(left.number);
         let serial = self.desk.serial;
-        self.kept.push_reserved(Kept { serial, loaded });
-        self.live -= 1;
+        self.live = self.live.saturating_sub(1);
+        keep(&mut self.kept, serial, loaded);
     }
 
     /// Begins a request of a caller, which has none, under the current serial.
     pub fn begin(&mut self, caller: u32) -> u32
-        requires free { slice_get self.old.desk.tickets.items caller ≡ Some None }
-        requires few { self.old.desk.begun < 2 ^ 64 - 1 }
-        ensures entry { AddsTo F.calls self.old.desk self.new.desk (entry.Begin caller result) }
+        requires { slice_get self.old.desk.tickets.by_caller.items caller ≡ Some None }
+        ensures entry { Adds F.calls M.plan M.change self.old self.new (entry.Begin caller result) }
         ensures serial { result ≡ self.old.desk.serial }
-        ensures kept { self.new.kept ≡ self.old.kept }
-        ensures opening { self.new.opening ≡ self.old.opening }
-        ensures live { self.new.live ≡ self.old.live }
     {
         self.desk.begin(caller)
     }
 
     /// Ends the request of a caller.
     pub fn finish(&mut self, caller: u32)
-        requires { HasTicket self.old.desk.tickets.items caller }
-        ensures entry { AddsTo F.calls self.old.desk self.new.desk (entry.Finish caller) }
-        ensures kept { self.new.kept ≡ self.old.kept }
-        ensures opening { self.new.opening ≡ self.old.opening }
-        ensures live { self.new.live ≡ self.old.live }
+        requires { HasTicket self.old.desk.tickets.by_caller.items caller }
+        ensures { Adds F.calls M.plan M.change self.old self.new (entry.Finish caller) }
     {
         self.desk.finish(caller);
     }

@@ -1,6 +1,11 @@
+use Rattle.std.proofs.Common.{◌≡◌, ◌∙◌, ◌-◌, ℕ, ap, sym, subst, rules, refl}
+use Rattle.cd_life.proofs.Standings.{adds, shelf_abandon}
 use Rattle.cd_life.proofs.board.Board.abandon.Goals as goal
 
 pub abandon-requires : goal.abandon-requires
-abandon-requires g c =
-    let i = c.requires.at in
-    record { can = record { place = i.place; row = i.row; at = i.at; live = i.follows.live } }
+abandon-requires g c = (_, c.requires)
+
+pub returns-clause-entry : goal.returns-clause-entry
+returns-clause-entry g c =
+    let live : c.saturating_sub-self.result ≡ c.args.self.now.live - 1 = search rules in
+    adds g.F.Fixtures.calls g.M.ModuleSet.plan g.M.ModuleSet.change c.args.self.now _ _ c.abandon.ensures.entry (λ o log h. tt) (shelf_abandon g.F.Fixtures.calls g.M.ModuleSet.plan g.M.ModuleSet.change c.args.self.now _ _ refl live)

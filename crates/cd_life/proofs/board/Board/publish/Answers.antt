@@ -1,11 +1,14 @@
-use Rattle.std.proofs.Common.{◌∙◌, ◌+◌, ℕ, sym, subst, arith}
+use Rattle.std.proofs.Common.{◌≡◌, ◌∙◌, ◌+◌, ◌-◌, ℕ, sym, ap, subst, arith, rules, refl}
+use Rattle.std.specs.Arc.{arc_value}
 use Rattle.cd_legal.specs.declared.entry.Entry.TheVariants.{Publish}
-use Rattle.cd_life.specs.Desks.{AddsTo}
+use Rattle.cd_desk.specs.Desks.{AddsTo}
+use Rattle.cd_life.proofs.Standings.{adds, shelf_publish}
+use Rattle.cd_life.proofs.Laws.{publish_fits}
 use Rattle.cd_life.proofs.board.Board.publish.Goals as goal
 
 pub publish-requires : goal.publish-requires
 publish-requires g c =
-    let i = c.requires.at in
+    let i = c.requires.draft in
     let f = i.follows in
     let from = c.requires.current in
     let bound = c.requires.bound in
@@ -21,4 +24,16 @@ publish-requires g c =
     }
 
 pub returns-clause-entry : goal.returns-clause-entry
-returns-clause-entry g c = subst (λ (z : ℕ). AddsTo g.F.Fixtures.calls c.args.self.now.desk c.publish.new.self (Publish c.args.draft.left.number (z + 1) z c.args.change)) (sym c.requires.current) (c.publish.ensures.entry c.args.change)
+returns-clause-entry g c =
+    let calls = g.F.Fixtures.calls in
+    let plan = g.M.ModuleSet.plan in
+    let change = g.M.ModuleSet.change in
+    let v = c.args.self.now in
+    let l = c.args.draft.left in
+    let t = (arc_value c.args.draft.loaded).tree in
+    let live : c.saturating_sub-self.result ≡ v.live - 1 = search rules in
+    let serial : c.publish.new.self.serial ≡ c.args.from + 1 = search rules in
+    adds calls plan change v _ _
+    (subst (λ (z : ℕ). AddsTo calls v.desk c.publish.new.self (Publish l.number (z + 1) z c.args.change)) (sym c.requires.current) (c.publish.ensures.entry c.args.change))
+    (λ o log h. publish_fits calls plan change o v log h t l c.args.from (c.args.from + 1) c.args.change c.requires.draft c.requires.current c.requires.change)
+    (shelf_publish calls plan change v _ l c.args.from c.args.change t (record { serial = c.publish.new.self.serial; loaded = c.args.draft.loaded }) serial refl c.requires.draft c.keep.ensures.items c.keep.ensures.len c.keep.ensures.capacity live)

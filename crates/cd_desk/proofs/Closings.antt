@@ -1,0 +1,58 @@
+-- What is left of a draft that is given up.
+use Rattle.std.proofs.Common.{◌≡◌, ℕ, ◌+◌, ◌<◌, ◌||◌, true, Bool, refl, sym, ap, ◌∙◌, arith, subst, Some, None, slice_get}
+use Rattle.cd_tree.specs.declared.tree.Tree.{Tree}
+use Rattle.cd_legal.specs.declared.state.Life.{Life}
+use Rattle.cd_legal.specs.declared.state.Life.TheVariants.{Abandoned}
+use Rattle.cd_legal.specs.Abandoned.{is_abandoned}
+use Rattle.cd_desk.specs.declared.row.Row.{Row}
+use Rattle.cd_desk.specs.declared.books.Books.{Books}
+use Rattle.cd_desk.specs.declared.desk.Desk.{Desk}
+use Rattle.cd_desk.specs.declared.left.Left.{Left}
+use Rattle.cd_desk.specs.declared.closing.Closing.{Closing}
+use Rattle.cd_desk.specs.Books.{RowAt, Lives}
+use Rattle.cd_desk.specs.Publishing.{CanAbandon}
+use Rattle.cd_desk.specs.Lefts.{IsLeft, Follows}
+use Rattle.cd_desk.specs.Closings.{IsRest, IsClosing, MayClean, may_clean_row}
+use Rattle.cd_desk.proofs.Counts.{now_at, was_at}
+
+pub can_abandon : (b : Books) (t : Tree) (l : Left) → IsLeft b t l → CanAbandon b l.number
+can_abandon b t l i = record { place = i.place; row = i.row; at = i.at; live = i.follows.live }
+
+module _ (v w : Books) (t : Tree) (l : Left) (place : ℕ) (number : l.number ≡ v.first + place) (m : Lives Abandoned place v w) (i : IsLeft v t l) where
+  same : i.row ≡ m.changes.was
+  same = was_at v w l.number place i.place i.row m.changes number i.at
+
+  pub abandoned_rest : IsRest w (record { number = l.number; serial = None; apps = l.started; instances = l.made })
+  abandoned_rest =
+      let f : Follows l m.changes.was = subst (λ z. Follows l z) same i.follows in
+      let app_none = f.unended.1 in
+      let none = f.unended.0 in
+      let apps_is = ap (λ z. z.ended) m.apps in
+      let modules_is = ap (λ z. z.ended) m.modules in
+      let apps_were = ap (λ z. z.opened) m.apps in
+      let modules_were = ap (λ z. z.opened) m.modules in
+      let started = f.started in
+      let made = f.made in
+      record {
+        place = place;
+        row = m.changes.is;
+        at = now_at v w l.number place m.changes number;
+        life = m.life;
+        apps = omega (arith, app_none, apps_is, apps_were, started);
+        instances = omega (arith, none, modules_is, modules_were, made);
+      }
+
+or_true : (b : Bool) → (true || b) ≡ true
+or_true b = refl
+
+pub abandoned_may : (v w : Books) (d place : ℕ) → d ≡ v.first + place → (m : Lives Abandoned place v w) → MayClean w d
+abandoned_may v w d place number m other r at =
+    let same : r ≡ m.changes.is = row_there w d place other r m.changes.is (now_at v w d place m.changes number) at in
+    ap may_clean_row same ∙ ap (λ (z : Life). is_abandoned z || m.changes.is.retired) m.life
+  where
+    row_there : (w : Books) (d place other : ℕ) (r s : Row) → RowAt w d place s → RowAt w d other r → r ≡ s
+    row_there w d place other r s at its =
+        let one = at.number in
+        let two = its.number in
+        let here : other ≡ place = omega (arith, one, two) in
+        let got : Some r ≡ Some s = sym its.there ∙ (ap (slice_get w.rows.items) here ∙ at.there) in cc

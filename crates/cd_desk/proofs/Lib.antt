@@ -1,0 +1,14 @@
+pub mod Keeping
+pub mod Lists
+pub mod Parts
+pub mod Standing
+pub mod Ticketing
+pub mod Openings
+pub mod Planned
+pub mod Drafted
+pub mod Ending
+pub mod Counts
+pub mod Untouched
+pub mod Closings
+pub mod Placing
+pub mod Laws

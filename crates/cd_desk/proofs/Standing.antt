@@ -1,0 +1,148 @@
+-- What a desk stands for after one entry more.
+use Rattle.std.proofs.Common.{◌≡◌, ℕ, zero, suc, ◌+◌, ◌≤◌, ◌==◌, Bool, true, false, ◌||◌, List, [], ◌∷◌, ◌++◌, refl, sym, ap, ◌∙◌, arith, Some, None, Option, set, slice_get, ⊎_elim, subst, IsTrue, option_map}
+use Rattle.std.proofs.lemmas.List.{append-nil}
+use Rattle.std.proofs.lemmas.Bool.{eqb-true}
+use Rattle.std.proofs.lemmas.Bool.Decides.{eqb_tells}
+use Rattle.cd_outside.specs.declared.fixtures.FixtureCall.{FixtureCall}
+use Rattle.cd_legal.specs.declared.part.Part.TheVariants.{Instance, App}
+use Rattle.cd_legal.specs.declared.entry.Entry.{Entry}
+use Rattle.cd_legal.specs.declared.entry.Entry.TheVariants.{Draft, Made, Started, Publish, Abandon, Stopped, Begin, Finish, Retire, Cleaned, Halt}
+use Rattle.cd_legal.specs.declared.entry.Signed.{Signed}
+use Rattle.cd_legal.specs.declared.state.State.{State}
+use Rattle.cd_legal.specs.declared.state.Drafted.{Drafted}
+use Rattle.cd_legal.specs.declared.state.Life.{Life}
+use Rattle.cd_legal.specs.declared.state.Life.TheVariants.{Live, Published, Abandoned}
+use Rattle.cd_legal.specs.Entry.{signed, entries}
+use Rattle.cd_legal.specs.State.{opening_state, holds, has_number, is_live, may_clean_instances, all_stopped, change_at, open_by, new_draft}
+use Rattle.cd_legal.specs.Legal.{allowed, after, legal, state_of, may_open, may_stop, may_clean, is_complete}
+use Rattle.cd_legal.specs.Calls.{fixture_calls, entry_calls, key_calls, shutting, is_shut}
+use Rattle.cd_legal.specs.Begins.{begins_by, begins_now}
+use Rattle.cd_legal.specs.Whole.{is_closed, is_closed_in}
+use Rattle.cd_legal.proofs.Histories.{first, second, both, legal_from-snoc, state_from-snoc, calls_from-snoc, entries-snoc}
+use Rattle.cd_legal.proofs.Begun.{begins_now-snoc}
+use Rattle.cd_legal.proofs.Confs.{IsSteady, legal-steady}
+use Rattle.cd_legal.proofs.Callers.{one_ticket}
+use Rattle.cd_legal.proofs.Facts.{opens, completes, stops, cleans, can}
+use Rattle.cd_legal.proofs.Places.{holds_kept, holds_push}
+use Rattle.cd_legal.proofs.Shutting.{shut_kept, may_shut}
+use Rattle.cd_desk.specs.declared.desk.Desk.{Desk}
+use Rattle.cd_desk.specs.declared.row.Row.{Row}
+use Rattle.cd_desk.specs.Rows.{Shows, ShowsAt}
+use Rattle.cd_desk.specs.Desks.{Agrees, AddsTo}
+use Rattle.cd_desk.proofs.Lists.{get_set_same, get_set_other}
+use Rattle.cd_legal.proofs.Places.{get_change_same, get_change_other}
+
+-- what is known of each state of a legal history
+pub record Known (s : State) : Type 0 where
+  pub steady : IsSteady s
+  pub single : (k : ℕ) → open_by k s.tickets ≤ 1
+
+-- ---- what is closed stays closed
+
+live_open : (retired : List ℕ) (x : Drafted) → x.life ≡ Live → is_closed retired x ≡ true → false ≡ true
+live_open retired x live closed = sym (ap (may_clean_instances retired) live) ∙ first (may_clean_instances retired x.life) _ closed
+
+opened_none : (retired : List ℕ) (x : Drafted) (A : Type 0) → x.life ≡ Live → is_closed retired x ≡ true → A
+opened_none retired x A live closed = absurd (let e : false ≡ true = live_open retired x live closed in cc)
+
+live_life : (l : Life) → is_live l ≡ true → l ≡ Live
+live_life Live e = refl
+live_life (Published n) e = cc
+live_life Abandoned e = cc
+
+more_left : (a e m : ℕ) (A : Type 0) → a + 1 + e ≡ m → e ≡ m → A
+more_left a e m A next all = absurd (omega arith)
+
+has_more : (n m : ℕ) (ns : List ℕ) → has_number n ns ≡ true → has_number n (ns ++ m ∷ []) ≡ true
+has_more n m [] e = cc
+has_more n m (k ∷ ns) e = pick (n == k) (has_number n ns) (has_number n (ns ++ m ∷ [])) (has_more n m ns) e
+  where
+    pick : (a b c : Bool) → (b ≡ true → c ≡ true) → (a || b) ≡ true → (a || c) ≡ true
+    pick true b c on e = refl
+    pick false b c on e = on e
+
+life_on : (l : Life) (m : ℕ) (ns : List ℕ) → may_clean_instances ns l ≡ true → may_clean_instances (ns ++ m ∷ []) l ≡ true
+life_on Live m ns e = e
+life_on (Published n) m ns e = has_more n m ns e
+life_on Abandoned m ns e = e
+
+closed_on : (o : Option Drafted) (m : ℕ) (ns : List ℕ) → holds (is_closed ns) o ≡ true → holds (is_closed (ns ++ m ∷ [])) o ≡ true
+closed_on None m ns e = e
+closed_on (Some x) m ns e = both (may_clean_instances (ns ++ m ∷ []) x.life) _ (life_on x.life m ns (first (may_clean_instances ns x.life) _ e)) (second (may_clean_instances ns x.life) _ e)
+
+pub closed_stays : (s : State) (e : Entry) (d : ℕ) → allowed s e ≡ true → is_closed_in s d ≡ true → is_closed_in (after s e) d ≡ true
+closed_stays s (Draft j tree plan) d may c = holds_push (is_closed s.retired) (new_draft tree plan) s.drafts d c
+closed_stays s (Made j i taken failed) d may c =
+    holds_kept (is_closed s.retired) (may_open Instance i taken failed s.pairs) _ (λ x m q. opened_none s.retired x _ (opens Instance i taken failed s.pairs x m).opened.live q) s.drafts j d may c
+closed_stays s (Started j i taken failed) d may c =
+    holds_kept (is_closed s.retired) (may_open App i taken failed s.pairs) _ (λ x m q. opened_none s.retired x _ (opens App i taken failed s.pairs x m).opened.live q) s.drafts j d may c
+closed_stays s (Publish j n from change) d may c =
+    holds_kept (is_closed s.retired) is_complete _ (λ x m q. opened_none s.retired x _ (completes x m).opened.live q) s.drafts j d (can s (Publish j n from change) may).complete c
+closed_stays s (Abandon j) d may c = holds_kept (is_closed s.retired) (λ x. is_live x.life) _ (λ x m q. opened_none s.retired x _ (live_life x.life m) q) s.drafts j d may c
+closed_stays s (Stopped j a) d may c =
+    holds_kept (is_closed s.retired) (may_stop a s.serial) _ (λ x m q. more_left a x.stopped x.started _ (stops a s.serial x m).next (eqb-true x.stopped x.started (first (all_stopped x) _ (second (may_clean_instances s.retired x.life) _ q)))) s.drafts j d may c
+closed_stays s (Begin k n) d may c = c
+closed_stays s (Finish k) d may c = c
+closed_stays s (Retire n) d may c = closed_on (slice_get s.drafts d) n s.retired c
+closed_stays s (Cleaned j i) d may c =
+    holds_kept (is_closed s.retired) (may_clean i s.retired) _ (λ x m q. more_left i x.cleaned x.made _ (cleans i s.retired x m).next (eqb-true x.cleaned x.made (second (all_stopped x) _ (second (may_clean_instances s.retired x.life) _ q)))) s.drafts j d may c
+closed_stays s (Halt n) d may c = c
+
+-- ---- the fixtures' calls
+
+pub no_shutting : (b c : Bool) → c ≡ b → shutting b c ≡ []
+no_shutting true c e = refl
+no_shutting false c e = rw e refl
+
+-- where no shutting can follow, the calls are those of the keys
+pub plain_calls : (s : State) (e : Entry) → allowed s e ≡ true → IsSteady s → may_shut e ≡ false → entry_calls s e ≡ key_calls s e
+plain_calls s e may is plain = ap (λ z. key_calls s e ++ z) (no_shutting (is_shut s) (is_shut (after s e)) (shut_kept s e may is.agrees plain)) ∙ append-nil (key_calls s e)
+
+-- ---- rows
+
+pub record Shown (retired : List ℕ) (r : Row) (o : Option Drafted) : Type 0 where
+  pub draft : Drafted
+  pub is : o ≡ Some draft
+  pub shows : Shows retired r draft
+
+pub shown : (retired : List ℕ) (r : Row) (o : Option Drafted) → ShowsAt retired (Some r) o → Shown retired r o
+shown retired r None h = absurd h
+shown retired r (Some x) h = record { draft = x; is = refl; shows = h }
+
+-- a row in place of another, where a draft is changed
+pub rows_after : (retired : List ℕ) (rows : List Row) (drafts : List Drafted) (f : Drafted → Drafted) (d : ℕ) (r t : Row) (x : Drafted) → slice_get rows d ≡ Some r → slice_get drafts d ≡ Some x → Shows retired t (f x)
+    → ((j : ℕ) → ShowsAt retired (slice_get rows j) (slice_get drafts j)) → (j : ℕ) → ShowsAt retired (slice_get (set rows d t) j) (slice_get (change_at f d drafts) j)
+rows_after retired rows drafts f d r t x there draft shows all j = ⊎_elim
+    (λ q. subst (λ z. ShowsAt retired (slice_get (set rows d t) z) (slice_get (change_at f d drafts) z)) (sym q.1)
+    (subst (λ z. ShowsAt retired z (slice_get (change_at f d drafts) d)) (sym (get_set_same rows d r t there)) (subst (λ z. ShowsAt retired (Some t) z) (sym (get_change_same f drafts d ∙ ap (option_map f) draft)) shows)))
+    (λ q. subst (λ z. ShowsAt retired z (slice_get (change_at f d drafts) j)) (sym (get_set_other rows d j t q.1)) (subst (λ z. ShowsAt retired (slice_get rows j) z) (sym (get_change_other f drafts d j q.1)) (all j)))
+    (eqb_tells j d)
+
+pub rows_added : (retired : List ℕ) (rows : List Row) (drafts : List Drafted) (r : Row) (x : Drafted) → Shows retired r x → ((j : ℕ) → ShowsAt retired (slice_get rows j) (slice_get drafts j)) → (j : ℕ) → ShowsAt retired (slice_get (rows ++ r ∷ []) j) (slice_get (drafts ++ x ∷ []) j)
+rows_added retired [] [] r x sh all zero = sh
+rows_added retired [] [] r x sh all (suc j) = tt
+rows_added retired [] (y ∷ ys) r x sh all j = absurd (all 0)
+rows_added retired (p ∷ ps) [] r x sh all j = absurd (all 0)
+rows_added retired (p ∷ ps) (y ∷ ys) r x sh all zero = all 0
+rows_added retired (p ∷ ps) (y ∷ ys) r x sh all (suc j) = rows_added retired ps ys r x sh (λ k. all (suc k)) j
+
+-- ---- one entry more
+
+module _ {F : Type 0} (calls : F → Option (List FixtureCall)) where
+  -- the same for one step of the state
+  abbrev pub Steps : Desk F → Desk F → Entry → Type 0
+  Steps v w e = (opening : Desk F) (s : State) (told : List FixtureCall) (count : ℕ) → Known s → Agrees calls opening v s told count → (allowed s e ≡ true) × Agrees calls opening w (after s e) (told ++ entry_calls s e) (begins_by count e)
+
+  pub adds : (v w : Desk F) (e : Entry) → Steps v w e → AddsTo calls v w e
+  adds v w e step opening log k h =
+      let x : Signed = signed k e in
+      let es : List Entry = entries log in
+      let known : Known (state_of es) = record { steady = legal-steady es h.is_legal; single = λ k. one_ticket es k h.is_legal } in
+      let next = step opening (state_of es) (fixture_calls es) (begins_now es) known h.agrees in
+      let longer : entries (log ++ x ∷ []) ≡ es ++ e ∷ [] = entries-snoc log x in record {
+        is_legal = subst (λ z. IsTrue (legal z)) (sym longer) (legal_from-snoc opening_state es e h.is_legal next.0);
+        agrees = subst (λ z. Agrees calls opening w (state_of z) (fixture_calls z) (begins_now z)) (sym longer)
+            (subst (λ z. Agrees calls opening w z (fixture_calls (es ++ e ∷ [])) (begins_now (es ++ e ∷ []))) (sym (state_from-snoc opening_state es e))
+            (subst (λ z. Agrees calls opening w (after (state_of es) e) z (begins_now (es ++ e ∷ []))) (sym (calls_from-snoc opening_state es e))
+            (subst (λ z. Agrees calls opening w (after (state_of es) e) (fixture_calls es ++ entry_calls (state_of es) e) z) (sym (begins_now-snoc es e)) next.1)));
+      }

@@ -1,0 +1,70 @@
+use Rattle.std.proofs.Common.{◌≡◌, ◌<◌, ◌+◌, ◌-◌, [], arith, rules, refl, sym, ap, ◌∙◌, subst, length, false, true, ℕ}
+use Rattle.std.proofs.lemmas.Option.{slice_get_read, slice_get_within}
+use Rattle.cd_legal.specs.declared.part.Part.{Part}
+use Rattle.cd_legal.specs.declared.part.Part.TheVariants.{Instance}
+use Rattle.cd_legal.specs.State.{part_of}
+use Rattle.cd_outside.specs.declared.holder.Holder.{Holder}
+use Rattle.cd_outside.specs.Keys.{holder_eq}
+use Rattle.cd_pool.specs.Pairs.{leases_of}
+use Rattle.cd_desk.specs.declared.row.Row.{Row}
+use Rattle.cd_desk.proofs.Lists.{same_at, still_numbered}
+use Rattle.cd_desk.proofs.Parts.{held_by, part_leases, part_room_kept}
+use Rattle.cd_desk.proofs.rows.clean_in.Goals as goal
+
+pub end_last-requires-clause-left : goal.end_last-requires-clause-left
+end_last-requires-clause-left g c =
+    let rows = c.args.books.now.rows.items in
+    let can = c.requires.can in
+    let r = c.index_mut.result.now in
+    let there = slice_get_read rows _ c.args.place r refl (slice_get_within rows c.args.place can.0 can.1) (search rules) in
+    subst (λ (z : Row). z.modules.ended < z.modules.opened) (same_at rows c.args.place can.0 r can.1 there) can.2
+
+pub end_last-requires-clause-leases : goal.end_last-requires-clause-leases
+end_last-requires-clause-leases g c =
+    let rows = c.args.books.now.rows.items in
+    let can = c.requires.can in
+    let r = c.index_mut.result.now in
+    let there = slice_get_read rows _ c.args.place r refl (slice_get_within rows c.args.place can.0 can.1) (search rules) in
+    held_by Instance (c.args.books.now.first + c.args.place) (r.modules.opened - r.modules.ended - 1) rows c.args.place r r.modules.part c.args.books.now.pool.held there r.instances (c.args.books.now.leases c.args.place (r.modules.opened - r.modules.ended - 1) false)
+
+pub invariant_of-index_mut : goal.invariant_of-index_mut
+invariant_of-index_mut g c =
+    let r = c.index_mut.result.now in
+    let o = c.end_last.ensures.ends in
+    record { instances = o.part ∙ r.instances; started = r.started; modules_plan = ap (λ z. z.value) o.plan ∙ r.modules_plan; apps_plan = r.apps_plan }
+
+pub invariant_of-books : goal.invariant_of-books
+invariant_of-books g c =
+    let b = c.args.books.now in
+    let rows = b.rows.items in
+    let can = c.requires.can in
+    let r = c.index_mut.result.now in
+    let there = slice_get_read rows _ c.args.place r refl (slice_get_within rows c.args.place can.0 can.1) (search rules) in
+    let o = c.end_last.ensures.ends in
+    let i = r.modules.opened - r.modules.ended - 1 in
+    let kind : part_of r.modules.part (b.first + c.args.place) i ≡ part_of Instance (b.first + c.args.place) i = ap (λ (z : Part). part_of z (b.first + c.args.place) i) r.instances in
+    let held = b.pool.held in
+    let now = c.end_last.new.pool.held in
+    let own : o.is.leases.items ≡ leases_of (part_of Instance (b.first + c.args.place) i) now = o.empty ∙ (sym o.gives.none ∙ ap (λ h. leases_of h now) kind) in
+    record {
+      leases = part_leases b.first c.args.place i Instance r _ o.was o.is held now o.there o.parts refl own (λ h ne. o.gives.others h (subst (λ (z : Holder). holder_eq h z ≡ false) (sym kind) ne)) rows there b.leases;
+      numbers = still_numbered b.first _ rows c.args.place _ b.numbers;
+      room = part_room_kept b.first c.args.place i Instance r _ o.was o.is held now o.there o.parts refl own (λ h ne. o.gives.others h (subst (λ (z : Holder). holder_eq h z ≡ false) (sym kind) ne)) rows there _ _ (let s = o.spare in let w : length o.is.waiting.items ≡ length o.was.waiting.items = ap length o.waiting in omega arith) b.room;
+    }
+
+pub returns : goal.returns
+returns g c =
+    let rows = c.args.books.now.rows.items in
+    let can = c.requires.can in
+    let r = c.index_mut.result.now in
+    let there = slice_get_read rows _ c.args.place r refl (slice_get_within rows c.args.place can.0 can.1) (search rules) in
+    record {
+      ends = record {
+        changes = record { was = r; is = _; there = there; rows = refl; first = refl; tree = refl; plan = refl };
+        ends = c.end_last.ensures.ends;
+        others = refl;
+        failed = refl;
+        life = refl;
+        retired = refl;
+      };
+    }

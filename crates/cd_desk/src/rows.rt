@@ -1,0 +1,90 @@
+ghost use Rattle.std.specs.Prelude.{◌≡◌, ◌<◌, ◌+◌, ◌≤◌, IfErr, length};
+ghost use Rattle.cd_outside.specs.Counts.{Rose};
+ghost use Rattle.cd_legal.specs.declared.part.Part.TheVariants as part;
+ghost use Rattle.cd_desk.specs.declared.row.Row.{Row};
+ghost use Rattle.cd_desk.specs.Books.{HasRow, CanOpen, CanEnd, Opens, Ends, Lives, Retires};
+
+use crate::books::Books;
+use cd_legal::{Life, Part};
+use cd_outside::{Fixtures, Key};
+
+// The place of a draft among the rows.
+pub(crate) fn place_of(books: &Books, draft: u64) -> usize
+    requires there { HasRow books.now draft }
+    ensures place { draft ≡ books.now.first + result }
+    ensures within { result < length books.now.rows.items }
+{
+    (draft - books.first) as usize
+}
+
+// The next instance of the draft at this place is made.
+pub(crate) fn make_in<F: Fixtures>(
+    books: &mut Books,
+    fixtures: &mut F,
+    place: usize,
+) -> Result<(), Key>
+    requires can { CanOpen part.Instance books.old place }
+    ensures opens { Opens part.Instance place books.old books.new (F.calls fixtures.old) (F.calls fixtures.new) result }
+    ensures cause { IfErr result (λ _. Rose (F.faults fixtures.old) (F.faults fixtures.new)) }
+{
+    let draft = books.first + place as u64;
+    let row = &mut books.rows[place];
+    let opened = row.modules.open_next(&mut books.pool, fixtures, draft);
+    row.failed = opened.is_err();
+    opened
+}
+
+// The next app of the draft at this place is started.
+pub(crate) fn start_in<F: Fixtures>(
+    books: &mut Books,
+    fixtures: &mut F,
+    place: usize,
+) -> Result<(), Key>
+    requires can { CanOpen part.App books.old place }
+    ensures opens { Opens part.App place books.old books.new (F.calls fixtures.old) (F.calls fixtures.new) result }
+    ensures cause { IfErr result (λ _. Rose (F.faults fixtures.old) (F.faults fixtures.new)) }
+{
+    let draft = books.first + place as u64;
+    let row = &mut books.rows[place];
+    let opened = row.apps.open_next(&mut books.pool, fixtures, draft);
+    row.failed = opened.is_err();
+    opened
+}
+
+// The draft at this place gets another life.
+pub(crate) fn set_life(books: &mut Books, place: usize, life: Life)
+    requires there { place < length books.old.rows.items }
+    ensures lives { Lives life place books.old books.new }
+{
+    books.rows[place].life = life;
+}
+
+// The last app that is started and not stopped is stopped, of the draft at this place.
+pub(crate) fn stop_in<F: Fixtures>(books: &mut Books, fixtures: &mut F, place: usize)
+    requires can { CanEnd part.App books.old place }
+    ensures ends { Ends part.App place books.old books.new (F.calls fixtures.old) (F.calls fixtures.new) }
+{
+    let draft = books.first + place as u64;
+    books.rows[place]
+        .apps
+        .end_last(&mut books.pool, fixtures, draft);
+}
+
+// The last instance that is made and not cleaned is cleaned, of the draft at this place.
+pub(crate) fn clean_in<F: Fixtures>(books: &mut Books, fixtures: &mut F, place: usize)
+    requires can { CanEnd part.Instance books.old place }
+    ensures ends { Ends part.Instance place books.old books.new (F.calls fixtures.old) (F.calls fixtures.new) }
+{
+    let draft = books.first + place as u64;
+    books.rows[place]
+        .modules
+        .end_last(&mut books.pool, fixtures, draft);
+}
+
+// The serial of the draft at this place is retired.
+pub(crate) fn set_retired(books: &mut Books, place: usize)
+    requires there { place < length books.old.rows.items }
+    ensures retires { Retires place books.old books.new }
+{
+    books.rows[place].retired = true;
+}

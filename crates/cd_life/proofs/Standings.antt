@@ -1,0 +1,168 @@
+-- What a board stands for after one entry more.
+use Rattle.std.proofs.Common.{◌≡◌, ◌≢◌, ℕ, zero, suc, ◌+◌, ◌-◌, ◌<◌, ◌≤◌, ◌==◌, ◌&&◌, true, false, Bool, List, [], ◌∷◌, ◌++◌, length, refl, sym, ap, ◌∙◌, arith, subst, slice_get, Option, Some, None, Result, Ok, Err, OnErr, IfSome, cond, eq-eqb, ne_eqb}
+use Rattle.std.specs.Vec.{vec_len, vec_capacity}
+use Rattle.cd_outside.specs.declared.fixtures.FixtureCall.{FixtureCall}
+use Rattle.cd_tree.specs.declared.tree.Tree.{Tree}
+use Rattle.cd_wire.specs.declared.request.Request.{Request}
+use Rattle.cd_module.specs.declared.fault.LoadFault.{LoadFault}
+use Rattle.cd_legal.specs.declared.plan.Plan.{Plan}
+use Rattle.cd_legal.specs.declared.entry.Change.{Change}
+use Rattle.cd_legal.specs.declared.entry.Entry.{Entry}
+use Rattle.cd_legal.specs.declared.entry.Entry.TheVariants.{Draft, Publish, Abandon}
+use Rattle.cd_legal.specs.declared.entry.Signed.{Signed}
+use Rattle.cd_legal.specs.declared.state.State.{State}
+use Rattle.cd_legal.specs.declared.state.Drafted.{Drafted}
+use Rattle.cd_legal.specs.declared.state.Life.TheVariants.{Published, Abandoned}
+use Rattle.cd_legal.specs.Entry.{signed, entries}
+use Rattle.cd_legal.specs.State.{opening_state, conf_of, Conf, is_live, new_draft}
+use Rattle.cd_legal.specs.Legal.{allowed, after, is_complete, state_of, state_from, state_at, IsLegal}
+use Rattle.cd_legal.proofs.Histories.{entries-snoc}
+use Rattle.cd_legal.proofs.Serials.{is_publish, count_running, published-count}
+use Rattle.cd_legal.proofs.Facts.{can, completes, Publishes}
+use Rattle.cd_legal.proofs.Fresh.{serial_rises}
+use Rattle.cd_desk.specs.Desks.{AddsTo, Holds, Keeps as KeepsDesk}
+use Rattle.cd_life.specs.declared.board.Board.{Board}
+use Rattle.cd_desk.specs.declared.left.Left.{Left}
+use Rattle.cd_desk.specs.Lefts.{IsLeft}
+use Rattle.cd_desk.proofs.Laws.{LeftDraft, left_is}
+use Rattle.cd_life.specs.declared.board.Kept.{Kept}
+use Rattle.cd_life.specs.Changes.{tree_at, tree_of}
+use Rattle.cd_life.specs.Fits.{Fits, FitFrom, AllFit}
+use Rattle.cd_life.specs.Standing.{Stood, Shelves, Adds, Keeps, is_kept, live_among}
+use Rattle.cd_life.proofs.Shelving.{state_more, allowed_more, conf_before, conf_after, kept_before, live_plain, live_push, live_gone, is_plain, older, published_kept}
+
+fit_more : (plan : Tree → Result Plan LoadFault) (makes : Tree → Request → Option Tree) (s : State) (log : List Entry) (e : Entry) → FitFrom plan makes s log → Fits plan makes (state_from s log) e → FitFrom plan makes s (log ++ e ∷ [])
+fit_more plan makes s [] e all one = (one, tt)
+fit_more plan makes s (x ∷ log) e all one = (all.0, fit_more plan makes (after s x) log e all.1 one)
+
+at_push_some : {A B : Type 0} {g : _} (xs : List (Kept A B g)) (y : Kept A B g) (n : ℕ) (t : Tree) → tree_at xs n ≡ Some t → tree_at (xs ++ y ∷ []) n ≡ Some t
+at_push_some [] y n t e = cc
+at_push_some (x ∷ xs) y n t e = pick (x.serial == n) (at_push_some xs y n t) e
+  where
+    pick : (b : Bool) → (tree_at xs n ≡ Some t → tree_at (xs ++ y ∷ []) n ≡ Some t) → cond b (Some (tree_of x)) (tree_at xs n) ≡ Some t → cond b (Some (tree_of x)) (tree_at (xs ++ y ∷ []) n) ≡ Some t
+    pick true on e = e
+    pick false on e = on e
+
+at_push_none : {A B : Type 0} {g : _} (xs : List (Kept A B g)) (y : Kept A B g) (n : ℕ) → tree_at xs n ≡ None → tree_at (xs ++ y ∷ []) n ≡ cond (y.serial == n) (Some (tree_of y)) None
+at_push_none [] y n e = refl
+at_push_none (x ∷ xs) y n e = pick (x.serial == n) (at_push_none xs y n) e
+  where
+    pick : (b : Bool) → (tree_at xs n ≡ None → tree_at (xs ++ y ∷ []) n ≡ cond (y.serial == n) (Some (tree_of y)) None) → cond b (Some (tree_of x)) (tree_at xs n) ≡ None → cond b (Some (tree_of x)) (tree_at (xs ++ y ∷ []) n) ≡ cond (y.serial == n) (Some (tree_of y)) None
+    pick true on e = cc
+    pick false on e = on e
+
+same_tree : (o : Option Drafted) (x y : Drafted) (t : Tree) → o ≡ Some x → o ≡ Some y → x.tree ≡ t → y.tree ≡ t
+same_tree o x y t is there tree = ap (λ (z : Drafted). z.tree) (let e : Some y ≡ Some x = sym there ∙ is in let f : y ≡ x = cc in f) ∙ tree
+
+module _ {A F B : Type 0} {g : _} (calls : F → Option (List FixtureCall)) (plan : Tree → Result Plan LoadFault) (makes : Tree → Request → Option Tree) where
+  -- an entry of the desk is one of the board, where it fits, and leaves what is kept
+  pub adds : (v w : Board A F B g) (e : Entry) → AddsTo calls v.desk w.desk e → ((opening : Board A F B g) (log : List Signed) → Stood calls plan makes opening v log → Fits plan makes (state_at log) e)
+      → ((opening : Board A F B g) (log : List Signed) (k : ℕ) → Stood calls plan makes opening v log → IsLegal (log ++ signed k e ∷ []) → Shelves w (after (state_at log) e)) → Adds calls plan makes v w e
+  adds v w e desk fits shelf opening log k h =
+      let x : Signed = signed k e in
+      let next : Holds calls opening.desk w.desk (log ++ x ∷ []) = desk opening.desk log k h.desk in
+      record {
+        desk = next;
+        fits = subst (λ z. AllFit plan makes z) (sym (entries-snoc log x)) (fit_more plan makes opening_state (entries log) e h.fits (fits opening log h));
+        shelf = subst (λ z. Shelves w z) (sym (state_more log x)) (shelf opening log k h next.is_legal);
+      }
+
+  pub keeps : (v w : Board A F B g) → KeepsDesk calls v.desk w.desk → ((s : State) → Shelves v s → Shelves w s) → Keeps calls plan makes v w
+  keeps v w desk shelf opening log h = record { desk = desk opening.desk log h.desk; fits = h.fits; shelf = shelf (state_at log) h.shelf }
+
+  -- an entry that makes no draft, publishes and abandons none, where the board keeps what it kept
+  pub shelf_plain : (v w : Board A F B g) (e : Entry) → is_plain e ≡ true → is_publish e ≡ false → w.kept ≡ v.kept → w.live ≡ v.live → (opening : Board A F B g) (log : List Signed) (k : ℕ) → Stood calls plan makes opening v log → IsLegal (log ++ signed k e ∷ []) → Shelves w (after (state_at log) e)
+  shelf_plain v w e plain none kept live opening log k h legal =
+      let s : State = state_at log in
+      let may = allowed_more log (signed k e) legal in
+      let up = serial_rises s e may in
+      record {
+        kept = λ n t conf is. ap (λ z. tree_at z.items n) kept ∙ h.shelf.kept n t (conf_before log (signed k e) n t h.desk.is_legal legal none conf) (kept_before s e n none is);
+        later = λ n lt. ap (λ z. tree_at z.items n) kept ∙ h.shelf.later n (omega (arith, lt, up));
+        live = live_plain s e plain ∙ (h.shelf.live ∙ sym live);
+        room = subst (λ z. vec_len z + w.live ≤ vec_capacity z) (sym kept) (subst (λ (z : ℕ). vec_len v.kept + z ≤ vec_capacity v.kept) (sym live) h.shelf.room);
+      }
+
+  -- a new draft, for which there is room
+  pub shelf_draft : (v w : Board A F B g) (d : ℕ) (tree : Tree) (planned : Plan) → w.kept.items ≡ v.kept.items → w.live ≡ v.live + 1 → vec_len w.kept + w.live ≤ vec_capacity w.kept → (opening : Board A F B g) (log : List Signed) (k : ℕ) → Stood calls plan makes opening v log → IsLegal (log ++ signed k (Draft d tree planned) ∷ [])
+      → Shelves w (after (state_at log) (Draft d tree planned))
+  shelf_draft v w d tree planned kept live room opening log k h legal =
+      let s : State = state_at log in
+      let more = live_push s.drafts (new_draft tree planned) refl in
+      let was = h.shelf.live in
+      record {
+        kept = λ n t conf is. ap (λ z. tree_at z n) kept ∙ h.shelf.kept n t (conf_before log (signed k (Draft d tree planned)) n t h.desk.is_legal legal refl conf) is;
+        later = λ n lt. ap (λ z. tree_at z n) kept ∙ h.shelf.later n lt;
+        live = omega (arith, more, was, live);
+        room = room;
+      }
+
+  -- a draft that is given up
+  pub shelf_abandon : (v w : Board A F B g) (d : ℕ) → w.kept ≡ v.kept → w.live ≡ v.live - 1 → (opening : Board A F B g) (log : List Signed) (k : ℕ) → Stood calls plan makes opening v log → IsLegal (log ++ signed k (Abandon d) ∷ []) → Shelves w (after (state_at log) (Abandon d))
+  shelf_abandon v w d kept live opening log k h legal =
+      let s : State = state_at log in
+      let may : allowed s (Abandon d) ≡ true = allowed_more log (signed k (Abandon d)) legal in
+      let gone = live_gone (λ x. record x { life = Abandoned }) (λ x. refl) (λ x. is_live x.life) (λ x m. m) s.drafts d may in
+      let was = h.shelf.live in
+      let room = h.shelf.room in
+      record {
+        kept = λ n t conf is. ap (λ z. tree_at z.items n) kept ∙ h.shelf.kept n t (conf_before log (signed k (Abandon d)) n t h.desk.is_legal legal refl conf) is;
+        later = λ n lt. ap (λ z. tree_at z.items n) kept ∙ h.shelf.later n lt;
+        live = omega (arith, gone, was, live);
+        room = subst (λ z. vec_len z + w.live ≤ vec_capacity z) (sym kept) (omega (arith, room, live));
+      }
+
+  -- a configuration more
+  pub shelf_publish : (v w : Board A F B g) (l : Left) (n : ℕ) (way : Change) (loaded : Tree) (one : Kept A B g) → one.serial ≡ n + 1 → tree_of one ≡ loaded → IsLeft v.desk.books loaded l → (vec_len v.kept < vec_capacity v.kept → w.kept.items ≡ v.kept.items ++ one ∷ []) → vec_len w.kept ≤ vec_len v.kept + 1
+      → vec_capacity w.kept ≡ vec_capacity v.kept → w.live ≡ v.live - 1 → (opening : Board A F B g) (log : List Signed) (k : ℕ) → Stood calls plan makes opening v log → IsLegal (log ++ signed k (Publish l.number (n + 1) n way) ∷ []) → Shelves w (after (state_at log) (Publish l.number (n + 1) n way))
+  shelf_publish v w l n way loaded one serial its left pushed len capacity live opening log k h legal =
+      let s : State = state_at log in
+      let d : ℕ = l.number in
+      let e : Entry = Publish d (n + 1) n way in
+      let may : allowed s e ≡ true = allowed_more log (signed k e) legal in
+      let f : Publishes s d (n + 1) n = can s e may in
+      let gone = live_gone (λ x. record x { life = Published (n + 1) }) (λ x. refl) is_complete (λ x m. ap is_live (completes x m).opened.live) s.drafts d f.complete in
+      let was = h.shelf.live in
+      let room = h.shelf.room in
+      let count : length s.published ≡ s.serial = count_running s f.running (published-count (entries log) h.desk.is_legal) in
+      let current = f.current in
+      let items : w.kept.items ≡ v.kept.items ++ one ∷ [] = pushed (omega (arith, gone, was, room)) in
+      let x : LeftDraft s loaded l = left_is calls opening.desk v.desk log h.desk loaded l left in
+      let last : tree_at w.kept.items (n + 1) ≡ Some loaded =
+      ap (λ z. tree_at z (n + 1)) items ∙ (at_push_none v.kept.items one (n + 1) (h.shelf.later (n + 1) (omega (arith, current))) ∙ (ap (λ (b : Bool). cond b (Some (tree_of one)) None) (eq-eqb one.serial (n + 1) serial) ∙ ap (λ (z : Tree). Some z) its)) in
+      record {
+        kept = λ m t conf is. published_kept s d n way loaded count current (λ y there. same_tree (slice_get s.drafts d) x.draft y loaded x.there there x.tree) (tree_at w.kept.items) last m t conf
+            (λ low. ap (λ z. tree_at z m) items ∙ at_push_some v.kept.items one m t (h.shelf.kept m t (sym (conf_after log (signed k e) m legal (omega (arith, low, count))) ∙ conf) (older s d m low is)));
+        later = λ m lt. ap (λ z. tree_at z m) items ∙ (at_push_none v.kept.items one m (h.shelf.later m (omega (arith, lt, current))) ∙ ap (λ (b : Bool). cond b (Some (tree_of one)) None) (ne_eqb one.serial m (λ (same : one.serial ≡ m). omega (arith, same, serial, lt))));
+        live = omega (arith, gone, was, live);
+        room = omega (arith, gone, was, live, room, len, capacity);
+      }
+
+-- the same configurations, with as much room
+pub shelf_same : {A F B : Type 0} {g : _} (v w : Board A F B g) → w.kept.items ≡ v.kept.items → vec_len w.kept ≡ vec_len v.kept → vec_capacity v.kept ≤ vec_capacity w.kept → w.live ≡ v.live → (s : State) → Shelves v s → Shelves w s
+shelf_same v w items len capacity live s h =
+    let room = h.room in
+    record {
+      kept = λ n t conf is. ap (λ z. tree_at z n) items ∙ h.kept n t conf is;
+      later = λ n lt. ap (λ z. tree_at z n) items ∙ h.later n lt;
+      live = h.live ∙ sym live;
+      room = omega (arith, room, len, capacity, live);
+    }
+
+not_first : (n : ℕ) (t : Tree) → conf_of opening_state n ≡ Conf.Of t → false ≡ true
+not_first zero t e = cc
+not_first (suc n) t e = cc
+
+-- a board at which nothing has happened
+pub nothing_kept : {A F B : Type 0} {g : _} (b : Board A F B g) → b.kept.items ≡ [] → b.live ≡ 0 → vec_len b.kept ≤ vec_capacity b.kept → Shelves b opening_state
+nothing_kept b none live room = record {
+  kept = λ n t conf is. absurd (let f : false ≡ true = not_first n t conf in cc);
+  later = λ n lt. ap (λ z. tree_at z n) none;
+  live = sym live;
+  room = omega (arith, live, room);
+}
+
+-- what follows where a call failed
+pub on_err : {T E : Type 0} (r : Result T E) (P Q : Type 0) → (P → Q) → OnErr r P → OnErr r Q
+on_err (Ok x) P Q f p = tt
+on_err (Err e) P Q f p = f p

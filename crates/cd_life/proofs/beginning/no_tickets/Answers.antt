@@ -1,6 +1,0 @@
-use Rattle.std.proofs.Common.{refl, rules}
-use Rattle.cd_life.proofs.Untouched.{one_more}
-use Rattle.cd_life.proofs.beginning.no_tickets.Goals as goal
-
-pub loop-caller-preserved : goal.loop-caller-preserved
-loop-caller-preserved c = one_more c.loop-caller.caller _ c.loop-caller.made.items _ refl c.loop-caller.invariant (search rules)

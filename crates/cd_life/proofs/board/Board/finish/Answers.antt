@@ -1,0 +1,6 @@
+use Rattle.std.proofs.Common.{◌≡◌, ◌∙◌, ℕ, ◌+◌, ap, sym, subst, refl, arith, rules}
+use Rattle.cd_life.proofs.Standings.{adds, shelf_plain}
+use Rattle.cd_life.proofs.board.Board.finish.Goals as goal
+
+pub returns : goal.returns
+returns g c = adds g.F.Fixtures.calls g.M.ModuleSet.plan g.M.ModuleSet.change c.args.self.now _ _ c.finish.ensures.entry (λ o l h. tt) (shelf_plain g.F.Fixtures.calls g.M.ModuleSet.plan g.M.ModuleSet.change c.args.self.now _ _ refl refl refl refl)

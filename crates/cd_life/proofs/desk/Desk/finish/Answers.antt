@@ -1,7 +1,0 @@
-use Rattle.std.proofs.Common.{refl}
-use Rattle.cd_life.proofs.Standing.{adds}
-use Rattle.cd_life.proofs.Ticketing.{finishes}
-use Rattle.cd_life.proofs.desk.Desk.finish.Goals as goal
-
-pub returns : goal.returns
-returns g c = record { entry = adds g.F.Fixtures.calls c.args.self.now _ _ (finishes g.F.Fixtures.calls c.args.self.now _ c.args.caller c.requires refl) }

@@ -1,0 +1,30 @@
+ghost use Rattle.std.specs.Prelude.{◌≡◌, ◌<◌, ◌≤◌, ◌+◌, ◌++◌, ◌∷◌, []};
+ghost use Rattle.std.specs.Vec.{vec_len, vec_capacity};
+ghost use Rattle.cd_life.specs.Changes.{IsPlaceOf};
+
+use crate::board::Kept;
+use cd_module_set::{Loaded, ModuleSet};
+use std::sync::Arc;
+
+// The place of the first one with the serial.
+pub(crate) fn place_of<M: ModuleSet>(kept: &[Kept<M>], serial: u32) -> Option<usize>
+    ensures { IsPlaceOf kept.now serial result }
+{
+    for (place, one) in kept.iter().enumerate() {
+        if one.serial == serial {
+            return Some(place);
+        }
+    }
+    None
+}
+
+// Keeps one more, where there is room.
+pub(crate) fn keep<M: ModuleSet>(kept: &mut Vec<Kept<M>>, serial: u32, loaded: Arc<Loaded<M>>)
+    ensures items { vec_len kept.old < vec_capacity kept.old → kept.new.items ≡ kept.old.items ++ record { serial = serial; loaded = loaded } ∷ [] }
+    ensures len { vec_len kept.new ≤ vec_len kept.old + 1 }
+    ensures capacity { vec_capacity kept.new ≡ vec_capacity kept.old }
+{
+    if kept.len() < kept.capacity() {
+        kept.push_reserved(Kept { serial, loaded });
+    }
+}
