@@ -1,18 +1,20 @@
 //! The program: it gives `caddy_main` of `cd_program` the real forms of the outside.
 //!
-//! These are the standard streams and the file of the configuration, by the forms of `cd_edge`; words that serve nothing get forms
-//! in memory. The words and the file are read in words.rt. No contract speaks of what a stream or a file holds: what the program
+//! `run` serves the lanes of a doorway, over TCP, by the forms of `cd_doorway`. `stdio` serves standard input and output, by those
+//! of `cd_edge`; words that serve nothing get forms in memory. lanes.rt says how many lanes there are, and words.rt reads the
+//! words and finds the file of the configuration. No contract speaks of what a stream, a socket or a file holds: what the program
 //! does with them is proved of `caddy_main`, and tests/loopback looks at the program from outside.
 #![tactic(auto)]
 
 mod lanes;
 mod words;
 
-use cd_edge::{Console, StreamLane};
+use cd_doorway::{DoorFixtures, Doorway};
+use cd_edge::{Announced, Console, StreamLane};
 use cd_outside::{MemoryFixtures, MemoryLane};
 use cd_program::caddy_main;
 use cd_text::List;
-use lanes::one_lane;
+use lanes::{door_lanes, one_lane};
 use std::process::ExitCode;
 use words::{begins_with, config_source, words_of};
 
@@ -26,7 +28,18 @@ fn main(rt: HostRuntime) -> ExitCode {
     };
     let words = words.as_slice();
     let mut config = config_source(&rt, words);
-    let status = if begins_with(words, "stdio") {
+    let status = if begins_with(words, "run") {
+        let Ok(door) = Doorway::new(&rt, alloc, rt.stdout(), rt.stderr()) else {
+            return ExitCode::from(5);
+        };
+        let Ok(lanes) = door_lanes(&rt, alloc, &door) else {
+            return ExitCode::from(5);
+        };
+        let fixtures = DoorFixtures::new(&rt, alloc, &door);
+        let fixtures = Announced::new(alloc, fixtures, rt.stderr());
+        let mut out = Console::new(rt.stdout());
+        caddy_main(&rt, alloc, words, &mut config, &mut out, fixtures, lanes).status
+    } else if begins_with(words, "stdio") {
         let lane = StreamLane::new(alloc, rt.stdin(), rt.stdout());
         let Ok(lanes) = one_lane(alloc, lane) else {
             return ExitCode::from(5);
