@@ -1,10 +1,10 @@
 //! The lanes of a row, and what comes on them.
-ghost use Rattle.std.specs.Prelude.{◌≡◌, ◌≤◌, ◌∷◌, [], false, length, All, IfOk};
+ghost use Rattle.std.specs.Prelude.{◌≡◌, ◌≤◌, false, length, is_some, All, IfOk};
 
 use crate::conversation::failing;
 use crate::meeting::Meeting;
 use crate::resting::RestingLane;
-use cd_outside::{Address, Call, Lane, MemoryLane};
+use cd_outside::{Address, Call, MemoryLane};
 use cd_rows::{RowFault, bytes_at, bytes_of, find, has, number_of, only};
 use cd_text::{List, NoMemory, Octets, Text};
 use cd_tree::Tree;
@@ -19,7 +19,7 @@ const MAX_LANES: usize = 63;
 pub fn lanes_of(alloc: Global, row: &Tree, size: usize) -> Result<List<RestingLane>, RowFault>
     ensures some { IfOk result (λ lanes. 1 ≤ length lanes) }
     ensures few { IfOk result (λ lanes. length lanes ≤ 63) }
-    ensures idle { IfOk result (λ lanes. All (λ lane. ⟦<RestingLane as Lane>⟧.busy lane ≡ false) lanes) }
+    ensures idle { IfOk result (λ lanes. All (λ lane. is_some lane.lane.current ≡ false) lanes) }
 {
     match find(row, "lanes") {
         None => one_lane(alloc, row, size),
@@ -29,7 +29,8 @@ pub fn lanes_of(alloc: Global, row: &Tree, size: usize) -> Result<List<RestingLa
 }
 
 fn one_lane(alloc: Global, row: &Tree, size: usize) -> Result<List<RestingLane>, RowFault>
-    ensures { IfOk result (λ lanes. (lane : RestingLane) × (lanes ≡ lane ∷ []) × (⟦<RestingLane as Lane>⟧.busy lane ≡ false)) }
+    ensures one { IfOk result (λ lanes. length lanes ≡ 1) }
+    ensures idle { IfOk result (λ lanes. All (λ lane. is_some lane.lane.current ≡ false) lanes) }
 {
     let script = script_of(alloc, row, size)?;
     let lane = idle_lane(alloc, script, failing(alloc, row, "lane")?, None);
@@ -46,7 +47,7 @@ fn listed_lanes(
 ) -> Result<List<RestingLane>, RowFault>
     ensures some { IfOk result (λ lanes. 1 ≤ length lanes) }
     ensures few { IfOk result (λ lanes. length lanes ≤ 63) }
-    ensures idle { IfOk result (λ lanes. All (λ lane. ⟦<RestingLane as Lane>⟧.busy lane ≡ false) lanes) }
+    ensures idle { IfOk result (λ lanes. All (λ lane. is_some lane.lane.current ≡ false) lanes) }
 {
     if trees.is_empty() || trees.len() > MAX_LANES {
         return Err(RowFault::Malformed("no lane, or too many"));
@@ -66,7 +67,7 @@ fn listed_lane(
     size: usize,
     meeting: Option<Meeting>,
 ) -> Result<RestingLane, RowFault>
-    ensures { IfOk result (λ lane. ⟦<RestingLane as Lane>⟧.busy lane ≡ false) }
+    ensures { IfOk result (λ lane. is_some lane.lane.current ≡ false) }
 {
     only(alloc, tree, "asked connections fails pieces")?;
     let script = script_of(alloc, tree, size)?;
@@ -80,7 +81,7 @@ fn idle_lane(
     failing: List<u64>,
     meeting: Option<Meeting>,
 ) -> RestingLane
-    ensures { ⟦<RestingLane as Lane>⟧.busy result ≡ false }
+    ensures { is_some result.lane.current ≡ false }
 {
     RestingLane::new(MemoryLane::new(alloc, script, failing), meeting)
 }

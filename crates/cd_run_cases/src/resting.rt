@@ -1,4 +1,4 @@
-ghost use Rattle.std.specs.Prelude.{◌≡◌, None, false};
+ghost use Rattle.std.specs.Prelude.{◌≡◌, None, false, is_some};
 
 use crate::meeting::Meeting;
 use cd_outside::{Accepted, Given, Key, Lane, MemoryLane, Taken};
@@ -20,7 +20,7 @@ impl RestingLane {
     /// This lane, on which no connection is there.
     pub fn new(lane: MemoryLane, meeting: Option<Meeting>) -> RestingLane
         requires { lane.current ≡ None }
-        ensures { ⟦<RestingLane as Lane>⟧.busy result ≡ false }
+        ensures { is_some result.lane.current ≡ false }
     {
         RestingLane {
             lane,
