@@ -1,16 +1,13 @@
 //! A conversation with the program, as a row says it.
-ghost use Rattle.std.specs.Prelude.{◌≡◌, ◌∷◌, [], IfOk, None};
 ghost use Rattle.cd_tree.specs.Tree.{IsSound};
 
-use crate::ending::text_of;
+use crate::ending::{Shown, text_of};
 use crate::handles::Handles;
-use crate::resting::RestingLane;
-use cd_outside::{Address, Call, MemoryFixtures, MemoryLane, MemorySink, MemorySource};
+use crate::laning::{lanes_of, numbers_of, pieces};
+use cd_outside::{MemoryFixtures, MemorySink, MemorySource};
 use cd_program::caddy_main;
-use cd_rows::{
-    Kinds, Outcome, RowFault, bytes_at, bytes_of, find, has, is_true, needed, number_of, only,
-};
-use cd_text::{List, NoMemory, Octets, Text};
+use cd_rows::{Kinds, Outcome, RowFault, bytes_at, find, has, is_true, needed, number_of, only};
+use cd_text::{List, Octets, Text};
 use cd_tree::{Tree, print};
 use std::alloc::Global;
 use std::sync::Wait;
@@ -34,7 +31,7 @@ impl<R: Threads + Wait + Sync> Kinds for Conversations<R> {
         only(
             alloc,
             row,
-            "asked configuration configuration_bytes connections ends fails pieces rests sizes words",
+            "asked calls configuration configuration_bytes connections ends fails lanes meet pieces rests sizes words",
         )?;
         Ok(Outcome {
             member: "ends",
@@ -90,13 +87,8 @@ fn ended<R: Threads + Wait + Sync>(
     let words = words_of(alloc, row)?;
     let mut config = source_of(alloc, row)?;
     let mut out = MemorySink::new(alloc, failing(alloc, row, "output")?);
-    let fixtures = MemoryFixtures::new(alloc, List::new(alloc))?;
-    let lane = lane_of(
-        alloc,
-        script_of(alloc, row, size)?,
-        failing(alloc, row, "lane")?,
-    );
-    let lanes = one_lane(alloc, RestingLane::new(lane))?;
+    let fixtures = MemoryFixtures::new(alloc, failing(alloc, row, "fixtures")?)?;
+    let lanes = lanes_of(alloc, row, size)?;
     let ended = caddy_main(
         rt,
         alloc,
@@ -106,7 +98,12 @@ fn ended<R: Threads + Wait + Sync>(
         fixtures,
         lanes,
     );
-    text_of(alloc, &ended, &out, is_true(row, "rests")?)
+    let shown = Shown {
+        rests: is_true(row, "rests")?,
+        calls: is_true(row, "calls")?,
+        lanes: has(row, "lanes"),
+    };
+    text_of(alloc, &ended, &out, shown)
 }
 
 fn words_of(alloc: Global, row: &Tree) -> Result<List<Text>, RowFault> {
@@ -156,105 +153,14 @@ fn configuration_of(alloc: Global, row: &Tree) -> Result<Octets, RowFault>
 }
 
 // The numbers of the calls that fail of this part of the outside.
-fn failing(alloc: Global, row: &Tree, part: &str) -> Result<List<u64>, RowFault> {
+pub(crate) fn failing(alloc: Global, row: &Tree, part: &str) -> Result<List<u64>, RowFault> {
     let Some(parts) = find(row, "fails") else {
         return Ok(List::new(alloc));
     };
-    only(alloc, parts, "configuration lane output")?;
+    only(alloc, parts, "configuration fixtures lane output")?;
     match find(parts, part) {
         None => Ok(List::new(alloc)),
         Some(Tree::Items(numbers)) => numbers_of(alloc, numbers.as_slice()),
         Some(_) => Err(RowFault::Malformed("calls that are no list")),
     }
-}
-
-fn numbers_of(alloc: Global, trees: &[Tree]) -> Result<List<u64>, RowFault> {
-    let mut numbers = List::new(alloc);
-    for tree in trees {
-        numbers.push(u64::from(number_of(tree)?))?;
-    }
-    Ok(numbers)
-}
-
-// The connections: those that the row lists, or the one that the row itself says, or none.
-fn script_of(alloc: Global, row: &Tree, size: usize) -> Result<List<Call>, RowFault> {
-    let mut script = List::new(alloc);
-    match find(row, "connections") {
-        Some(Tree::Items(connections)) => {
-            for connection in connections.as_slice() {
-                only(alloc, connection, "asked host pieces port")?;
-                script.push(call_of(alloc, connection, size)?)?;
-            }
-        }
-        Some(_) => return Err(RowFault::Malformed("connections that are no list")),
-        None => {
-            if has(row, "asked") || has(row, "pieces") {
-                script.push(call_of(alloc, row, size)?)?;
-            }
-        }
-    }
-    Ok(script)
-}
-
-fn call_of(alloc: Global, connection: &Tree, size: usize) -> Result<Call, RowFault> {
-    Ok(Call {
-        address: address_of(alloc, connection)?,
-        pieces: pieces_of(alloc, connection, size)?,
-    })
-}
-
-fn address_of(alloc: Global, connection: &Tree) -> Result<Address, RowFault> {
-    let host = match find(connection, "host") {
-        None => "stdio",
-        Some(Tree::Text(host)) => host.as_str(),
-        Some(_) => return Err(RowFault::Malformed("a host that is no text")),
-    };
-    let port = match find(connection, "port") {
-        None => 0,
-        Some(number) => number_of(number)?,
-    };
-    Ok(Address {
-        host: Text::from_str(alloc, host)?,
-        port,
-    })
-}
-
-// What comes on a connection: its pieces as the row has them, or its bytes in pieces of this size.
-fn pieces_of(alloc: Global, connection: &Tree, size: usize) -> Result<List<Octets>, RowFault> {
-    match find(connection, "pieces") {
-        None => {
-            let bytes = bytes_at(alloc, connection, "asked")?;
-            Ok(pieces(alloc, bytes.as_slice(), size)?)
-        }
-        Some(Tree::Items(trees)) => {
-            let mut pieces = List::new(alloc);
-            for tree in trees.as_slice() {
-                pieces.push(bytes_of(alloc, tree)?)?;
-            }
-            Ok(pieces)
-        }
-        Some(_) => Err(RowFault::Malformed("pieces that are no list")),
-    }
-}
-
-fn pieces(alloc: Global, bytes: &[u8], size: usize) -> Result<List<Octets>, NoMemory> {
-    let mut pieces = List::new(alloc);
-    for piece in bytes.chunks(size.max(1)) {
-        pieces.push(Octets::from_slice(alloc, piece)?)?;
-    }
-    Ok(pieces)
-}
-
-fn lane_of(alloc: Global, script: List<Call>, failing: List<u64>) -> MemoryLane
-    ensures { result.current ≡ None }
-{
-    MemoryLane::new(alloc, script, failing)
-}
-
-fn one_lane<L: Drop>(alloc: Global, lane: L) -> Result<List<L>, NoMemory>
-    ensures { IfOk result (λ lanes. lanes ≡ lane ∷ []) }
-{
-    let mut lanes = List::new(alloc);
-    lanes.push(lane)?;
-    Ok(lanes)
 }

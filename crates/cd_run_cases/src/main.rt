@@ -1,8 +1,9 @@
 //! Whole conversations with the program, as rows of data files.
 //!
-//! A row says with which words the program is called, with which configuration, what comes on which connections, and which calls
-//! of the outside fail (conversation.rt). The program is run over forms in memory, and what a row wants is the exit status, the
-//! counts, the output, and what each connection was sent (ending.rt). data/README.md says how a row is written.
+//! A row says with which words the program is called, with which configuration, what comes on which connections of which lanes,
+//! and which calls of the outside fail (conversation.rt, laning.rt). The program is run over forms in memory, and what a row wants
+//! is the exit status, the counts, the output, what the fixtures were asked for, and what each connection was sent (ending.rt).
+//! data/README.md says how a row is written.
 //!
 //! What is proved here is safety. That a row agrees is said by the run.
 #![tactic(auto)]
@@ -10,6 +11,8 @@
 mod conversation;
 mod ending;
 mod handles;
+mod laning;
+mod meeting;
 mod resting;
 
 use cd_rows::check_files;

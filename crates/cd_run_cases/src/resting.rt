@@ -1,22 +1,34 @@
-ghost use Rattle.std.specs.Prelude.{◌≡◌, None, false};
+ghost use Rattle.std.specs.Prelude.{◌≡◌, None, false, is_some};
 
+use crate::meeting::Meeting;
 use cd_outside::{Accepted, Given, Key, Lane, MemoryLane, Taken};
 use cd_text::Text;
 
-/// A lane in memory that counts how often it may rest.
+/// A lane in memory that counts how often it may rest. Where the row says so, it waits for the other lanes before its first read.
 #[derive(Drop)]
 pub struct RestingLane {
     pub lane: MemoryLane,
     pub rests: u64,
+    /// Where it is to wait, until it has been asked for a connection, and then until its first read.
+    coming: Option<Meeting>,
+    waiting: Option<Meeting>,
+    /// Whether it has waited in vain.
+    pub alone: bool,
 }
 
 impl RestingLane {
     /// This lane, on which no connection is there.
-    pub fn new(lane: MemoryLane) -> RestingLane
+    pub fn new(lane: MemoryLane, meeting: Option<Meeting>) -> RestingLane
         requires { lane.current ≡ None }
-        ensures { ⟦<RestingLane as Lane>⟧.busy result ≡ false }
+        ensures { is_some result.lane.current ≡ false }
     {
-        RestingLane { lane, rests: 0 }
+        RestingLane {
+            lane,
+            rests: 0,
+            coming: meeting,
+            waiting: None,
+            alone: false,
+        }
     }
 }
 
@@ -28,10 +40,17 @@ impl Lane for RestingLane {
     ghost past = { λ resting. ⟦<MemoryLane as Lane>⟧.past resting.lane };
 
     fn accept(&mut self) -> Accepted {
+        if let Some(meeting) = self.coming.take() {
+            meeting.arrive();
+            self.waiting = Some(meeting);
+        }
         self.lane.accept()
     }
 
     fn read(&mut self, into: &mut [u8]) -> Taken {
+        if let Some(meeting) = self.waiting.take() {
+            self.alone = !meeting.wait();
+        }
         self.lane.read(into)
     }
 

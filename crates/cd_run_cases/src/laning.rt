@@ -1,0 +1,190 @@
+//! The lanes of a row, and what comes on them.
+ghost use Rattle.std.specs.Prelude.{◌≡◌, ◌≤◌, false, length, is_some, All, IfOk};
+
+use crate::conversation::failing;
+use crate::meeting::Meeting;
+use crate::resting::RestingLane;
+use cd_outside::{Address, Call, MemoryLane};
+use cd_rows::{RowFault, bytes_at, bytes_of, find, has, number_of, only};
+use cd_text::{List, NoMemory, Octets, Text};
+use cd_tree::Tree;
+use std::alloc::Global;
+use std::sync::Arc;
+use std::sync::atomic::AtomicU64;
+
+// The program takes so many lanes at most.
+const MAX_LANES: usize = 63;
+
+/// The lanes that the row lists, or the one that the row itself says. What is asked comes in pieces of this size.
+pub fn lanes_of(alloc: Global, row: &Tree, size: usize) -> Result<List<RestingLane>, RowFault>
+    ensures some { IfOk result (λ lanes. 1 ≤ length lanes) }
+    ensures few { IfOk result (λ lanes. length lanes ≤ 63) }
+    ensures idle { IfOk result (λ lanes. All (λ lane. is_some lane.lane.current ≡ false) lanes) }
+{
+    match find(row, "lanes") {
+        None => one_lane(alloc, row, size),
+        Some(Tree::Items(trees)) => listed_lanes(alloc, row, trees.as_slice(), size),
+        Some(_) => Err(RowFault::Malformed("lanes that are no list")),
+    }
+}
+
+fn one_lane(alloc: Global, row: &Tree, size: usize) -> Result<List<RestingLane>, RowFault>
+    ensures one { IfOk result (λ lanes. length lanes ≡ 1) }
+    ensures idle { IfOk result (λ lanes. All (λ lane. is_some lane.lane.current ≡ false) lanes) }
+{
+    let script = script_of(alloc, row, size)?;
+    let lane = idle_lane(alloc, script, failing(alloc, row, "lane")?, None);
+    let mut lanes = List::new(alloc);
+    lanes.push(lane)?;
+    Ok(lanes)
+}
+
+fn listed_lanes(
+    alloc: Global,
+    row: &Tree,
+    trees: &[Tree],
+    size: usize,
+) -> Result<List<RestingLane>, RowFault>
+    ensures some { IfOk result (λ lanes. 1 ≤ length lanes) }
+    ensures few { IfOk result (λ lanes. length lanes ≤ 63) }
+    ensures idle { IfOk result (λ lanes. All (λ lane. is_some lane.lane.current ≡ false) lanes) }
+{
+    if trees.is_empty() || trees.len() > MAX_LANES {
+        return Err(RowFault::Malformed("no lane, or too many"));
+    }
+    let arrived = Arc::new(alloc, AtomicU64::new(0))?;
+    let mut lanes = List::new(alloc);
+    for tree in trees {
+        let meeting = meeting_of(row, &arrived, trees.len())?;
+        lanes.push(listed_lane(alloc, tree, size, meeting)?)?;
+    }
+    Ok(lanes)
+}
+
+fn listed_lane(
+    alloc: Global,
+    tree: &Tree,
+    size: usize,
+    meeting: Option<Meeting>,
+) -> Result<RestingLane, RowFault>
+    ensures { IfOk result (λ lane. is_some lane.lane.current ≡ false) }
+{
+    only(alloc, tree, "asked connections fails pieces")?;
+    let script = script_of(alloc, tree, size)?;
+    Ok(idle_lane(alloc, script, lane_failing(alloc, tree)?, meeting))
+}
+
+// A lane with this script, on which no connection is there.
+fn idle_lane(
+    alloc: Global,
+    script: List<Call>,
+    failing: List<u64>,
+    meeting: Option<Meeting>,
+) -> RestingLane
+    ensures { is_some result.lane.current ≡ false }
+{
+    RestingLane::new(MemoryLane::new(alloc, script, failing), meeting)
+}
+
+// The numbers of the calls of this lane that fail.
+fn lane_failing(alloc: Global, lane: &Tree) -> Result<List<u64>, RowFault> {
+    match find(lane, "fails") {
+        None => Ok(List::new(alloc)),
+        Some(Tree::Items(numbers)) => numbers_of(alloc, numbers.as_slice()),
+        Some(_) => Err(RowFault::Malformed("calls that are no list")),
+    }
+}
+
+// Where the lanes wait for one another, if the row says so: within how many thousands of turns.
+fn meeting_of(
+    row: &Tree,
+    arrived: &Arc<AtomicU64, Global>,
+    lanes: usize,
+) -> Result<Option<Meeting>, RowFault> {
+    match find(row, "meet") {
+        None => Ok(None),
+        Some(number) => {
+            let turns = u32::from(number_of(number)?) * 1_000;
+            let arrived = Arc::try_clone(arrived)?;
+            Ok(Some(Meeting::at(arrived, lanes as u64, turns)))
+        }
+    }
+}
+
+/// The numbers that these trees are.
+pub fn numbers_of(alloc: Global, trees: &[Tree]) -> Result<List<u64>, RowFault> {
+    let mut numbers = List::new(alloc);
+    for tree in trees {
+        numbers.push(u64::from(number_of(tree)?))?;
+    }
+    Ok(numbers)
+}
+
+// The connections: those that the row lists, or the one that the row itself says, or none.
+fn script_of(alloc: Global, row: &Tree, size: usize) -> Result<List<Call>, RowFault> {
+    let mut script = List::new(alloc);
+    match find(row, "connections") {
+        Some(Tree::Items(connections)) => {
+            for connection in connections.as_slice() {
+                only(alloc, connection, "asked host pieces port")?;
+                script.push(call_of(alloc, connection, size)?)?;
+            }
+        }
+        Some(_) => return Err(RowFault::Malformed("connections that are no list")),
+        None => {
+            if has(row, "asked") || has(row, "pieces") {
+                script.push(call_of(alloc, row, size)?)?;
+            }
+        }
+    }
+    Ok(script)
+}
+
+fn call_of(alloc: Global, connection: &Tree, size: usize) -> Result<Call, RowFault> {
+    Ok(Call {
+        address: address_of(alloc, connection)?,
+        pieces: pieces_of(alloc, connection, size)?,
+    })
+}
+
+fn address_of(alloc: Global, connection: &Tree) -> Result<Address, RowFault> {
+    let host = match find(connection, "host") {
+        None => "stdio",
+        Some(Tree::Text(host)) => host.as_str(),
+        Some(_) => return Err(RowFault::Malformed("a host that is no text")),
+    };
+    let port = match find(connection, "port") {
+        None => 0,
+        Some(number) => number_of(number)?,
+    };
+    Ok(Address {
+        host: Text::from_str(alloc, host)?,
+        port,
+    })
+}
+
+// What comes on a connection: its pieces as the row has them, or its bytes in pieces of this size.
+fn pieces_of(alloc: Global, connection: &Tree, size: usize) -> Result<List<Octets>, RowFault> {
+    match find(connection, "pieces") {
+        None => {
+            let bytes = bytes_at(alloc, connection, "asked")?;
+            Ok(pieces(alloc, bytes.as_slice(), size)?)
+        }
+        Some(Tree::Items(trees)) => {
+            let mut pieces = List::new(alloc);
+            for tree in trees.as_slice() {
+                pieces.push(bytes_of(alloc, tree)?)?;
+            }
+            Ok(pieces)
+        }
+        Some(_) => Err(RowFault::Malformed("pieces that are no list")),
+    }
+}
+
+pub fn pieces(alloc: Global, bytes: &[u8], size: usize) -> Result<List<Octets>, NoMemory> {
+    let mut pieces = List::new(alloc);
+    for piece in bytes.chunks(size.max(1)) {
+        pieces.push(Octets::from_slice(alloc, piece)?)?;
+    }
+    Ok(pieces)
+}
