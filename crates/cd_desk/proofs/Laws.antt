@@ -1,23 +1,20 @@
 -- What a desk has of what a history leaves for which it stands.
-use Rattle.std.proofs.Common.{◌≡◌, ℕ, zero, suc, ◌+◌, ◌-◌, ◌<◌, ◌≤◌, Bool, true, false, List, [], ◌∷◌, length, drop, refl, sym, ap, ◌∙◌, arith, subst, Some, None, Option, slice_get, is_some, ⊎_elim}
+use Rattle.std.proofs.Common.{◌≡◌, ℕ, zero, suc, ◌+◌, ◌<◌, Bool, true, false, List, [], ◌∷◌, length, refl, sym, ap, ◌∙◌, arith, Some, None, Option, slice_get, is_some}
 use Rattle.cd_outside.specs.declared.fixtures.FixtureCall.{FixtureCall}
 use Rattle.cd_tree.specs.declared.tree.Tree.{Tree}
-use Rattle.cd_legal.specs.declared.part.Part.{Part}
 use Rattle.cd_legal.specs.declared.part.Part.TheVariants.{Instance, App}
-use Rattle.cd_legal.specs.declared.plan.Plan.{Plan}
 use Rattle.cd_legal.specs.declared.entry.Signed.{Signed}
 use Rattle.cd_legal.specs.declared.state.State.{State}
 use Rattle.cd_legal.specs.declared.state.Drafted.{Drafted}
 use Rattle.cd_legal.specs.declared.state.Life.TheVariants.{Live}
 use Rattle.cd_legal.specs.Entry.{entries}
-use Rattle.cd_legal.specs.State.{has_ticket, part_keys}
+use Rattle.cd_legal.specs.State.{has_ticket}
 use Rattle.cd_legal.specs.Legal.{state_at}
 use Rattle.cd_legal.proofs.Callers.{has-ticket_of}
 use Rattle.cd_legal.proofs.Serials.{legal-agree}
-use Rattle.cd_desk.specs.declared.row.Row.{Row}
 use Rattle.cd_desk.specs.declared.desk.Desk.{Desk}
 use Rattle.cd_desk.specs.declared.left.Left.{Left}
-use Rattle.cd_desk.specs.Rows.{Shows, ShowsAt, line_at}
+use Rattle.cd_desk.specs.Rows.{Shows}
 use Rattle.cd_desk.specs.Desks.{Holds, HasTicket, told_ticket}
 use Rattle.cd_desk.specs.Lefts.{IsLeft, Follows, left_of}
 use Rattle.cd_desk.proofs.Placing.{draft_at}

@@ -6,7 +6,7 @@ use Rattle.cd_legal.specs.declared.state.State.{State}
 use Rattle.cd_legal.specs.declared.state.Drafted.{Drafted}
 use Rattle.cd_legal.specs.declared.state.Life.{Life}
 use Rattle.cd_legal.specs.declared.state.Life.TheVariants.{Live, Published, Abandoned}
-use Rattle.cd_legal.specs.State.{holds, has_number, draft_of, may_clean_instances, all_stopped, all_cleaned}
+use Rattle.cd_legal.specs.State.{holds, has_number, draft_of, may_clean_instances}
 use Rattle.cd_legal.specs.Serials.{has_serial, has_serial_in}
 use Rattle.cd_legal.specs.Whole.{is_closed, is_closed_in}
 use Rattle.cd_legal.proofs.Serials.{Agree}
