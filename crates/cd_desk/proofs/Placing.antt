@@ -59,7 +59,7 @@ pub record RowDraft (s : State) (n d : ℕ) (r : Row) : Type 0 where
   pub life : draft.life ≡ Published n
   pub serial : draft_of n s.published ≡ Some d
 
-split_at : (d first : ℕ) → (d < first) ⊎ (first ≤ d)
+pub split_at : (d first : ℕ) → (d < first) ⊎ (first ≤ d)
 split_at d zero = inr (omega arith)
 split_at zero (suc f) = inl (omega arith)
 split_at (suc d) (suc f) = ⊎_elim (λ q. inl (omega (arith, q))) (λ q. inr (omega (arith, q))) (split_at d f)
