@@ -1,18 +1,16 @@
 -- What is left of a draft that is given up.
-use Rattle.std.proofs.Common.{◌≡◌, ℕ, ◌+◌, ◌<◌, ◌||◌, true, Bool, refl, sym, ap, ◌∙◌, arith, subst, Some, None, slice_get}
+use Rattle.std.proofs.Common.{◌≡◌, ℕ, ◌+◌, ◌||◌, true, Bool, refl, sym, ap, ◌∙◌, arith, subst, Some, None, slice_get}
 use Rattle.cd_tree.specs.declared.tree.Tree.{Tree}
 use Rattle.cd_legal.specs.declared.state.Life.{Life}
 use Rattle.cd_legal.specs.declared.state.Life.TheVariants.{Abandoned}
 use Rattle.cd_legal.specs.Abandoned.{is_abandoned}
 use Rattle.cd_desk.specs.declared.row.Row.{Row}
 use Rattle.cd_desk.specs.declared.books.Books.{Books}
-use Rattle.cd_desk.specs.declared.desk.Desk.{Desk}
 use Rattle.cd_desk.specs.declared.left.Left.{Left}
-use Rattle.cd_desk.specs.declared.closing.Closing.{Closing}
 use Rattle.cd_desk.specs.Books.{RowAt, Lives}
 use Rattle.cd_desk.specs.Publishing.{CanAbandon}
 use Rattle.cd_desk.specs.Lefts.{IsLeft, Follows}
-use Rattle.cd_desk.specs.Closings.{IsRest, IsClosing, MayClean, may_clean_row}
+use Rattle.cd_desk.specs.Closings.{IsRest, MayClean, may_clean_row}
 use Rattle.cd_desk.proofs.Counts.{now_at, was_at}
 
 pub can_abandon : (b : Books) (t : Tree) (l : Left) → IsLeft b t l → CanAbandon b l.number

@@ -1,26 +1,28 @@
 -- What a desk has of what a history leaves for which it stands.
-use Rattle.std.proofs.Common.{◌≡◌, ℕ, zero, suc, ◌+◌, ◌-◌, ◌<◌, ◌≤◌, Bool, true, false, List, [], ◌∷◌, length, drop, refl, sym, ap, ◌∙◌, arith, subst, Some, None, Option, slice_get, is_some, ⊎_elim}
+use Rattle.std.proofs.Common.{◌≡◌, ℕ, zero, suc, ◌+◌, ◌<◌, Bool, true, false, List, [], ◌∷◌, length, refl, sym, ap, ◌∙◌, arith, Some, None, Option, slice_get, is_some, ◌&&◌, ◌≤◌, ◌-◌, ⊎_elim, drop, subst}
 use Rattle.cd_outside.specs.declared.fixtures.FixtureCall.{FixtureCall}
 use Rattle.cd_tree.specs.declared.tree.Tree.{Tree}
-use Rattle.cd_legal.specs.declared.part.Part.{Part}
 use Rattle.cd_legal.specs.declared.part.Part.TheVariants.{Instance, App}
-use Rattle.cd_legal.specs.declared.plan.Plan.{Plan}
 use Rattle.cd_legal.specs.declared.entry.Signed.{Signed}
 use Rattle.cd_legal.specs.declared.state.State.{State}
 use Rattle.cd_legal.specs.declared.state.Drafted.{Drafted}
 use Rattle.cd_legal.specs.declared.state.Life.TheVariants.{Live}
 use Rattle.cd_legal.specs.Entry.{entries}
-use Rattle.cd_legal.specs.State.{has_ticket, part_keys}
+use Rattle.cd_legal.specs.State.{has_ticket, opening_state, holds, is_live, may_clean_instances}
 use Rattle.cd_legal.specs.Legal.{state_at}
+use Rattle.cd_legal.specs.Whole.{is_closed}
+use Rattle.cd_legal.proofs.Histories.{first}
+use Rattle.cd_legal.proofs.Sound.{is_sound, bound_of, sound_from, sound_at, live_whole}
 use Rattle.cd_legal.proofs.Callers.{has-ticket_of}
 use Rattle.cd_legal.proofs.Serials.{legal-agree}
 use Rattle.cd_desk.specs.declared.row.Row.{Row}
 use Rattle.cd_desk.specs.declared.desk.Desk.{Desk}
 use Rattle.cd_desk.specs.declared.left.Left.{Left}
-use Rattle.cd_desk.specs.Rows.{Shows, ShowsAt, line_at}
+use Rattle.cd_desk.specs.Rows.{Shows, ShowsAt}
 use Rattle.cd_desk.specs.Desks.{Holds, HasTicket, told_ticket}
 use Rattle.cd_desk.specs.Lefts.{IsLeft, Follows, left_of}
-use Rattle.cd_desk.proofs.Placing.{draft_at}
+use Rattle.cd_desk.proofs.Placing.{draft_at, split_at}
+use Rattle.cd_desk.proofs.Lists.{get_drop}
 use Rattle.cd_desk.proofs.Standing.{Shown}
 use Rattle.cd_desk.proofs.Ending.{many}
 use Rattle.cd_desk.proofs.Openings.{length_map}
@@ -86,3 +88,41 @@ module _ {F : Type 0} (calls : F → Option (List FixtureCall)) (opening b : Des
       at None is e = let f : false ≡ true = ap (λ z. is_some (told_ticket z)) (sym is) ∙ e in cc
       at (Some None) is e = let f : false ≡ true = ap (λ z. is_some (told_ticket z)) (sym is) ∙ e in cc
       at (Some (Some n)) is e = (n, is)
+
+  -- a live draft of the history is there, with what is left of it
+  pub left_there : (d : ℕ) (x : Drafted) → slice_get (state_at log).drafts d ≡ Some x → x.life ≡ Live → IsLeft b.books x.tree (left_of d x)
+  left_there d x there live =
+      let s : State = state_at log in
+      let sound = sound_from opening_state (entries log) h.is_legal refl in
+      let whole = live_whole (bound_of s) x live (first (is_sound (bound_of s) x) _ (ap (holds (λ y. is_sound (bound_of s) y && is_live y.life)) (sym there) ∙ sound_at s d (λ y. is_live y.life) sound (ap (holds (λ y. is_live y.life)) there ∙ ap is_live live))) in
+      ⊎_elim (λ q. absurd (let f : false ≡ true = not_closed s x live (ap (holds (is_closed s.retired)) (sym there) ∙ h.agrees.closed d q) in cc))
+      (λ q. with_row d x there live whole q (slice_get b.books.rows.items (d - b.books.first)) refl) (split_at d b.books.first)
+    where
+      not_closed : (s : State) (x : Drafted) → x.life ≡ Live → is_closed s.retired x ≡ true → false ≡ true
+      not_closed s x live closed = sym (ap (may_clean_instances s.retired) live) ∙ first (may_clean_instances s.retired x.life) _ closed
+
+      row_left : (d : ℕ) (x : Drafted) (r : Row) → x.life ≡ Live → (x.stopped ≡ 0) × (x.cleaned ≡ 0) → b.books.first ≤ d → slice_get b.books.rows.items (d - b.books.first) ≡ Some r → Shows (state_at log).retired r x → IsLeft b.books x.tree (left_of d x)
+      row_left d x r live whole le is w = record {
+        place = d - b.books.first;
+        row = r;
+        at = record { number = omega (arith, le); there = is };
+        follows = record {
+          live = sym w.life ∙ live;
+          failed = sym w.failed;
+          made = sym w.made;
+          modules = sym (many Instance (state_at log).retired r x w) ∙ length_map (λ m. m.keys) x.plan.modules;
+          started = sym w.started;
+          apps = sym (many App (state_at log).retired r x w) ∙ length_map (λ m. m.keys) x.plan.apps;
+          unended = (sym w.cleaned ∙ whole.1, sym w.stopped ∙ whole.0);
+        };
+        tree = sym w.tree;
+      }
+
+      by_row : (d : ℕ) (x : Drafted) → x.life ≡ Live → (x.stopped ≡ 0) × (x.cleaned ≡ 0) → b.books.first ≤ d → (o : Option Row) → slice_get b.books.rows.items (d - b.books.first) ≡ o → ShowsAt (state_at log).retired o (Some x) → IsLeft b.books x.tree (left_of d x)
+      by_row d x live whole le None is sh = absurd sh
+      by_row d x live whole le (Some r) is sh = row_left d x r live whole le is sh
+
+      with_row : (d : ℕ) (x : Drafted) → slice_get (state_at log).drafts d ≡ Some x → x.life ≡ Live → (x.stopped ≡ 0) × (x.cleaned ≡ 0) → b.books.first ≤ d → (o : Option Row) → slice_get b.books.rows.items (d - b.books.first) ≡ o → IsLeft b.books x.tree (left_of d x)
+      with_row d x there live whole le o is =
+          let at : slice_get (drop b.books.first (state_at log).drafts) (d - b.books.first) ≡ Some x = get_drop b.books.first (state_at log).drafts (d - b.books.first) ∙ (ap (slice_get (state_at log).drafts) (let e : b.books.first + (d - b.books.first) ≡ d = omega (arith, le) in e) ∙ there) in
+          by_row d x live whole le o is (subst (λ z. ShowsAt (state_at log).retired o z) at (subst (λ z. ShowsAt (state_at log).retired z (slice_get (drop b.books.first (state_at log).drafts) (d - b.books.first))) is (h.agrees.rows (d - b.books.first))))

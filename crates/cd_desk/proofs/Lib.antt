@@ -12,3 +12,8 @@ pub mod Untouched
 pub mod Closings
 pub mod Placing
 pub mod Laws
+pub mod Endings
+pub mod Shuttings
+pub mod Stoppings
+pub mod Retirings
+pub mod Supersedings

@@ -6,7 +6,7 @@ use Rattle.cd_legal.specs.declared.state.State.{State}
 use Rattle.cd_legal.specs.declared.state.Drafted.{Drafted}
 use Rattle.cd_legal.specs.declared.state.Life.{Life}
 use Rattle.cd_legal.specs.declared.state.Life.TheVariants.{Live, Published, Abandoned}
-use Rattle.cd_legal.specs.State.{holds, has_number, draft_of, may_clean_instances, all_stopped, all_cleaned}
+use Rattle.cd_legal.specs.State.{holds, has_number, draft_of, may_clean_instances}
 use Rattle.cd_legal.specs.Serials.{has_serial, has_serial_in}
 use Rattle.cd_legal.specs.Whole.{is_closed, is_closed_in}
 use Rattle.cd_legal.proofs.Serials.{Agree}
@@ -59,7 +59,7 @@ pub record RowDraft (s : State) (n d : ℕ) (r : Row) : Type 0 where
   pub life : draft.life ≡ Published n
   pub serial : draft_of n s.published ≡ Some d
 
-split_at : (d first : ℕ) → (d < first) ⊎ (first ≤ d)
+pub split_at : (d first : ℕ) → (d < first) ⊎ (first ≤ d)
 split_at d zero = inr (omega arith)
 split_at zero (suc f) = inl (omega arith)
 split_at (suc d) (suc f) = ⊎_elim (λ q. inl (omega (arith, q))) (λ q. inr (omega (arith, q))) (split_at d f)

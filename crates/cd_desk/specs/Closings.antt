@@ -1,15 +1,20 @@
 -- What is left to be ended of a draft, and which serials may be retired, as the rows show it.
-use Rattle.std.specs.Prelude.{◌≡◌, ℕ, zero, suc, ◌+◌, ◌-◌, ◌<◌, ◌==◌, Bool, true, false, ◌||◌, slice_get, Option, Some, None}
+use Rattle.std.specs.Prelude.{◌≡◌, ℕ, zero, suc, ◌+◌, ◌-◌, ◌<◌, Bool, true, false, ◌||◌, slice_get, Option, Some, None, ◌==◌}
+use Rattle.cd_legal.specs.declared.part.Part.{Part}
+use Rattle.cd_legal.specs.declared.part.Part.TheVariants.{Instance, App}
+use Rattle.cd_legal.specs.declared.entry.Entry.{Entry}
+use Rattle.cd_legal.specs.declared.entry.Entry.TheVariants.{Stopped, Cleaned}
 use Rattle.cd_legal.specs.declared.state.State.{State}
 use Rattle.cd_legal.specs.declared.state.Drafted.{Drafted}
 use Rattle.cd_legal.specs.declared.state.Life.{Life}
 use Rattle.cd_legal.specs.declared.state.Life.TheVariants.{Published, Abandoned}
-use Rattle.cd_legal.specs.State.{draft_of}
+use Rattle.cd_legal.specs.State.{draft_of, may_stop_apps}
 use Rattle.cd_legal.specs.Abandoned.{is_abandoned}
 use Rattle.cd_desk.specs.declared.row.Row.{Row}
 use Rattle.cd_desk.specs.declared.books.Books.{Books}
 use Rattle.cd_desk.specs.declared.desk.Desk.{Desk}
 use Rattle.cd_desk.specs.declared.closing.Closing.{Closing}
+use Rattle.cd_desk.specs.Rows.{line_at}
 use Rattle.cd_desk.specs.Books.{RowAt}
 use Rattle.cd_desk.specs.Desks.{told_at}
 
@@ -77,3 +82,26 @@ LeavesOf s (Some d) c = (0 < c.apps + c.instances → c.number ≡ d) × ((c.app
 -- so much is left of the draft that was published with the serial
 abbrev pub Leaves : State → ℕ → Closing → Type 0
 Leaves s n c = LeavesOf s (draft_of n s.published) c
+
+-- one of a line of the draft is left to be ended, and may be: an app where the draft is given up or of a superseded serial, an
+-- instance where it is given up or of a retired one, once all apps are stopped
+abbrev pub MayEnd : {F : Type 0} → Part → Desk F → Row → Type 0
+MayEnd Instance v r = (may_clean_row r ≡ true) × (r.apps.ended ≡ r.apps.opened)
+MayEnd App v r = may_stop_apps v.serial r.life ≡ true
+
+pub record CanEndOf {F : Type 0} (part : Part) (v : Desk F) (d : ℕ) : Type 0 where
+  pub place : ℕ
+  pub row : Row
+  pub at : RowAt v.books d place row
+  pub may : MayEnd part v row
+  pub left : (line_at part row).ended < (line_at part row).opened
+
+-- the one at a place is ended
+abbrev pub ending_entry : Part → ℕ → ℕ → Entry
+ending_entry Instance d i = Cleaned d i
+ending_entry App d i = Stopped d i
+
+-- whether no app is left to be stopped of a draft that has this row, if it has one
+abbrev pub is_stopped_row : Option Row → Bool
+is_stopped_row None = true
+is_stopped_row (Some r) = r.apps.ended == r.apps.opened

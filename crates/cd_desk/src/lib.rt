@@ -26,10 +26,13 @@ mod line;
 mod lives;
 mod making;
 mod opening;
+mod retiring;
 mod row;
 mod rows;
 mod serials;
 mod steps;
+mod stopping;
+mod superseding;
 mod tickets;
 
 pub use beginning::NoDesk;

@@ -16,6 +16,7 @@ pub struct Line {
     // how many of these are ended: cleaned, or stopped
     pub(crate) ended: u32,
     ghost all: { length (part_keys part plan.value) ≡ length parts.items },
+    ghost over: { ended ≤ opened },
     ghost within: { opened ≤ length parts.items },
     ghost bound: { length parts.items ≤ 65537 },
     ghost wait: { Wait opened parts.items (part_keys part plan.value) },

@@ -13,7 +13,7 @@ use cd_legal::Life;
 use cd_outside::Fixtures;
 
 // Whether it is that of a draft that was published with the serial.
-fn has_serial(life: Life, serial: u32) -> bool
+pub(crate) fn has_serial(life: Life, serial: u32) -> bool
     ensures { result ≡ has_serial serial life }
 {
     match life {

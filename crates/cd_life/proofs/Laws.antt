@@ -15,7 +15,7 @@ use Rattle.cd_legal.specs.Entry.{entries}
 use Rattle.cd_legal.specs.State.{has_number, Conf, conf_of, conf_at, conf_in, holds_if_there}
 use Rattle.cd_legal.specs.Legal.{state_at}
 use Rattle.cd_legal.proofs.Facts.{is-less}
-use Rattle.cd_legal.proofs.Serials.{IsCounted, published-count, retired-below}
+use Rattle.cd_legal.proofs.Serials.{published-count, retired-below}
 use Rattle.cd_legal.proofs.Confs.{IsSteady, legal-steady}
 use Rattle.cd_legal.proofs.Leaving.{at_each}
 use Rattle.cd_desk.specs.declared.left.Left.{Left}

@@ -1,5 +1,5 @@
 -- What a board stands for after one entry more.
-use Rattle.std.proofs.Common.{◌≡◌, ◌≢◌, ℕ, zero, suc, ◌+◌, ◌-◌, ◌<◌, ◌≤◌, ◌==◌, ◌&&◌, true, false, Bool, List, [], ◌∷◌, ◌++◌, length, refl, sym, ap, ◌∙◌, arith, subst, slice_get, Option, Some, None, Result, Ok, Err, OnErr, IfSome, cond, eq-eqb, ne_eqb}
+use Rattle.std.proofs.Common.{◌≡◌, ℕ, zero, suc, ◌+◌, ◌-◌, ◌<◌, ◌≤◌, ◌==◌, true, false, Bool, List, [], ◌∷◌, ◌++◌, length, refl, sym, ap, ◌∙◌, arith, subst, slice_get, Option, Some, None, Result, Ok, Err, OnErr, cond, eq-eqb, ne_eqb}
 use Rattle.std.specs.Vec.{vec_len, vec_capacity}
 use Rattle.cd_outside.specs.declared.fixtures.FixtureCall.{FixtureCall}
 use Rattle.cd_tree.specs.declared.tree.Tree.{Tree}
@@ -15,7 +15,7 @@ use Rattle.cd_legal.specs.declared.state.Drafted.{Drafted}
 use Rattle.cd_legal.specs.declared.state.Life.TheVariants.{Published, Abandoned}
 use Rattle.cd_legal.specs.Entry.{signed, entries}
 use Rattle.cd_legal.specs.State.{opening_state, conf_of, Conf, is_live, new_draft}
-use Rattle.cd_legal.specs.Legal.{allowed, after, is_complete, state_of, state_from, state_at, IsLegal}
+use Rattle.cd_legal.specs.Legal.{allowed, after, is_complete, state_from, state_at, IsLegal}
 use Rattle.cd_legal.proofs.Histories.{entries-snoc}
 use Rattle.cd_legal.proofs.Serials.{is_publish, count_running, published-count}
 use Rattle.cd_legal.proofs.Facts.{can, completes, Publishes}
@@ -28,7 +28,7 @@ use Rattle.cd_desk.proofs.Laws.{LeftDraft, left_is}
 use Rattle.cd_life.specs.declared.board.Kept.{Kept}
 use Rattle.cd_life.specs.Changes.{tree_at, tree_of}
 use Rattle.cd_life.specs.Fits.{Fits, FitFrom, AllFit}
-use Rattle.cd_life.specs.Standing.{Stood, Shelves, Adds, Keeps, is_kept, live_among}
+use Rattle.cd_life.specs.Standing.{Stood, Shelves, Adds, Keeps}
 use Rattle.cd_life.proofs.Shelving.{state_more, allowed_more, conf_before, conf_after, kept_before, live_plain, live_push, live_gone, is_plain, older, published_kept}
 
 fit_more : (plan : Tree → Result Plan LoadFault) (makes : Tree → Request → Option Tree) (s : State) (log : List Entry) (e : Entry) → FitFrom plan makes s log → Fits plan makes (state_from s log) e → FitFrom plan makes s (log ++ e ∷ [])

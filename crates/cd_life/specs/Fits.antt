@@ -1,5 +1,5 @@
 -- The changes by which configurations come, and which histories are of such changes alone.
-use Rattle.std.specs.Prelude.{◌≡◌, ℕ, List, [], ◌∷◌, slice_get, IfSome, Option, Some, Result, Ok}
+use Rattle.std.specs.Prelude.{◌≡◌, List, [], ◌∷◌, slice_get, IfSome, Option, Some, Result, Ok}
 use Rattle.cd_tree.specs.declared.tree.Tree.{Tree}
 use Rattle.cd_wire.specs.declared.request.Request.{Request}
 use Rattle.cd_module.specs.declared.fault.LoadFault.{LoadFault}

@@ -1,12 +1,15 @@
-ghost use Rattle.std.specs.Prelude.{◌≡◌, None};
+ghost use Rattle.std.specs.Prelude.{◌≡◌, ◌<◌, ◌+◌, ◌-◌, List, Some, None, true};
 ghost use Rattle.std.specs.Arc.{arc_value};
 ghost use Rattle.cd_legal.specs.declared.entry.Entry.TheVariants as entry;
-ghost use Rattle.cd_desk.specs.Lefts.{IsLeft};
-ghost use Rattle.cd_desk.specs.Closings.{IsClosing, MayClean};
-ghost use Rattle.cd_life.specs.Standing.{Adds};
+ghost use Rattle.cd_legal.specs.declared.entry.Signed.{Signed};
+ghost use Rattle.cd_legal.specs.Legal.{state_at};
+ghost use Rattle.cd_legal.specs.State.{has_number};
+ghost use Rattle.cd_desk.specs.Lefts.{IsLeft, step_at};
+ghost use Rattle.cd_desk.specs.Closings.{IsClosing, MayClean, Leaves};
+ghost use Rattle.cd_life.specs.Standing.{Stood, Adds};
 
 use crate::board::{Board, Draft};
-use cd_desk::Closing;
+use cd_desk::{Closing, Step};
 use cd_module_set::ModuleSet;
 use cd_outside::Fixtures;
 
@@ -23,5 +26,62 @@ impl<M: ModuleSet, F: Fixtures> Board<M, F> {
         drop(loaded);
         self.live = self.live.saturating_sub(1);
         self.desk.abandon(left)
+    }
+
+    /// Stops the last app of a closing that is left. Where it was the last one of a halted host, the fixtures are shut.
+    pub fn stop(&mut self, closing: &mut Closing) -> Step
+        requires at { IsClosing self.old.desk closing.old }
+        requires more { 0 < closing.old.apps }
+        ensures entry { Adds F.calls M.plan M.change self.old self.new (entry.Stopped closing.old.number (closing.old.apps - 1)) }
+        ensures closing { closing.new ≡ record closing.old { apps = closing.old.apps - 1 } }
+        ensures at { IsClosing self.new.desk closing.new }
+        ensures clean { MayClean self.old.desk.books closing.old.number → MayClean self.new.desk.books closing.old.number }
+        ensures step { result ≡ step_at closing.new.apps 0 }
+    {
+        self.desk.stop(closing)
+    }
+
+    /// Cleans the last instance of a closing that is left, once all its apps are stopped.
+    pub fn clean(&mut self, closing: &mut Closing) -> Step
+        requires at { IsClosing self.old.desk closing.old }
+        requires stopped { closing.old.apps ≡ 0 }
+        requires more { 0 < closing.old.instances }
+        requires may { MayClean self.old.desk.books closing.old.number }
+        ensures entry { Adds F.calls M.plan M.change self.old self.new (entry.Cleaned closing.old.number (closing.old.instances - 1)) }
+        ensures closing { closing.new ≡ record closing.old { instances = closing.old.instances - 1 } }
+        ensures at { IsClosing self.new.desk closing.new }
+        ensures clean { MayClean self.new.desk.books closing.old.number }
+        ensures step { result ≡ step_at closing.new.instances 0 }
+    {
+        self.desk.clean(closing)
+    }
+
+    /// Spends a closing of which nothing is left.
+    pub fn closed(&mut self, closing: Closing)
+        requires apps { closing.apps ≡ 0 }
+        requires instances { closing.instances ≡ 0 }
+        ensures { self.new ≡ self.old }
+    {
+        closing.end();
+    }
+
+    /// What is left to be ended of the configuration with a superseded serial; nothing of the opening one.
+    pub fn superseded(&mut self, serial: u32) -> Closing
+        requires { serial < self.old.desk.serial }
+        ensures same { self.new ≡ self.old }
+        ensures at { IsClosing self.new.desk result }
+        ensures serial { result.serial ≡ Some serial }
+        ensures left { (opening : _) (log : List Signed) → Stood F.calls M.plan M.change opening self.new log → Leaves (state_at log) serial result }
+        ensures clean { (opening : _) (log : List Signed) → Stood F.calls M.plan M.change opening self.new log → has_number serial (state_at log).retired ≡ true → 0 < result.instances → MayClean self.new.desk.books result.number }
+    {
+        self.desk.superseded(serial)
+    }
+
+    /// Takes back the closing of a superseded serial, until it is asked for again.
+    pub fn put_back(&mut self, serial: u32, closing: Closing)
+        requires { closing.serial ≡ Some serial }
+        ensures { self.new ≡ self.old }
+    {
+        closing.put_back(serial);
     }
 }

@@ -1,5 +1,4 @@
-use Rattle.std.proofs.Common.{◌≡◌, ◌≤◌, ℕ, ap, length, subst, sym, ◌∙◌}
-use Rattle.cd_desk.specs.Desks.{none_open}
+use Rattle.std.proofs.Common.{◌≤◌, ℕ, ap, length, subst, sym, ◌∙◌}
 use Rattle.cd_desk.proofs.Untouched.{length_none}
 use Rattle.cd_desk.proofs.beginning.tickets_for.Goals as goal
 

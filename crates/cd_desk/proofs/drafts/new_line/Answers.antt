@@ -10,6 +10,7 @@ invariant_of-result c =
     let all : length c.args.parts.items ≡ length (part_keys c.args.part c.args.plan.now) = wait_length c.args.parts.items (part_keys c.args.part c.args.plan.now) c.requires.wait in
     record {
       all = ap (λ z. length (part_keys c.args.part z)) same ∙ sym all;
+      over = omega arith;
       within = omega arith;
       bound = c.requires.bound;
       wait = all_wait c.args.parts.items _ (subst (λ z. AllWait c.args.parts.items (part_keys c.args.part z)) (sym same) c.requires.wait);

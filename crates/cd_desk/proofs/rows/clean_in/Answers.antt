@@ -1,4 +1,4 @@
-use Rattle.std.proofs.Common.{◌≡◌, ◌<◌, ◌+◌, ◌-◌, [], arith, rules, refl, sym, ap, ◌∙◌, subst, length, false, true, ℕ}
+use Rattle.std.proofs.Common.{◌≡◌, ◌<◌, ◌+◌, ◌-◌, arith, rules, refl, sym, ap, ◌∙◌, subst, length, false}
 use Rattle.std.proofs.lemmas.Option.{slice_get_read, slice_get_within}
 use Rattle.cd_legal.specs.declared.part.Part.{Part}
 use Rattle.cd_legal.specs.declared.part.Part.TheVariants.{Instance}

@@ -1,4 +1,3 @@
-use Rattle.std.proofs.Common.{refl, ◌≡◌, ◌<◌, ℕ, None, Some}
 use Rattle.cd_desk.proofs.Standing.{adds}
 use Rattle.cd_desk.proofs.Ending.{abandons}
 use Rattle.cd_desk.proofs.Closings.{can_abandon, abandoned_rest, abandoned_may}

@@ -1,10 +1,10 @@
-use Rattle.std.proofs.Common.{◌≡◌, ◌==◌, ◌<◌, ℕ, false, true, sym, ap, ◌∙◌, arith, rules, refl, slice_get, Some, None, subst}
+use Rattle.std.proofs.Common.{◌≡◌, ◌==◌, ◌<◌, false, sym, ap, ◌∙◌, arith, rules, refl, slice_get, Some, None, subst}
 use Rattle.std.proofs.lemmas.Option.{slice_get_read, slice_get_within}
 use Rattle.cd_legal.specs.Entry.{entries}
 use Rattle.cd_legal.specs.Legal.{state_at}
 use Rattle.cd_legal.proofs.Serials.{legal-agree}
 use Rattle.cd_desk.specs.Serials.{IsPlaceOf}
-use Rattle.cd_desk.proofs.Placing.{row_of-has, retired_none, retired_row, retired_late}
+use Rattle.cd_desk.proofs.Placing.{row_of-has, retired_none, retired_row}
 use Rattle.cd_desk.proofs.Lists.{same_at}
 use Rattle.cd_desk.proofs.desk.Desk.retired.Goals as goal
 

@@ -35,6 +35,7 @@ invariant_of-self g c =
     let same : length (set l.parts.items i c.give_all.new.self) ≡ length l.parts.items = length-set l.parts.items i c.give_all.new.self in
     record {
       all = let a = l.all in omega arith;
+      over = omega arith;
       within = (let w = l.within in omega arith);
       bound = (let b = l.bound in omega arith);
       wait = still_wait l.opened i l.parts.items _ c.give_all.new.self _ (omega arith) (search rules) l.wait;

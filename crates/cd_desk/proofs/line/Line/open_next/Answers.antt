@@ -25,6 +25,7 @@ invariant_of-self g c =
     let same : length (set c.args.self.now.parts.items c.args.self.now.opened c.take_all-taken.new.self) ≡ length c.args.self.now.parts.items = length-set c.args.self.now.parts.items c.args.self.now.opened c.take_all-taken.new.self in
     record {
       all = let a = c.args.self.now.all in omega arith;
+      over = (let o = c.args.self.now.over in omega arith);
       within = (let l = c.requires.left in omega arith);
       bound = (let b = c.args.self.now.bound in omega arith);
       wait = wait_on c.args.self.now.opened c.args.self.now.parts.items _ c.take_all-taken.new.self _ (search rules) c.args.self.now.wait;

@@ -1,4 +1,4 @@
-use Rattle.std.proofs.Common.{◌≡◌, ◌∙◌, ◌-◌, ℕ, ap, sym, subst, rules, refl}
+use Rattle.std.proofs.Common.{◌≡◌, ◌-◌, rules, refl}
 use Rattle.cd_life.proofs.Standings.{adds, shelf_abandon}
 use Rattle.cd_life.proofs.board.Board.abandon.Goals as goal
 

@@ -1,4 +1,4 @@
-use Rattle.std.proofs.Common.{◌≡◌, ◌∙◌, ℕ, ◌+◌, ap, sym, subst, refl, arith, rules}
+use Rattle.std.proofs.Common.{refl}
 use Rattle.cd_life.proofs.Standings.{adds, shelf_plain}
 use Rattle.cd_life.proofs.board.Board.begin.Goals as goal
 

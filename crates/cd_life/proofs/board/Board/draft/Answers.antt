@@ -1,12 +1,10 @@
-use Rattle.std.proofs.Common.{◌≡◌, ◌∙◌, ◌+◌, ◌≤◌, ℕ, ap, sym, subst, rules, refl, arith, OnErr, false, length}
-use Rattle.std.specs.Vec.{vec_len, vec_capacity}
+use Rattle.std.proofs.Common.{◌≡◌, ◌∙◌, ℕ, ap, sym, subst, rules, refl, OnErr, false, length}
 use Rattle.cd_tree.specs.declared.tree.Tree.{Tree}
 use Rattle.cd_legal.specs.declared.plan.Plan.{Plan}
 use Rattle.cd_legal.specs.declared.entry.Entry.TheVariants.{Draft}
 use Rattle.cd_desk.specs.Desks.{AddsTo, Keeps as KeepsDesk}
 use Rattle.cd_desk.specs.declared.left.Left.{Left}
 use Rattle.cd_desk.specs.Lefts.{IsLeft}
-use Rattle.cd_life.specs.Standing.{Keeps}
 use Rattle.cd_desk.proofs.Counts.{new_is}
 use Rattle.cd_life.proofs.Standings.{adds, keeps, shelf_draft, shelf_same, on_err}
 use Rattle.cd_life.proofs.board.Board.draft.Goals as goal

@@ -1,4 +1,4 @@
-use Rattle.std.proofs.Common.{◌≡◌, ◌∙◌, ap, length, refl, rules, arith}
+use Rattle.std.proofs.Common.{◌≡◌, ◌∙◌, ap, length, refl, rules}
 use Rattle.cd_desk.specs.Desks.{none_open}
 use Rattle.cd_desk.proofs.Untouched.{length_none}
 use Rattle.cd_life.proofs.Standings.{nothing_kept}

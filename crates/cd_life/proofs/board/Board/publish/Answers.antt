@@ -1,4 +1,4 @@
-use Rattle.std.proofs.Common.{◌≡◌, ◌∙◌, ◌+◌, ◌-◌, ℕ, sym, ap, subst, arith, rules, refl}
+use Rattle.std.proofs.Common.{◌≡◌, ◌∙◌, ◌+◌, ◌-◌, ℕ, sym, subst, arith, rules, refl}
 use Rattle.std.specs.Arc.{arc_value}
 use Rattle.cd_legal.specs.declared.entry.Entry.TheVariants.{Publish}
 use Rattle.cd_desk.specs.Desks.{AddsTo}

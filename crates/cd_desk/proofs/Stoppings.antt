@@ -1,0 +1,137 @@
+-- A desk on which what was left of a draft is ended one by one.
+use Rattle.std.proofs.Common.{◌≡◌, ℕ, ◌+◌, ◌-◌, ◌<◌, ◌==◌, ◌&&◌, ◌||◌, Bool, true, false, cond, List, [], ◌∷◌, ◌++◌, refl, sym, ap, ◌∙◌, arith, Some, None, Option, slice_get, subst, append_assoc}
+use Rattle.cd_outside.specs.declared.fixtures.FixtureCall.{FixtureCall}
+use Rattle.cd_outside.specs.declared.fixtures.FixtureCall.TheVariants.{Shut}
+use Rattle.cd_outside.specs.FixtureCall.{CallsGrow}
+use Rattle.cd_legal.specs.declared.part.Part.{Part}
+use Rattle.cd_legal.specs.declared.part.Part.TheVariants.{Instance, App}
+use Rattle.cd_legal.specs.declared.entry.Entry.{Entry}
+use Rattle.cd_legal.specs.declared.entry.Entry.TheVariants.{Stopped, Cleaned}
+use Rattle.cd_legal.specs.declared.state.Life.{Life}
+use Rattle.cd_legal.specs.declared.state.State.{State}
+use Rattle.cd_legal.specs.declared.state.Drafted.{Drafted}
+use Rattle.cd_legal.specs.State.{may_stop_apps}
+use Rattle.cd_legal.specs.Legal.{allowed, after}
+use Rattle.cd_legal.specs.Abandoned.{is_abandoned}
+use Rattle.cd_legal.specs.Serials.{has_serial}
+use Rattle.cd_legal.specs.Calls.{entry_calls, key_calls, is_shut, shutting}
+use Rattle.cd_legal.specs.Begins.{begins_by}
+use Rattle.cd_legal.proofs.Facts.{less-is}
+use Rattle.cd_desk.specs.declared.row.Row.{Row}
+use Rattle.cd_desk.specs.declared.books.Books.{Books}
+use Rattle.cd_desk.specs.declared.desk.Desk.{Desk}
+use Rattle.cd_desk.specs.declared.closing.Closing.{Closing}
+use Rattle.cd_desk.specs.Rows.{Shows, line_at}
+use Rattle.cd_desk.specs.Books.{RowAt, Ends, CanEnd}
+use Rattle.cd_desk.specs.Desks.{Agrees}
+use Rattle.cd_desk.specs.Closings.{IsRest, IsClosing, MayClean, may_clean_row, life_by, CanEndOf}
+use Rattle.cd_desk.proofs.Lists.{same_at}
+use Rattle.cd_desk.proofs.Counts.{now_at, was_at}
+use Rattle.cd_desk.proofs.Standing.{Known, Steps, plain_calls}
+use Rattle.cd_desk.proofs.Endings.{Ended, ends}
+use Rattle.cd_desk.proofs.Shuttings.{stop_shuts, with_calls}
+
+closing_may : {F : Type 0} (v : Desk F) (o : Option ℕ) (l : Life) → ((n : ℕ) → o ≡ Some n → n < v.serial) → l ≡ life_by o → may_stop_apps v.serial l ≡ true
+closing_may v None l below is = ap (may_stop_apps v.serial) is
+closing_may v (Some n) l below is = ap (may_stop_apps v.serial) is ∙ less-is n v.serial (below n refl)
+
+-- an app that is left may be stopped
+pub can_stop : {F : Type 0} (v : Desk F) (c : Closing) → IsClosing v c → 0 < c.apps → CanEndOf App v c.number
+can_stop v c is more =
+    let r : IsRest v.books c = is.rest (omega (arith, more)) in
+    let apps = r.apps in
+    record { place = r.place; row = r.row; at = r.at; may = closing_may v c.serial r.row.life is.superseded r.life; left = omega (arith, apps, more) }
+
+-- an instance that is left may be cleaned where no app is left
+pub can_clean : {F : Type 0} (v : Desk F) (c : Closing) → IsClosing v c → c.apps ≡ 0 → 0 < c.instances → MayClean v.books c.number → CanEndOf Instance v c.number
+can_clean v c is none more may =
+    let r : IsRest v.books c = is.rest (omega (arith, more)) in
+    let apps = r.apps in
+    let instances = r.instances in
+    record { place = r.place; row = r.row; at = r.at; may = (may r.place r.row r.at, omega (arith, apps, none)); left = omega (arith, instances, more) }
+
+pub can_end : {F : Type 0} (p : Part) (v : Desk F) (d place : ℕ) → CanEndOf p v d → d ≡ v.books.first + place → CanEnd p v.books place
+can_end p v d place can number =
+    let n = can.at.number in
+    let here : can.place ≡ place = omega (arith, n, number) in
+    (can.row, subst (λ (z : ℕ). slice_get v.books.rows.items z ≡ Some can.row) here can.at.there, can.left)
+
+-- ---- what is left afterwards
+
+module _ (v w : Books) (c : Closing) (place : ℕ) (before after : Option (List FixtureCall)) (number : c.number ≡ v.first + place) (r : IsRest v c) where
+  pub rest_stopped : Ends App place v w before after → 0 < c.apps → IsRest w (record c { apps = c.apps - 1 })
+  rest_stopped o more =
+      let same : r.row ≡ o.changes.was = was_at v w c.number place r.place r.row o.changes number r.at in
+      let apps : o.changes.was.apps.ended + c.apps ≡ o.changes.was.apps.opened = subst (λ (z : Row). z.apps.ended + c.apps ≡ z.apps.opened) same r.apps in
+      let instances : o.changes.was.modules.ended + c.instances ≡ o.changes.was.modules.opened = subst (λ (z : Row). z.modules.ended + c.instances ≡ z.modules.opened) same r.instances in
+      let ended = o.ends.ended in
+      let opened = o.ends.opened in
+      let ended2 = ap (λ z. z.ended) o.others in
+      let opened2 = ap (λ z. z.opened) o.others in
+      record {
+        place = place;
+        row = o.changes.is;
+        at = now_at v w c.number place o.changes number;
+        life = o.life ∙ (ap (λ (z : Row). z.life) (sym same) ∙ r.life);
+        apps = omega (arith, apps, ended, opened, more);
+        instances = omega (arith, instances, ended2, opened2);
+      }
+
+  pub rest_cleaned : Ends Instance place v w before after → 0 < c.instances → IsRest w (record c { instances = c.instances - 1 })
+  rest_cleaned o more =
+      let same : r.row ≡ o.changes.was = was_at v w c.number place r.place r.row o.changes number r.at in
+      let apps : o.changes.was.apps.ended + c.apps ≡ o.changes.was.apps.opened = subst (λ (z : Row). z.apps.ended + c.apps ≡ z.apps.opened) same r.apps in
+      let instances : o.changes.was.modules.ended + c.instances ≡ o.changes.was.modules.opened = subst (λ (z : Row). z.modules.ended + c.instances ≡ z.modules.opened) same r.instances in
+      let ended = o.ends.ended in
+      let opened = o.ends.opened in
+      let ended2 = ap (λ z. z.ended) o.others in
+      let opened2 = ap (λ z. z.opened) o.others in
+      record {
+        place = place;
+        row = o.changes.is;
+        at = now_at v w c.number place o.changes number;
+        life = o.life ∙ (ap (λ (z : Row). z.life) (sym same) ∙ r.life);
+        apps = omega (arith, apps, ended2, opened2);
+        instances = omega (arith, instances, ended, opened, more);
+      }
+
+-- instances that may be cleaned may be afterwards
+pub may_on : (p : Part) (v w : Books) (d place : ℕ) (before after : Option (List FixtureCall)) → d ≡ v.first + place → (o : Ends p place v w before after) → MayClean v d → MayClean w d
+may_on p v w d place before after number o may other r at =
+    let first = o.changes.first in
+    let n = at.number in
+    let here : other ≡ place = omega (arith, n, number, first) in
+    let same : r ≡ o.changes.is = is_row r o.changes.is (subst (λ (z : ℕ). slice_get w.rows.items z ≡ Some r) here at.there) (now_at v w d place o.changes number).there in
+    ap may_clean_row same ∙ (ap (λ (z : Life). is_abandoned z || o.changes.is.retired) o.life ∙ (ap (λ (z : Bool). is_abandoned o.changes.was.life || z) o.retired ∙ may place o.changes.was (record { number = number; there = o.changes.there })))
+  where
+    is_row : (r s : Row) → slice_get w.rows.items place ≡ Some r → slice_get w.rows.items place ≡ Some s → r ≡ s
+    is_row r s e f = same_at w.rows.items place r s e f
+
+-- ---- the entries
+
+module _ {F : Type 0} (calls : F → Option (List FixtureCall)) where
+  pub cleans : (v : Desk F) (fixtures : F) (books : Books) (d place : ℕ) (can : CanEndOf Instance v d) → d ≡ v.books.first + place → (o : Ends Instance place v.books books (calls v.fixtures) (calls fixtures)) → Steps calls v (record v { fixtures = fixtures; books = books }) (Cleaned d (o.changes.was.modules.opened - o.changes.was.modules.ended - 1))
+  cleans v fixtures books d place can number o opening s told count known a =
+      let i : ℕ = o.changes.was.modules.opened - o.changes.was.modules.ended - 1 in
+      let w : Desk F = record v { fixtures = fixtures; books = books } in
+      let n : Ended calls Instance opening w s told count d i o.changes.was = ends calls Instance v fixtures books d place can number o opening s told count known a in
+      (n.may, subst (λ (z : List FixtureCall). Agrees calls opening w (after s (Cleaned d i)) (told ++ z) count) (sym (plain_calls s (Cleaned d i) n.may known.steady refl)) n.agrees)
+
+  same_last : (b c d e : Bool) (l m : Life) (serial serial2 x y p q : ℕ) → b ≡ c → serial ≡ serial2 → l ≡ m → x ≡ y → p ≡ q → (b && (has_serial (serial - 1) l && (x == p))) ≡ (c && (has_serial (serial2 - 1) m && (y == q)))
+  same_last b c d e l m serial serial2 x y p q one two three four five =
+      ap (λ (z : Bool). z && (has_serial (serial - 1) l && (x == p))) one
+      ∙ (ap (λ (z : ℕ). c && (has_serial (z - 1) l && (x == p))) two ∙ (ap (λ (z : Life). c && (has_serial (serial2 - 1) z && (x == p))) three ∙ (ap (λ (z : ℕ). c && (has_serial (serial2 - 1) m && (z == p))) four ∙ ap (λ (z : ℕ). c && (has_serial (serial2 - 1) m && (y == z))) five)))
+
+  pub stops : (v : Desk F) (fixtures later : F) (books : Books) (d place : ℕ) (can : CanEndOf App v d) → d ≡ v.books.first + place → (o : Ends App place v.books books (calls v.fixtures) (calls fixtures)) (t : Row) (last : Bool) → t ≡ o.changes.is → last ≡ (v.halted && (has_serial (v.serial - 1) t.life && (t.apps.ended == t.apps.opened)))
+      → CallsGrow (calls fixtures) (cond last (Shut ∷ []) []) (calls later) → Steps calls v (record v { fixtures = later; books = books }) (Stopped d (o.changes.was.apps.opened - o.changes.was.apps.ended - 1))
+  stops v fixtures later books d place can number o t last is flag grow opening s told count known a =
+      let i : ℕ = o.changes.was.apps.opened - o.changes.was.apps.ended - 1 in
+      let w : Desk F = record v { fixtures = fixtures; books = books } in
+      let e : Entry = Stopped d i in
+      let n : Ended calls App opening w s told count d i o.changes.was = ends calls App v fixtures books d place can number o opening s told count known a in
+      let x : Drafted = n.draft in
+      let same : (s.halted && (has_serial (s.serial - 1) x.life && (x.stopped + 1 == x.started))) ≡ last =
+      same_last s.halted v.halted true true x.life t.life s.serial v.serial (x.stopped + 1) t.apps.ended x.started t.apps.opened a.halted a.serial (n.shows.life ∙ (sym o.life ∙ ap (λ (z : Row). z.life) (sym is))) (ap (λ (z : ℕ). z + 1) n.shows.stopped ∙ (sym o.ends.ended ∙ ap (λ (z : Row). z.apps.ended) (sym is)))
+      (n.shows.started ∙ (sym o.ends.opened ∙ ap (λ (z : Row). z.apps.opened) (sym is))) ∙ sym flag in
+      let shut : shutting (is_shut s) (is_shut (after s e)) ≡ cond last (Shut ∷ []) [] = stop_shuts s d i x known.steady.agrees n.may n.there ∙ ap (λ (z : Bool). cond z (Shut ∷ []) []) same in
+      (n.may, subst (λ (z : List FixtureCall). Agrees calls opening (record v { fixtures = later; books = books }) (after s e) z count) (append_assoc told (key_calls s e) (cond last (Shut ∷ []) []) ∙ ap (λ (z : List FixtureCall). told ++ (key_calls s e ++ z)) (sym shut)) (with_calls calls opening w later (after s e) (told ++ key_calls s e) (cond last (Shut ∷ []) []) count grow n.agrees))
