@@ -1,4 +1,4 @@
-ghost use Rattle.std.specs.Prelude.{◌≡◌, ◌<◌, ℕ, Err, IfOk, IfErr, OnErr, min, is_err, length, true, false};
+ghost use Rattle.std.specs.Prelude.{◌≡◌, ◌<◌, ◌+◌, ℕ, Err, IfOk, IfErr, OnErr, min, is_err, length, true, false};
 ghost use Rattle.cd_outside.specs.Counts.{Rose, count_end};
 ghost use Rattle.cd_tree.specs.declared.tree.Tree.{Tree};
 ghost use Rattle.cd_legal.specs.declared.entry.Entry.TheVariants.{Made, Started, Begin, Finish};
@@ -98,6 +98,18 @@ pub trait HallBoard: Stands + Sized {
     fn share(&self, serial: u32) -> Result<Self::Share, NoMemory>
         requires { StandsWhere Self.stands self.now (λ opening s. serial ≡ s.serial) }
         ensures { IfOk result (λ share. Tells Self.stands self.now (λ log. conf share ≡ conf_of (state_at log) serial)) };
+
+    /// How many instances of a draft are left to be made.
+    fn modules_left(draft: &Self::Draft) -> u32
+        ensures { (held draft.now).made + result ≡ length (held draft.now).plan.modules };
+
+    /// How many apps of it are left to be started.
+    fn apps_left(draft: &Self::Draft) -> u32
+        ensures { (held draft.now).started + result ≡ length (held draft.now).plan.apps };
+
+    /// Whether a key of it could not be opened.
+    fn has_failed(draft: &Self::Draft) -> bool
+        ensures { result ≡ (held draft.now).failed };
 
     /// Whether a configuration is that after the halt.
     fn is_halted(share: &Self::Share) -> bool

@@ -7,11 +7,12 @@
 //!
 //! Files: turns.rt takes a turn, adds entries in it, and leaves it, whatever is guarded, and names.rt says which entries are added;
 //! beginning.rt makes a hall; requests.rt begins and ends requests; drafting.rt makes drafts, and makes and starts what they consist
-//! of. Tickets and duties are values that are not dropped. Only `new`, `begin` and `draft` take memory.
+//! of; closing.rt lets passes tell one another what they have seen, and brings them together at the end. Tickets and duties are values that are not dropped. Only `new`, `begin` and `draft` take memory.
 #![tactic(auto)]
 
 mod beginning;
 mod board;
+mod closing;
 mod drafting;
 mod duty;
 mod hall;
