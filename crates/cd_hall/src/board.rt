@@ -1,47 +1,23 @@
-ghost use Rattle.std.specs.Prelude.{◌≡◌, ◌<◌, ℕ, Err, IfOk, IfErr, OnErr, min, is_err, length, true, false};
-ghost use Rattle.cd_outside.specs.Counts.{Rose, count_end};
-ghost use Rattle.cd_tree.specs.declared.tree.Tree.{Tree};
-ghost use Rattle.cd_legal.specs.declared.entry.Entry.TheVariants.{Made, Started, Begin, Finish};
-ghost use Rattle.cd_legal.specs.declared.limits.TheConstants.{MAX_DRAFTS};
-ghost use Rattle.cd_legal.specs.declared.plan.Plan.{Plan};
+ghost use Rattle.std.specs.Prelude.{◌≡◌, ◌<◌, ℕ, IfOk, min, true, false};
+ghost use Rattle.cd_outside.specs.Counts.{count_end};
+ghost use Rattle.cd_legal.specs.declared.entry.Entry.TheVariants.{Begin, Finish};
 ghost use Rattle.cd_legal.specs.Begins.{begins_now};
 ghost use Rattle.cd_legal.specs.Entry.{entries};
 ghost use Rattle.cd_legal.specs.Legal.{state_at};
 ghost use Rattle.cd_legal.specs.State.{Conf, conf_of, has_ticket, open_at};
 ghost use Rattle.cd_legal.specs.Serials.{is_halted};
-ghost use Rattle.cd_hall.specs.declared.duty.DraftFault.TheVariants as fault;
-ghost use Rattle.cd_hall.specs.Boards.{StandsWhere, Tells, Adds, Keeps};
-ghost use Rattle.cd_hall.specs.Drafts.{Held, IsLiveAs, new_held, one_made, one_started, failed_in, draft_entry};
+ghost use Rattle.cd_hall.specs.Boards.{StandsWhere, Tells, Adds};
 
-use crate::duty::DraftFault;
 use cd_legal::Stands;
-use cd_outside::Key;
 use cd_text::NoMemory;
-use std::alloc::Global;
 
 /// A board that the passes of a hall share. It stands for a history, and each call adds the one entry that it names.
 pub trait HallBoard: Stands + Sized {
-    /// A configuration that may be drafted.
-    type Loaded;
-    /// A draft that is neither published nor given up.
-    type Draft;
     /// One shared configuration.
     type Share: Drop;
 
     /// How many callers it has places for.
     ghost seats: { Self → ℕ };
-
-    /// How many faults its fixtures have counted.
-    ghost faults: { Self → ℕ };
-
-    /// The tree of a configuration.
-    ghost tree: { Self.Loaded → Tree };
-
-    /// What it consists of.
-    ghost plan: { Self.Loaded → Plan };
-
-    /// How far a draft has come.
-    ghost held: { Self.Draft → Held };
 
     /// Which configuration is shared.
     ghost conf: { Self.Share → Conf };
@@ -55,32 +31,6 @@ pub trait HallBoard: Stands + Sized {
     fn finish(&mut self, caller: u32)
         requires { StandsWhere Self.stands self.old (λ opening s. has_ticket caller s.tickets ≡ true) }
         ensures { Adds Self.stands self.old self.new (Finish caller) };
-
-    /// Makes a draft of a configuration, with all memory that its later life needs.
-    fn draft(&mut self, alloc: Global, loaded: Self::Loaded) -> Result<Self::Draft, DraftFault>
-        ensures entry { IfOk result (λ draft. Adds Self.stands self.old self.new (draft_entry (held draft))) }
-        ensures draft { IfOk result (λ draft. held draft ≡ new_held (held draft).number (tree loaded) (plan loaded)) }
-        ensures err { OnErr result (Keeps Self.stands self.old self.new) }
-        ensures spent { result ≡ Err fault.Spent → Tells Self.stands self.old (λ log. length (state_at log).drafts ≡ MAX_DRAFTS) };
-
-    /// Makes the next instance of a draft, and says whether that was the last one. The key in `Err` is one that could not be opened.
-    fn make(&mut self, draft: &mut Self::Draft) -> Result<bool, Key>
-        requires draft { StandsWhere Self.stands self.old (λ opening s. IsLiveAs s (held draft.old)) }
-        requires more { (held draft.old).made < length (held draft.old).plan.modules }
-        requires unfailed { (held draft.old).failed ≡ false }
-        ensures entry { (taken : ℕ) × Adds Self.stands self.old self.new (Made (held draft.old).number (held draft.old).made taken (failed_in result)) }
-        ensures draft { held draft.new ≡ one_made (held draft.old) (is_err result) }
-        ensures cause { IfErr result (λ _. Rose (faults self.old) (faults self.new)) };
-
-    /// Starts the next app of a draft, in the same way.
-    fn start(&mut self, draft: &mut Self::Draft) -> Result<bool, Key>
-        requires draft { StandsWhere Self.stands self.old (λ opening s. IsLiveAs s (held draft.old)) }
-        requires ready { (held draft.old).made ≡ length (held draft.old).plan.modules }
-        requires more { (held draft.old).started < length (held draft.old).plan.apps }
-        requires unfailed { (held draft.old).failed ≡ false }
-        ensures entry { (taken : ℕ) × Adds Self.stands self.old self.new (Started (held draft.old).number (held draft.old).started taken (failed_in result)) }
-        ensures draft { held draft.new ≡ one_started (held draft.old) (is_err result) }
-        ensures cause { IfErr result (λ _. Rose (faults self.old) (faults self.new)) };
 
     /// The current serial.
     fn serial(&self) -> u32

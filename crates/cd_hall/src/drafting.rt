@@ -12,7 +12,7 @@ ghost use Rattle.cd_hall.specs.Calls.{IsPassOf, StaysCalm, FaultRose, key_in};
 ghost use Rattle.cd_hall.specs.Drafts.{IsDraftOf, new_held, one_made, one_started, failed_in, draft_entry, made_entry, started_entry};
 ghost use Rattle.cd_hall.specs.Turns.{InTurn};
 
-use crate::board::HallBoard;
+use crate::draft_board::DraftBoard;
 use crate::duty::{DraftFault, KeyFailed};
 use crate::hall::Hall;
 use crate::names::{NamesDraft, NamesMade, NamesStarted};
@@ -23,7 +23,7 @@ use std::alloc::Global;
 use std::snapshot::Snapshot;
 use std::sync::Wait;
 
-impl<B: HallBoard> Hall<B> {
+impl<B: DraftBoard> Hall<B> {
     /// Makes a draft of a configuration. The pass has none so far.
     ///
     /// # Errors

@@ -1,5 +1,5 @@
 // Which entry is added, by what the call hands in.
-use crate::board::HallBoard;
+use crate::draft_board::DraftBoard;
 use cd_gate::Names;
 use cd_outside::Key;
 use std::marker::PhantomData;
@@ -25,7 +25,7 @@ pub(crate) struct NamesDraft<B> {
     of: PhantomData<B>,
 }
 
-impl<B: HallBoard> Names<Snapshot<B::Draft>> for NamesDraft<B> {
+impl<B: DraftBoard> Names<Snapshot<B::Draft>> for NamesDraft<B> {
     ghost use Rattle.cd_hall.specs.Drafts.{draft_entry};
 
     ghost entry = { λ x. draft_entry (B.held x.value) };
@@ -35,7 +35,7 @@ pub(crate) struct NamesMade<B> {
     of: PhantomData<B>,
 }
 
-impl<B: HallBoard> Names<(Snapshot<B::Draft>, Snapshot<Result<bool, Key>>)> for NamesMade<B> {
+impl<B: DraftBoard> Names<(Snapshot<B::Draft>, Snapshot<Result<bool, Key>>)> for NamesMade<B> {
     ghost use Rattle.cd_hall.specs.Drafts.{made_entry, failed_in};
 
     ghost entry = { λ x. made_entry (B.held x.0.value) (failed_in x.1.value) };
@@ -45,7 +45,7 @@ pub(crate) struct NamesStarted<B> {
     of: PhantomData<B>,
 }
 
-impl<B: HallBoard> Names<(Snapshot<B::Draft>, Snapshot<Result<bool, Key>>)> for NamesStarted<B> {
+impl<B: DraftBoard> Names<(Snapshot<B::Draft>, Snapshot<Result<bool, Key>>)> for NamesStarted<B> {
     ghost use Rattle.cd_hall.specs.Drafts.{started_entry, failed_in};
 
     ghost entry = { λ x. started_entry (B.held x.0.value) (failed_in x.1.value) };

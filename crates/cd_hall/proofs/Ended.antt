@@ -1,0 +1,105 @@
+-- When all passes have come together after the halt nothing is left.
+use Rattle.std.proofs.Common.{◌≡◌, ◌<◌, ℕ, zero, suc, Bool, true, false, not, cond, List, [], ◌∷◌, slice_get, Some, None, refl, sym, ap, ◌∙◌, ⊎_elim, eq-eqb, arith}
+use Rattle.std.specs.List.{list_all}
+use Rattle.std.proofs.lemmas.Bool.Decides.{eqb_tells}
+use mathlib.Core.List.{IsPrefix}
+use Rattle.cd_legal.specs.declared.entry.Entry.{Entry}
+use Rattle.cd_legal.specs.declared.entry.Entry.TheVariants.{Halt}
+use Rattle.cd_legal.specs.declared.entry.Signed.{Signed}
+use Rattle.cd_legal.specs.declared.state.State.{State}
+use Rattle.cd_legal.specs.declared.state.Drafted.{Drafted}
+use Rattle.cd_legal.specs.declared.state.OpenTicket.{OpenTicket}
+use Rattle.cd_legal.specs.Entry.{entries}
+use Rattle.cd_legal.specs.State.{holds, has_number, is_live, apps_stopped, is_ticketed, ticket_of}
+use Rattle.cd_legal.specs.Legal.{after, state_from, state_at, may_retire}
+use Rattle.cd_legal.specs.Owing.{Owes, owes_of, owes_nothing}
+use Rattle.cd_legal.specs.Signing.{IsHistory}
+use Rattle.cd_legal.specs.Whole.{all_apps_stopped, nothing_left, all_retired, IsOver, IsWhole}
+use Rattle.cd_legal.proofs.Histories.{both, first, second}
+use Rattle.cd_legal.proofs.Logs.{state-append}
+use Rattle.cd_legal.proofs.Over.{over-whole}
+use Rattle.cd_legal.proofs.Owed.{owed-ticket}
+use Rattle.cd_legal.proofs.Owners.{live-owned}
+use Rattle.cd_gate.specs.declared.pass.Pass.{Pass}
+use Rattle.cd_gate.specs.Ends.{Closes}
+use Rattle.cd_gate.specs.Passes.{view}
+use Rattle.cd_gate.proofs.Retiring.{retirable}
+use Rattle.cd_hall.specs.Ends.{IsHalted}
+
+-- ---- the halt stays
+
+halted_after : (s : State) (e : Entry) → s.halted ≡ true → (after s e).halted ≡ true
+halted_after s (Halt n) is = refl
+halted_after s e is = is
+
+halted_from : (s : State) (es : List Entry) → s.halted ≡ true → (state_from s es).halted ≡ true
+halted_from s [] is = is
+halted_from s (e ∷ es) is = halted_from (after s e) es (halted_after s e is)
+
+halted_stays : (front log : List Signed) → IsPrefix front log → (state_at front).halted ≡ true → (state_at log).halted ≡ true
+halted_stays front log p is =
+    ap (λ (l : List Signed). (state_at l).halted) (sym p.1) ∙ (ap (λ (s : State). s.halted) (state-append front p.0) ∙ halted_from (state_at front) (entries p.0) is)
+
+-- ---- nothing is left
+
+must : (b : Bool) → (b ≡ false → true ≡ false) → b ≡ true
+must true refuted = refl
+must false refuted = sym (refuted refl)
+
+live_none : (b : Bool) → (b ≡ true → true ≡ false) → not b ≡ true
+live_none true refuted = sym (refuted refl)
+live_none false refuted = refl
+
+all_by : (test : Drafted → Bool) (xs : List Drafted) → ((i : ℕ) (x : Drafted) → slice_get xs i ≡ Some x → test x ≡ true) → list_all test xs ≡ true
+all_by test [] each = refl
+all_by test (x ∷ xs) each = both (test x) _ (each zero x refl) (all_by test xs (λ i y is. each (suc i) y is))
+
+lower : (n k : ℕ) → n < suc k → ¬ (n ≡ k) → n < k
+lower n k low ne = grind arith
+
+stopped_at : (s : State) (k n : ℕ) → n < k → all_apps_stopped s k ≡ true → apps_stopped s n ≡ true
+stopped_at s zero n low is = absurd (omega arith)
+stopped_at s (suc k) n low is = ⊎_elim
+    (λ q. ap (apps_stopped s) q.1 ∙ first (apps_stopped s k) _ is)
+    (λ q. stopped_at s k n (lower n k low q.1) (second (apps_stopped s k) _ is)) (eqb_tells n k)
+
+-- no caller has a ticket where there is none
+no_tickets : (n : ℕ) (ts : List OpenTicket) → ((k : ℕ) → ticket_of k ts ≡ None) → is_ticketed n ts ≡ false
+no_tickets n [] none = refl
+no_tickets n (t ∷ ts) none = absurd (let here : Some t.serial ≡ None = sym (ap (λ (b : Bool). cond b (Some t.serial) (ticket_of t.caller ts)) (eq-eqb t.caller t.caller refl)) ∙ none t.caller in cc)
+
+all_over : (s : State) (k : ℕ) → ((n : ℕ) → n < k → has_number n s.retired ≡ true) → all_retired k s.retired ≡ true
+all_over s zero each = refl
+all_over s (suc k) each = both (has_number k s.retired) _ (each k (omega arith)) (all_over s k (λ n low. each n (omega arith)))
+
+module _ (log : List Signed) (is : IsHistory log) (owes : (k : ℕ) → owes_of k log ≡ owes_nothing) (due : (n : ℕ) → may_retire (state_at log) n ≡ false) (left : nothing_left (state_at log) ≡ true) where
+  retired_at : (n : ℕ) → n < (state_at log).serial → has_number n (state_at log).retired ≡ true
+  retired_at n low = must (has_number n (state_at log).retired) (λ un.
+      sym (retirable (state_at log) n record {
+        superseded = low;
+        unretired = un;
+        stopped = stopped_at (state_at log) (state_at log).serial n low (first (all_apps_stopped (state_at log) (state_at log).serial) _ left);
+        unticketed = no_tickets n (state_at log).tickets (λ k. sym (owed-ticket log k is) ∙ ap (λ (o : Owes). o.ticket) (owes k));
+      })
+      ∙ due n)
+
+  dead : (i : ℕ) (x : Drafted) → slice_get (state_at log).drafts i ≡ Some x → not (is_live x.life) ≡ true
+  dead i x there = live_none (is_live x.life) (λ live.
+      let owner = (live-owned log is).owner i (ap (holds (λ (y : Drafted). is_live y.life)) there ∙ live) in
+      let some_draft : Some i ≡ None = sym owner.1 ∙ ap (λ (o : Owes). o.draft) (owes owner.0) in cc)
+
+  over : (state_at log).halted ≡ true → IsOver (state_at log)
+  over halted = record {
+    halted = halted;
+    drafts = all_by (λ x. not (is_live x.life)) (state_at log).drafts dead;
+    retired = all_over (state_at log) (state_at log).serial retired_at;
+    finished = second (all_apps_stopped (state_at log) (state_at log).serial) _ left;
+  }
+
+  pub is_whole : (state_at log).halted ≡ true → IsWhole (entries log)
+  is_whole halted = over-whole (entries log) is.is_legal (over halted)
+
+pub closed : {T : Type 0} (stands : T → T → List Signed → Type 0) (o b : T) (passes : List (Pass T)) → IsHalted passes → (end : Closes stands o passes b) → ((state_at end.log).halted ≡ true) × IsWhole (entries end.log)
+closed stands o b passes h end =
+    let halted = halted_stays (view h.1).seen end.log (end.each h.0 h.1 h.2).0 h.3 in
+    (halted, is_whole end.log end.history end.owes end.due end.left halted)
