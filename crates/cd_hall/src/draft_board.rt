@@ -1,4 +1,4 @@
-ghost use Rattle.std.specs.Prelude.{◌≡◌, ◌<◌, ◌+◌, ℕ, Err, IfOk, IfErr, OnErr, is_err, length, false};
+ghost use Rattle.std.specs.Prelude.{◌≡◌, ◌<◌, ◌+◌, ◌==◌, ℕ, Err, IfOk, IfErr, OnErr, is_err, length, false};
 ghost use Rattle.cd_outside.specs.Counts.{Rose};
 ghost use Rattle.cd_tree.specs.declared.tree.Tree.{Tree};
 ghost use Rattle.cd_legal.specs.declared.entry.Entry.TheVariants.{Made, Started};
@@ -46,6 +46,7 @@ pub trait DraftBoard: HallBoard {
         requires unfailed { (held draft.old).failed ≡ false }
         ensures entry { (taken : ℕ) × Adds Self.stands self.old self.new (Made (held draft.old).number (held draft.old).made taken (failed_in result)) }
         ensures draft { held draft.new ≡ one_made (held draft.old) (is_err result) }
+        ensures last { IfOk result (λ last. last ≡ ((held draft.new).made == length (held draft.new).plan.modules)) }
         ensures cause { IfErr result (λ _. Rose (faults self.old) (faults self.new)) };
 
     /// Starts the next app of a draft, in the same way.
@@ -56,6 +57,7 @@ pub trait DraftBoard: HallBoard {
         requires unfailed { (held draft.old).failed ≡ false }
         ensures entry { (taken : ℕ) × Adds Self.stands self.old self.new (Started (held draft.old).number (held draft.old).started taken (failed_in result)) }
         ensures draft { held draft.new ≡ one_started (held draft.old) (is_err result) }
+        ensures last { IfOk result (λ last. last ≡ ((held draft.new).started == length (held draft.new).plan.apps)) }
         ensures cause { IfErr result (λ _. Rose (faults self.old) (faults self.new)) };
 
     /// How many instances of a draft are left to be made.

@@ -1,5 +1,5 @@
 //! Drafts are made, provisioned and started.
-ghost use Rattle.std.specs.Prelude.{◌≡◌, ◌<◌, ◌∷◌, [], ℕ, Some, None, Err, IfOk, IfErr, OnErr, is_err, length, true, false};
+ghost use Rattle.std.specs.Prelude.{◌≡◌, ◌<◌, ◌==◌, ◌∷◌, [], ℕ, Some, None, Ok, Err, IfOk, IfErr, OnErr, is_err, length, true, false};
 ghost use Rattle.cd_legal.specs.declared.entry.Entry.TheVariants.{Made, Started};
 ghost use Rattle.cd_legal.specs.declared.limits.TheConstants.{MAX_DRAFTS};
 ghost use Rattle.cd_legal.specs.Legal.{state_at};
@@ -98,6 +98,7 @@ impl<B: DraftBoard> Hall<B> {
         ensures pass { IsPassOf B.seats self.now.gate pass.new }
         ensures grows { Grows (view pass.old) (view pass.new) (made_entry (B.held draft.old) (key_in result) ∷ []) }
         ensures made { B.held draft.new ≡ one_made (B.held draft.old) (is_err result) }
+        ensures last { IfOk result (λ last. last ≡ ((B.held draft.new).made == length (B.held draft.new).plan.modules)) }
         ensures draft { IsDraftOf (view pass.new) (B.held draft.new) }
         ensures cause { IfErr result (λ _. FaultRose B.stands B.faults (opening_of self.now.gate) (view pass.new).seen) }
         ensures duties { (view pass.new).duties ≡ (view pass.old).duties }
@@ -122,6 +123,7 @@ impl<B: DraftBoard> Hall<B> {
         ensures turn { InTurn B.stands self.now.gate turn.new pass.new }
         ensures seen { view pass.new ≡ noted (view pass.old) (made_entry (B.held draft.old) (failed_in result)) }
         ensures made { B.held draft.new ≡ one_made (B.held draft.old) (is_err result) }
+        ensures last { IfOk result (λ last. last ≡ ((B.held draft.new).made == length (B.held draft.new).plan.modules)) }
         ensures draft { IsDraftOf (view pass.new) (B.held draft.new) }
         ensures cause { IfErr result (λ _. FaultRose B.stands B.faults (opening_of self.now.gate) (view pass.new).seen) }
         ensures calm { StaysCalm (view pass.old) (view pass.new) }
@@ -157,6 +159,7 @@ impl<B: DraftBoard> Hall<B> {
         ensures pass { IsPassOf B.seats self.now.gate pass.new }
         ensures grows { Grows (view pass.old) (view pass.new) (started_entry (B.held draft.old) (key_in result) ∷ []) }
         ensures started { B.held draft.new ≡ one_started (B.held draft.old) (is_err result) }
+        ensures last { IfOk result (λ last. last ≡ ((B.held draft.new).started == length (B.held draft.new).plan.apps)) }
         ensures draft { IsDraftOf (view pass.new) (B.held draft.new) }
         ensures cause { IfErr result (λ _. FaultRose B.stands B.faults (opening_of self.now.gate) (view pass.new).seen) }
         ensures duties { (view pass.new).duties ≡ (view pass.old).duties }
@@ -182,6 +185,7 @@ impl<B: DraftBoard> Hall<B> {
         ensures turn { InTurn B.stands self.now.gate turn.new pass.new }
         ensures seen { view pass.new ≡ noted (view pass.old) (started_entry (B.held draft.old) (failed_in result)) }
         ensures started { B.held draft.new ≡ one_started (B.held draft.old) (is_err result) }
+        ensures last { IfOk result (λ last. last ≡ ((B.held draft.new).started == length (B.held draft.new).plan.apps)) }
         ensures draft { IsDraftOf (view pass.new) (B.held draft.new) }
         ensures cause { IfErr result (λ _. FaultRose B.stands B.faults (opening_of self.now.gate) (view pass.new).seen) }
         ensures calm { StaysCalm (view pass.old) (view pass.new) }
@@ -203,6 +207,7 @@ impl<B: DraftBoard> Hall<B> {
 fn failing(opened: Result<bool, Key>) -> Result<bool, KeyFailed>
     ensures key { key_in result ≡ failed_in opened }
     ensures err { is_err result ≡ is_err opened }
+    ensures ok { IfOk result (λ last. opened ≡ Ok last) }
 {
     match opened {
         Ok(last) => Ok(last),
