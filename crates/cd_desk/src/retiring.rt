@@ -9,10 +9,10 @@ ghost use Rattle.cd_desk.specs.Serials.{row_of};
 ghost use Rattle.cd_desk.specs.Closings.{CanRetire, is_stopped_row};
 
 use crate::desk::Desk;
-use crate::stopping::shut_where;
 use crate::row::Row;
 use crate::rows::set_retired;
 use crate::serials::{has_serial, place_with};
+use crate::stopping::shut_where;
 use cd_outside::Fixtures;
 
 // Whether no app is left to be stopped of the draft that was published with the serial, if there is one.
