@@ -30,7 +30,7 @@ fn is_last(halted: bool, row: &Row, serial: u32) -> bool
 }
 
 // Shuts the fixtures where nothing is left to be stopped.
-fn shut_where<F: Fixtures>(fixtures: &mut F, last: bool)
+pub(crate) fn shut_where<F: Fixtures>(fixtures: &mut F, last: bool)
     ensures { CallsGrow (F.calls fixtures.old) (cond last (call.Shut ∷ []) []) (F.calls fixtures.new) }
 {
     if last {

@@ -1,6 +1,7 @@
 -- The configurations, and the live drafts, that a history leaves after one entry more.
-use Rattle.std.proofs.Common.{◌≡◌, ℕ, zero, suc, ◌+◌, ◌≤◌, ◌==◌, ◌&&◌, ◌||◌, not, cond, Bool, true, false, List, [], ◌∷◌, ◌++◌, length, refl, sym, ap, ◌∙◌, arith, subst, slice_get, Option, Some, None, length-append, eq-eqb, drop, ne_eqb, ◌⊎◌, inl, inr, ⊎_elim}
+use Rattle.std.proofs.Common.{◌≡◌, ◌≢◌, ◌<◌, remove, ℕ, zero, suc, ◌+◌, ◌≤◌, ◌==◌, ◌&&◌, ◌||◌, not, cond, Bool, true, false, List, [], ◌∷◌, ◌++◌, length, refl, sym, ap, ◌∙◌, arith, subst, slice_get, Option, Some, None, length-append, eq-eqb, drop, ne_eqb, ◌⊎◌, inl, inr, ⊎_elim}
 use Rattle.std.proofs.lemmas.Option.{slice_get_within}
+use Rattle.std.proofs.lemmas.Bool.{eqb-true}
 use mathlib.Core.List.{IsPrefix}
 use Rattle.cd_tree.specs.declared.tree.Tree.{Tree}
 use Rattle.cd_legal.specs.declared.entry.Change.{Change}
@@ -174,3 +175,33 @@ pub tree_at_here : {A B : Type 0} {g : _} (ks : List (Kept A B g)) (place n : �
 tree_at_here [] place n k e is = absurd (let f : false ≡ true = some_none k (sym e) in cc)
 tree_at_here (x ∷ ks) zero n k e is = ap (λ z. tree_at (z ∷ ks) n) (some_is x k e) ∙ ap (λ (b : Bool). cond b (Some (tree_of k)) (tree_at ks n)) (eq-eqb k.serial n is)
 tree_at_here (x ∷ ks) (suc place) n k e is = tree_at_here ks place n k e is
+
+-- ---- what is let go
+
+same_one : {A : Type 0} (x y : A) → Some x ≡ Some y → x ≡ y
+same_one x y e = cc
+
+-- without one of them, each other serial has what it had
+pub tree_at_removed : {A B : Type 0} {g : _} (ks : List (Kept A B g)) (place n m : ℕ) (k : Kept A B g) → slice_get ks place ≡ Some k → k.serial ≡ n → m ≢ n → tree_at (remove ks place) m ≡ tree_at ks m
+tree_at_removed [] place n m k there serial other = cc
+tree_at_removed (x ∷ xs) zero n m k there serial other =
+    sym (ap (λ (b : Bool). cond b (Some (tree_of x)) (tree_at xs m)) (ne_eqb x.serial m (λ (q : x.serial ≡ m). other (sym q ∙ (ap (λ z. z.serial) (same_one x k there) ∙ serial)))))
+tree_at_removed (x ∷ xs) (suc place) n m k there serial other = ap (λ z. cond (x.serial == m) (Some (tree_of x)) z) (tree_at_removed xs place n m k there serial other)
+
+has_last : (n : ℕ) (ms : List ℕ) → has_number n (ms ++ n ∷ []) ≡ true
+has_last n [] = ap (λ (b : Bool). b || false) (eq-eqb n n refl)
+has_last n (m ∷ ms) = ap (λ (b : Bool). (n == m) || b) (has_last n ms) ∙ any_true (n == m)
+  where
+    any_true : (b : Bool) → (b || true) ≡ true
+    any_true true = refl
+    any_true false = refl
+
+-- a superseded serial that is retired, and to be kept still, is the last one that was published, and a halt has superseded it
+pub last_kept : (halted : Bool) (n l serial : ℕ) (r : List ℕ) → (halted && (n + 1 == serial)) ≡ false → l + cond {A = ℕ} halted 1 0 ≡ serial → n < serial → (not (has_number n (r ++ n ∷ [])) || (n == l)) ≡ true → ⊥
+last_kept halted n l serial r flag count low is =
+    let same : n ≡ l = eqb-true n l (ap (λ (b : Bool). not b || (n == l)) (sym (has_last n r)) ∙ is) in
+    at halted flag count same
+  where
+    at : (b : Bool) → (b && (n + 1 == serial)) ≡ false → l + cond {A = ℕ} b 1 0 ≡ serial → n ≡ l → ⊥
+    at true flag count same = let f : true ≡ false = sym (eq-eqb (n + 1) serial (omega (arith, same, count))) ∙ flag in cc
+    at false flag count same = omega (arith, same, count, low)

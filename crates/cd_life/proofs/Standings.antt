@@ -1,5 +1,5 @@
 -- What a board stands for after one entry more.
-use Rattle.std.proofs.Common.{◌≡◌, ℕ, zero, suc, ◌+◌, ◌-◌, ◌<◌, ◌≤◌, ◌==◌, true, false, Bool, List, [], ◌∷◌, ◌++◌, length, refl, sym, ap, ◌∙◌, arith, subst, slice_get, Option, Some, None, Result, Ok, Err, OnErr, cond, eq-eqb, ne_eqb}
+use Rattle.std.proofs.Common.{◌≡◌, ◌≢◌, ℕ, zero, suc, ◌+◌, ◌-◌, ◌<◌, ◌≤◌, ◌==◌, ◌&&◌, true, false, Bool, not, ◌||◌, List, [], ◌∷◌, ◌++◌, length, refl, sym, ap, ◌∙◌, arith, subst, slice_get, Option, Some, None, Result, Ok, Err, OnErr, cond, eq-eqb, ne_eqb}
 use Rattle.std.specs.Vec.{vec_len, vec_capacity}
 use Rattle.cd_outside.specs.declared.fixtures.FixtureCall.{FixtureCall}
 use Rattle.cd_tree.specs.declared.tree.Tree.{Tree}
@@ -8,17 +8,17 @@ use Rattle.cd_module.specs.declared.fault.LoadFault.{LoadFault}
 use Rattle.cd_legal.specs.declared.plan.Plan.{Plan}
 use Rattle.cd_legal.specs.declared.entry.Change.{Change}
 use Rattle.cd_legal.specs.declared.entry.Entry.{Entry}
-use Rattle.cd_legal.specs.declared.entry.Entry.TheVariants.{Draft, Publish, Abandon}
+use Rattle.cd_legal.specs.declared.entry.Entry.TheVariants.{Draft, Publish, Abandon, Retire}
 use Rattle.cd_legal.specs.declared.entry.Signed.{Signed}
 use Rattle.cd_legal.specs.declared.state.State.{State}
 use Rattle.cd_legal.specs.declared.state.Drafted.{Drafted}
 use Rattle.cd_legal.specs.declared.state.Life.TheVariants.{Published, Abandoned}
 use Rattle.cd_legal.specs.Entry.{signed, entries}
-use Rattle.cd_legal.specs.State.{opening_state, conf_of, Conf, is_live, new_draft}
+use Rattle.cd_legal.specs.State.{opening_state, conf_of, Conf, is_live, new_draft, has_number}
 use Rattle.cd_legal.specs.Legal.{allowed, after, is_complete, state_from, state_at, IsLegal}
 use Rattle.cd_legal.proofs.Histories.{entries-snoc}
 use Rattle.cd_legal.proofs.Serials.{is_publish, count_running, published-count}
-use Rattle.cd_legal.proofs.Facts.{can, completes, Publishes}
+use Rattle.cd_legal.proofs.Facts.{can, completes, Publishes, Retires}
 use Rattle.cd_legal.proofs.Fresh.{serial_rises}
 use Rattle.cd_desk.specs.Desks.{AddsTo, Holds, Keeps as KeepsDesk}
 use Rattle.cd_life.specs.declared.board.Board.{Board}
@@ -29,7 +29,7 @@ use Rattle.cd_life.specs.declared.board.Kept.{Kept}
 use Rattle.cd_life.specs.Changes.{tree_at, tree_of}
 use Rattle.cd_life.specs.Fits.{Fits, FitFrom, AllFit}
 use Rattle.cd_life.specs.Standing.{Stood, Shelves, Adds, Keeps}
-use Rattle.cd_life.proofs.Shelving.{state_more, allowed_more, conf_before, conf_after, kept_before, live_plain, live_push, live_gone, is_plain, older, published_kept}
+use Rattle.cd_life.proofs.Shelving.{state_more, allowed_more, conf_before, conf_after, kept_before, live_plain, live_push, live_gone, is_plain, older, published_kept, last_kept}
 
 fit_more : (plan : Tree → Result Plan LoadFault) (makes : Tree → Request → Option Tree) (s : State) (log : List Entry) (e : Entry) → FitFrom plan makes s log → Fits plan makes (state_from s log) e → FitFrom plan makes s (log ++ e ∷ [])
 fit_more plan makes s [] e all one = (one, tt)
@@ -136,6 +136,25 @@ module _ {A F B : Type 0} {g : _} (calls : F → Option (List FixtureCall)) (pla
         later = λ m lt. ap (λ z. tree_at z m) items ∙ (at_push_none v.kept.items one m (h.shelf.later m (omega (arith, lt, current))) ∙ ap (λ (b : Bool). cond b (Some (tree_of one)) None) (ne_eqb one.serial m (λ (same : one.serial ≡ m). omega (arith, same, serial, lt))));
         live = omega (arith, gone, was, live);
         room = omega (arith, gone, was, live, room, len, capacity);
+      }
+
+  -- a serial that is retired, of which nothing is kept any more unless a halt has superseded it
+  pub shelf_retire : (v w : Board A F B g) (n : ℕ) → (v.desk.halted && (n + 1 == v.desk.serial)) ≡ false → ((m : ℕ) → m ≢ n → tree_at w.kept.items m ≡ tree_at v.kept.items m) → vec_len w.kept ≤ vec_len v.kept → vec_capacity w.kept ≡ vec_capacity v.kept → w.live ≡ v.live → (opening : Board A F B g) (log : List Signed) (k : ℕ)
+      → Stood calls plan makes opening v log → IsLegal (log ++ signed k (Retire n) ∷ []) → Shelves w (after (state_at log) (Retire n))
+  shelf_retire v w n flag others len capacity live opening log k h legal =
+      let s : State = state_at log in
+      let e : Entry = Retire n in
+      let may : allowed s e ≡ true = allowed_more log (signed k e) legal in
+      let f : Retires s n = can s e may in
+      let low = f.superseded in
+      let room = h.shelf.room in
+      let same : (s.halted && (n + 1 == s.serial)) ≡ false = ap (λ (z : Bool). z && (n + 1 == s.serial)) h.desk.agrees.halted ∙ (ap (λ (z : ℕ). v.desk.halted && (n + 1 == z)) h.desk.agrees.serial ∙ flag) in
+      record {
+        kept = λ m t conf is. others m (λ (q : m ≡ n). last_kept s.halted n (length s.published) s.serial s.retired same (published-count (entries log) h.desk.is_legal) low (subst (λ (z : ℕ). (not (has_number z (s.retired ++ n ∷ [])) || (z == length s.published)) ≡ true) q is))
+            ∙ h.shelf.kept m t (conf_before log (signed k e) m t h.desk.is_legal legal refl conf) (kept_before s e m refl is);
+        later = λ m lt. others m (λ (q : m ≡ n). omega (arith, lt, low, q)) ∙ h.shelf.later m lt;
+        live = live_plain s e refl ∙ (h.shelf.live ∙ sym live);
+        room = omega (arith, room, len, capacity, live);
       }
 
 -- the same configurations, with as much room

@@ -1,17 +1,28 @@
-ghost use Rattle.std.specs.Prelude.{◌≡◌, ◌<◌, ◌+◌, ◌-◌, List, Some, None, true};
+ghost use Rattle.std.specs.Prelude.{◌≡◌, ◌<◌, ◌+◌, ◌-◌, ◌^◌, ◌==◌, ◌&&◌, List, Some, None, true, false};
 ghost use Rattle.std.specs.Arc.{arc_value};
 ghost use Rattle.cd_legal.specs.declared.entry.Entry.TheVariants as entry;
 ghost use Rattle.cd_legal.specs.declared.entry.Signed.{Signed};
 ghost use Rattle.cd_legal.specs.Legal.{state_at};
 ghost use Rattle.cd_legal.specs.State.{has_number};
 ghost use Rattle.cd_desk.specs.Lefts.{IsLeft, step_at};
-ghost use Rattle.cd_desk.specs.Closings.{IsClosing, MayClean, Leaves};
+ghost use Rattle.cd_desk.specs.Closings.{IsClosing, MayClean, CanRetire, Leaves};
 ghost use Rattle.cd_life.specs.Standing.{Stood, Adds};
 
 use crate::board::{Board, Draft};
+use crate::kept::forget;
 use cd_desk::{Closing, Step};
 use cd_module_set::ModuleSet;
 use cd_outside::Fixtures;
+
+// Whether the serial is the last one that was published, which a halt has superseded.
+fn is_last_published(halted: bool, current: u32, serial: u32) -> bool
+    ensures { result ≡ (halted && (serial + 1 == current)) }
+{
+    match serial.checked_add(1) {
+        Some(next) => halted && next == current,
+        None => false,
+    }
+}
 
 impl<M: ModuleSet, F: Fixtures> Board<M, F> {
     /// Gives a draft up. What it has made and started is left to be ended.
@@ -83,5 +94,29 @@ impl<M: ModuleSet, F: Fixtures> Board<M, F> {
         ensures { self.new ≡ self.old }
     {
         closing.put_back(serial);
+    }
+
+    /// Retires a superseded serial, under which no request runs any more and whose apps are stopped. Its configuration is let go, but
+    /// the one that was published last is kept to the end.
+    pub fn retire(&mut self, serial: u32)
+        requires { CanRetire self.old.desk serial }
+        ensures { Adds F.calls M.plan M.change self.old self.new (entry.Retire serial) }
+    {
+        let last = is_last_published(self.desk.halted, self.desk.serial, serial);
+        self.desk.retire(serial);
+        if !last {
+            forget(&mut self.kept, serial);
+        }
+    }
+
+    /// Halts the host: nothing runs under the next serial, and no configuration follows. Where no app is left to be stopped, the
+    /// fixtures are shut.
+    pub fn halt(&mut self)
+        requires running { self.old.desk.halted ≡ false }
+        requires bound { self.old.desk.serial + 1 < 2 ^ 32 }
+        ensures entry { Adds F.calls M.plan M.change self.old self.new (entry.Halt (self.old.desk.serial + 1)) }
+        ensures halted { self.new.desk.halted ≡ true }
+    {
+        self.desk.halt();
     }
 }

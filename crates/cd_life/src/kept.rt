@@ -1,6 +1,6 @@
-ghost use Rattle.std.specs.Prelude.{◌≡◌, ◌<◌, ◌≤◌, ◌+◌, ◌++◌, ◌∷◌, []};
+ghost use Rattle.std.specs.Prelude.{◌≡◌, ◌≢◌, ◌<◌, ◌≤◌, ◌+◌, ◌++◌, ◌∷◌, [], ℕ};
 ghost use Rattle.std.specs.Vec.{vec_len, vec_capacity};
-ghost use Rattle.cd_life.specs.Changes.{IsPlaceOf};
+ghost use Rattle.cd_life.specs.Changes.{IsPlaceOf, tree_at};
 
 use crate::board::Kept;
 use cd_module_set::{Loaded, ModuleSet};
@@ -26,5 +26,17 @@ pub(crate) fn keep<M: ModuleSet>(kept: &mut Vec<Kept<M>>, serial: u32, loaded: A
 {
     if kept.len() < kept.capacity() {
         kept.push_reserved(Kept { serial, loaded });
+    }
+}
+
+// Lets the first one with the serial go.
+pub(crate) fn forget<M: ModuleSet>(kept: &mut Vec<Kept<M>>, serial: u32)
+    ensures others { (n : ℕ) → n ≢ serial → tree_at kept.new.items n ≡ tree_at kept.old.items n }
+    ensures len { vec_len kept.new ≤ vec_len kept.old }
+    ensures capacity { vec_capacity kept.new ≡ vec_capacity kept.old }
+{
+    if let Some(place) = place_of(kept.as_slice(), serial) {
+        let Kept { serial: _, loaded } = kept.remove(place);
+        drop(loaded);
     }
 }

@@ -6,8 +6,8 @@
 //! a change that was asked for (specs/Fits.antt), and of each configuration that is not retired its tree is kept.
 //!
 //! Files: beginning.rt makes a board and boarding.rt is the life of a draft up to its publishing; closing.rt stops and cleans what
-//! was given up or superseded, and retires serials; finishing.rt halts and ends; sharing.rt gives configurations out; kept.rt
-//! finds them; readers.rt tells what stands.
+//! was given up or superseded, retires serials, and halts; sharing.rt gives configurations out; kept.rt finds them, and lets them
+//! go; readers.rt tells what stands.
 #![tactic(auto)]
 
 mod beginning;
