@@ -1,4 +1,4 @@
-//! Devices that signals interrupt, and that fail in the middle.
+//! Devices that signals interrupt, that fail in the middle, and that fail when they are flushed.
 ghost use Rattle.std.specs.Prelude.{◌≤◌, IfOk};
 
 use crate::{ConfigFile, ConfigSource, Console, StreamLane};
@@ -47,6 +47,20 @@ impl Write for Device {
     }
 }
 
+// A writer that takes all that it is given, and fails when it is flushed.
+#[derive(Drop)]
+struct Unflushed;
+
+impl Write for Unflushed {
+    fn write(&mut self, buf: &[u8]) -> io::Result<usize> {
+        Ok(buf.len())
+    }
+
+    fn flush(&mut self) -> io::Result<()> {
+        Err(io::Error::from(ErrorKind::ConnectionReset))
+    }
+}
+
 #[test]
 fn a_configuration_fails_in_the_middle(rt: HostRuntime) {
     let mut room = [0u8; 8];
@@ -81,4 +95,11 @@ fn a_connection_fails_in_the_middle(rt: HostRuntime) {
     } else {
         assert!(rt; false, "no connection came");
     }
+}
+
+#[test]
+fn an_output_fails_when_it_is_flushed(rt: HostRuntime) {
+    let mut console = Console::new(Unflushed);
+    assert_eq!(rt; console.write(b"abc"), Given::Failed);
+    assert_eq!(rt; console.faults, 1);
 }
