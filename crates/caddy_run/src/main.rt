@@ -7,6 +7,8 @@
 #![tactic(auto)]
 
 mod lanes;
+#[cfg(test)]
+mod tests;
 mod words;
 
 use cd_doorway::{DoorFixtures, Doorway};
