@@ -38,14 +38,14 @@ can_make b t l i more unfailed =
     let f = i.follows in
     let made = f.made in
     let all = f.modules in
-    record { place = i.place; row = i.row; at = i.at; live = f.live; unfailed = f.failed ∙ unfailed; ready = tt; left = omega arith }
+    record { place = i.place; row = i.row; at = i.at; live = f.live; unfailed = f.failed ∙ unfailed; ready = tt; left = omega arith; unended = f.unended.0 }
 
 pub can_start : (b : Books) (t : Tree) (l : Left) → IsLeft b t l → l.made ≡ l.modules → l.started < l.apps → l.failed ≡ false → CanOpenOf App b l.number
 can_start b t l i ready more unfailed =
     let f = i.follows in
     let started = f.started in
     let all = f.apps in
-    record { place = i.place; row = i.row; at = i.at; live = f.live; unfailed = f.failed ∙ unfailed; ready = f.made ∙ (ready ∙ sym f.modules); left = omega arith }
+    record { place = i.place; row = i.row; at = i.at; live = f.live; unfailed = f.failed ∙ unfailed; ready = f.made ∙ (ready ∙ sym f.modules); left = omega arith; unended = f.unended.1 }
 
 module _ (v w : Books) (l : Left) (place : ℕ) (before after : Option (List FixtureCall)) (result : Result (Unit {0}) Key) (number : l.number ≡ v.first + place) where
   pub made_left : Opens Instance place v w before after result → (t : Tree) → IsLeft v t l → IsLeft w t (one_made l (is_err result))

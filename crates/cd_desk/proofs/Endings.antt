@@ -1,6 +1,6 @@
 -- What a desk stands for after an app is stopped, or an instance is cleaned.
-use Rattle.std.proofs.Common.{◌≡◌, ℕ, ◌+◌, ◌-◌, ◌<◌, ◌&&◌, ◌||◌, Bool, true, false, not, cond, List, [], ◌∷◌, ◌++◌, length, drop, refl, sym, ap, ◌∙◌, arith, Some, None, Option, slice_get, subst, append_assoc, min}
-use Rattle.std.proofs.lemmas.List.{append-nil, length-set}
+use Rattle.std.proofs.Common.{◌≡◌, ℕ, ◌+◌, ◌-◌, ◌<◌, ◌||◌, Bool, true, false, List, ◌++◌, length, drop, refl, sym, ap, ◌∙◌, arith, Some, Option, slice_get, subst, min}
+use Rattle.std.proofs.lemmas.List.{length-set}
 use Rattle.cd_outside.specs.declared.fixtures.FixtureCall.{FixtureCall}
 use Rattle.cd_outside.specs.FixtureCall.{CallsGrow}
 use Rattle.cd_outside.specs.Counts.{count_end}
@@ -10,16 +10,15 @@ use Rattle.cd_pool.specs.Pairs.{pairs}
 use Rattle.cd_legal.specs.declared.part.Part.{Part}
 use Rattle.cd_legal.specs.declared.part.Part.TheVariants.{Instance, App}
 use Rattle.cd_legal.specs.declared.entry.Entry.{Entry}
-use Rattle.cd_legal.specs.declared.entry.Entry.TheVariants.{Stopped, Cleaned}
 use Rattle.cd_legal.specs.declared.state.State.{State}
 use Rattle.cd_legal.specs.declared.state.Drafted.{Drafted}
 use Rattle.cd_legal.specs.declared.state.Life.{Life}
 use Rattle.cd_legal.specs.declared.state.Life.TheVariants.{Live, Published, Abandoned}
-use Rattle.cd_legal.specs.State.{holds, change_at, part_of, ended_in, one_ended, may_clean_instances, may_stop_apps}
+use Rattle.cd_legal.specs.State.{holds, change_at, part_of, one_ended, may_clean_instances, may_stop_apps}
 use Rattle.cd_legal.specs.Legal.{allowed, after, part_ended}
 use Rattle.cd_legal.specs.Abandoned.{is_abandoned}
 use Rattle.cd_legal.specs.Steps.{may_end}
-use Rattle.cd_legal.specs.Calls.{entry_calls, key_calls, givings}
+use Rattle.cd_legal.specs.Calls.{key_calls, givings}
 use Rattle.cd_legal.specs.Begins.{begins_by}
 use Rattle.cd_legal.specs.Whole.{is_closed_in}
 use Rattle.cd_legal.proofs.Places.{length_change}

@@ -17,3 +17,5 @@ pub mod Shuttings
 pub mod Stoppings
 pub mod Retirings
 pub mod Supersedings
+pub mod Trims
+pub mod Emptied

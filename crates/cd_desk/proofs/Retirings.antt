@@ -1,13 +1,12 @@
 -- What a desk stands for after a serial is retired, or the host is halted.
-use Rattle.std.proofs.Common.{◌≡◌, ◌≢◌, ℕ, zero, suc, ◌+◌, ◌-◌, ◌<◌, ◌==◌, ◌&&◌, ◌||◌, Bool, true, false, not, cond, min, List, [], ◌∷◌, ◌++◌, length, drop, refl, sym, ap, ◌∙◌, arith, Some, None, Option, set, slice_get, subst, ⊎_elim, ◌⊎◌, inl, inr, eq-eqb, ne_eqb}
-use Rattle.std.proofs.lemmas.List.{append-nil, length-set}
+use Rattle.std.proofs.Common.{◌≡◌, ◌≢◌, ℕ, zero, suc, ◌+◌, ◌<◌, ◌==◌, ◌&&◌, ◌||◌, Bool, true, false, cond, List, [], ◌∷◌, ◌++◌, length, drop, refl, sym, ap, ◌∙◌, arith, Some, None, Option, set, slice_get, subst, ⊎_elim, ◌⊎◌, inl, inr, eq-eqb, ne_eqb}
+use Rattle.std.proofs.lemmas.List.{length-set}
 use Rattle.std.proofs.lemmas.Bool.{eqb-true}
 use Rattle.std.proofs.lemmas.Bool.Decides.{eqb_tells}
 use Rattle.cd_outside.specs.declared.fixtures.FixtureCall.{FixtureCall}
 use Rattle.cd_outside.specs.declared.fixtures.FixtureCall.TheVariants.{Shut}
 use Rattle.cd_outside.specs.FixtureCall.{CallsGrow}
 use Rattle.cd_pool.specs.Pairs.{pairs}
-use Rattle.cd_legal.specs.declared.entry.Entry.{Entry}
 use Rattle.cd_legal.specs.declared.entry.Entry.TheVariants.{Retire, Halt}
 use Rattle.cd_legal.specs.declared.state.State.{State}
 use Rattle.cd_legal.specs.declared.state.Drafted.{Drafted}
@@ -17,7 +16,7 @@ use Rattle.cd_legal.specs.State.{holds, holds_if_there, has_number, draft_of, of
 use Rattle.cd_legal.specs.Legal.{allowed, after}
 use Rattle.cd_legal.specs.Serials.{has_serial, has_serial_in}
 use Rattle.cd_legal.specs.Calls.{entry_calls, is_shut, shutting, last_of}
-use Rattle.cd_legal.specs.Whole.{is_closed, is_closed_in}
+use Rattle.cd_legal.specs.Whole.{is_closed}
 use Rattle.cd_legal.proofs.Histories.{first, second}
 use Rattle.cd_legal.proofs.Facts.{allowed-by, can, Retires as MayRetire}
 use Rattle.cd_legal.proofs.Callers.{is_ticketed-none, open_at-none}
@@ -33,7 +32,7 @@ use Rattle.cd_desk.specs.Closings.{is_stopped_row, IsStopped, IsStoppedAt, CanRe
 use Rattle.cd_desk.proofs.Lists.{get_set_same, get_set_other, get_drop, some_is, some_none, same_at}
 use Rattle.cd_desk.proofs.Placing.{RowDraft, found, gone, serial_life, row_of-has, row_of-none, retired_none, retired_row}
 use Rattle.cd_desk.proofs.Shuttings.{last_at, with_calls}
-use Rattle.cd_desk.proofs.Standing.{Known, Steps, Shown, shown, closed_stays, plain_calls}
+use Rattle.cd_desk.proofs.Standing.{Steps, closed_stays, plain_calls}
 use Rattle.cd_desk.proofs.Ticketing.{no_calls}
 
 -- ---- the halt

@@ -1,5 +1,5 @@
 -- A desk on which what was left of a draft is ended one by one.
-use Rattle.std.proofs.Common.{◌≡◌, ℕ, ◌+◌, ◌-◌, ◌<◌, ◌==◌, ◌&&◌, ◌||◌, Bool, true, false, cond, List, [], ◌∷◌, ◌++◌, refl, sym, ap, ◌∙◌, arith, Some, None, Option, slice_get, subst, append_assoc}
+use Rattle.std.proofs.Common.{◌≡◌, ℕ, ◌+◌, ◌-◌, ◌<◌, ◌==◌, ◌&&◌, ◌||◌, Bool, true, cond, List, [], ◌∷◌, ◌++◌, refl, sym, ap, ◌∙◌, arith, Some, None, Option, slice_get, subst, append_assoc}
 use Rattle.cd_outside.specs.declared.fixtures.FixtureCall.{FixtureCall}
 use Rattle.cd_outside.specs.declared.fixtures.FixtureCall.TheVariants.{Shut}
 use Rattle.cd_outside.specs.FixtureCall.{CallsGrow}
@@ -8,26 +8,23 @@ use Rattle.cd_legal.specs.declared.part.Part.TheVariants.{Instance, App}
 use Rattle.cd_legal.specs.declared.entry.Entry.{Entry}
 use Rattle.cd_legal.specs.declared.entry.Entry.TheVariants.{Stopped, Cleaned}
 use Rattle.cd_legal.specs.declared.state.Life.{Life}
-use Rattle.cd_legal.specs.declared.state.State.{State}
 use Rattle.cd_legal.specs.declared.state.Drafted.{Drafted}
 use Rattle.cd_legal.specs.State.{may_stop_apps}
-use Rattle.cd_legal.specs.Legal.{allowed, after}
+use Rattle.cd_legal.specs.Legal.{after}
 use Rattle.cd_legal.specs.Abandoned.{is_abandoned}
 use Rattle.cd_legal.specs.Serials.{has_serial}
-use Rattle.cd_legal.specs.Calls.{entry_calls, key_calls, is_shut, shutting}
-use Rattle.cd_legal.specs.Begins.{begins_by}
+use Rattle.cd_legal.specs.Calls.{key_calls, is_shut, shutting}
 use Rattle.cd_legal.proofs.Facts.{less-is}
 use Rattle.cd_desk.specs.declared.row.Row.{Row}
 use Rattle.cd_desk.specs.declared.books.Books.{Books}
 use Rattle.cd_desk.specs.declared.desk.Desk.{Desk}
 use Rattle.cd_desk.specs.declared.closing.Closing.{Closing}
-use Rattle.cd_desk.specs.Rows.{Shows, line_at}
-use Rattle.cd_desk.specs.Books.{RowAt, Ends, CanEnd}
+use Rattle.cd_desk.specs.Books.{Ends, CanEnd}
 use Rattle.cd_desk.specs.Desks.{Agrees}
 use Rattle.cd_desk.specs.Closings.{IsRest, IsClosing, MayClean, may_clean_row, life_by, CanEndOf}
 use Rattle.cd_desk.proofs.Lists.{same_at}
 use Rattle.cd_desk.proofs.Counts.{now_at, was_at}
-use Rattle.cd_desk.proofs.Standing.{Known, Steps, plain_calls}
+use Rattle.cd_desk.proofs.Standing.{Steps, plain_calls}
 use Rattle.cd_desk.proofs.Endings.{Ended, ends}
 use Rattle.cd_desk.proofs.Shuttings.{stop_shuts, with_calls}
 

@@ -1,11 +1,9 @@
 -- What is left of a superseded serial.
-use Rattle.std.proofs.Common.{◌≡◌, ℕ, ◌+◌, ◌-◌, ◌<◌, ◌≤◌, ◌==◌, ◌||◌, ◌&&◌, Bool, true, false, List, refl, sym, ap, ◌∙◌, arith, Some, None, Option, slice_get, subst}
+use Rattle.std.proofs.Common.{◌≡◌, ℕ, ◌+◌, ◌-◌, ◌<◌, ◌||◌, Bool, true, false, List, refl, sym, ap, ◌∙◌, arith, Some, None, Option, slice_get, subst}
 use Rattle.std.proofs.lemmas.Bool.{eqb-true}
 use Rattle.cd_outside.specs.declared.fixtures.FixtureCall.{FixtureCall}
 use Rattle.cd_legal.specs.declared.state.State.{State}
 use Rattle.cd_legal.specs.declared.state.Drafted.{Drafted}
-use Rattle.cd_legal.specs.declared.state.Life.{Life}
-use Rattle.cd_legal.specs.declared.state.Life.TheVariants.{Published}
 use Rattle.cd_legal.specs.State.{holds, has_number, draft_of, may_clean_instances, all_stopped, all_cleaned}
 use Rattle.cd_legal.specs.Abandoned.{is_abandoned}
 use Rattle.cd_legal.specs.Serials.{has_serial}
@@ -13,13 +11,11 @@ use Rattle.cd_legal.specs.Whole.{is_closed}
 use Rattle.cd_legal.proofs.Serials.{Agree}
 use Rattle.cd_legal.proofs.Histories.{first, second}
 use Rattle.cd_desk.specs.declared.row.Row.{Row}
-use Rattle.cd_desk.specs.declared.books.Books.{Books}
 use Rattle.cd_desk.specs.declared.desk.Desk.{Desk}
 use Rattle.cd_desk.specs.declared.closing.Closing.{Closing}
-use Rattle.cd_desk.specs.Books.{RowAt}
 use Rattle.cd_desk.specs.Desks.{Agrees}
 use Rattle.cd_desk.specs.Serials.{row_of}
-use Rattle.cd_desk.specs.Closings.{IsRest, IsClosing, MayClean, LeavesOf, Leaves, apps_left, instances_left, may_clean_row}
+use Rattle.cd_desk.specs.Closings.{IsClosing, MayClean, LeavesOf, Leaves, apps_left, instances_left, may_clean_row}
 use Rattle.cd_desk.proofs.Lists.{some_is, same_at}
 use Rattle.cd_desk.proofs.Placing.{RowDraft, found, gone, serial_life, retired_row}
 

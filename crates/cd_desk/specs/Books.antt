@@ -18,9 +18,9 @@ pub record RowAt (b : Books) (d place : ℕ) (r : Row) : Type 0 where
 abbrev pub HasRow : Books → ℕ → Type 0
 HasRow b d = (place : ℕ) × (r : Row) × RowAt b d place r
 
--- one of the two lines is left to be opened
+-- one of one of the two lines is left to be opened, and none of the line is ended
 abbrev pub CanOpen : Part → Books → ℕ → Type 0
-CanOpen part b place = (r : Row) × (slice_get b.rows.items place ≡ Some r) × ((line_at part r).opened < length (line_at part r).parts.items)
+CanOpen part b place = (r : Row) × (slice_get b.rows.items place ≡ Some r) × ((line_at part r).opened < length (line_at part r).parts.items) × ((line_at part r).ended ≡ 0)
 
 -- one of one of the two lines is left to be ended
 abbrev pub CanEnd : Part → Books → ℕ → Type 0

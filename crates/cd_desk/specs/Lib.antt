@@ -9,4 +9,6 @@ pub mod Drafting
 pub mod Publishing
 pub mod Lefts
 pub mod Closings
+pub mod Trimming
+pub mod Emptying
 pub mod Serials

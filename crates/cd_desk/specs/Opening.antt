@@ -20,7 +20,7 @@ abbrev pub IsReady : Part → Row → Type 0
 IsReady Instance r = Unit {0}
 IsReady App r = r.modules.opened ≡ length r.modules.parts.items
 
--- the draft is live, nothing failed, what the next one waits for is made, and one is left
+-- the draft is live, nothing failed, what the next one waits for is made, and one is left; none is ended
 pub record CanOpenOf (part : Part) (b : Books) (d : ℕ) : Type 0 where
   pub place : ℕ
   pub row : Row
@@ -29,6 +29,7 @@ pub record CanOpenOf (part : Part) (b : Books) (d : ℕ) : Type 0 where
   pub unfailed : row.failed ≡ false
   pub ready : IsReady part row
   pub left : (line_at part row).opened < length (line_at part row).parts.items
+  pub unended : (line_at part row).ended ≡ 0
 
 -- the one at a place is opened, with so many keys, and the key that could not be opened
 abbrev pub opening_entry : Part → ℕ → ℕ → ℕ → Option Key → Entry

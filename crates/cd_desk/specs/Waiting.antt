@@ -8,6 +8,10 @@ use Rattle.cd_desk.specs.declared.instance.Instance.{Instance}
 abbrev pub Wait : ℕ → List Instance → List (List Key) → Type 0
 Wait from parts keys = (i : ℕ) (a : Instance) → slice_get parts i ≡ Some a → from ≤ i → (reverse a.waiting.items ≡ keys_at keys i) × (a.leases.items ≡ [])
 
+-- those from this place on hold nothing
+abbrev pub Spent : ℕ → List Instance → Type 0
+Spent from parts = (i : ℕ) (a : Instance) → slice_get parts i ≡ Some a → from ≤ i → a.leases.items ≡ []
+
 -- how many keys are still to be taken
 abbrev pub waits : Instance → ℕ
 waits a = length a.waiting.items

@@ -1,9 +1,11 @@
 ghost use Rattle.std.specs.Prelude.{◌≡◌, ◌≤◌, ◌+◌, ◌<◌, [], length, reverse, map, IfOk, All, sum_by, IfSome, IsTrue};
 ghost use Rattle.std.specs.Vec.{vec_len, vec_capacity};
+ghost use Rattle.cd_desk.specs.Rows.{row_waits};
 ghost use Rattle.cd_desk.specs.Waiting.{AllWait, IsEmpty, waits};
 
 use crate::books::Books;
 use crate::instance::Instance;
+use crate::row::Row;
 use cd_legal::{PlanApp, PlanModule};
 use cd_outside::Key;
 use cd_text::NoMemory;
@@ -97,25 +99,39 @@ fn waiting(parts: &[Instance]) -> Option<usize>
     Some(keys)
 }
 
-// Makes room in the pool for these instances beside all others, and for a row.
+// How many keys the instances and apps of these rows are to take.
+fn rows_waiting(rows: &[Row]) -> Option<usize>
+    ensures { IfSome result (λ n. n ≡ sum_by row_waits rows.now) }
+{
+    let mut keys: usize = 0;
+    for row in rows {
+        let modules = waiting(row.modules.parts.as_slice())?;
+        let apps = waiting(row.apps.parts.as_slice())?;
+        keys = keys.checked_add(modules.checked_add(apps)?)?;
+    }
+    Some(keys)
+}
+
+// How many keys all are to take, with these instances.
+fn all_waiting(rows: &[Row], modules: &[Instance], apps: &[Instance]) -> Option<u32>
+    ensures { IfSome result (λ n. n ≡ sum_by row_waits rows.now + (sum_by waits modules.now + sum_by waits apps.now)) }
+{
+    let had = rows_waiting(rows)?;
+    let modules = waiting(modules)?;
+    let apps = waiting(apps)?;
+    u32::try_from(had.checked_add(modules.checked_add(apps)?)?).ok()
+}
+
+// Makes room in the pool for these instances beside those that wait, and for a row.
 pub(crate) fn make_room(books: &mut Books, modules: &[Instance], apps: &[Instance]) -> bool
     ensures first { books.new.first ≡ books.old.first }
     ensures rows { books.new.rows.items ≡ books.old.rows.items }
     ensures held { books.new.pool.held ≡ books.old.pool.held }
-    ensures room { IsTrue result → books.old.pool.spare + (sum_by waits modules.now + sum_by waits apps.now) ≤ books.new.pool.spare }
+    ensures room { IsTrue result → sum_by row_waits books.old.rows.items + (sum_by waits modules.now + sum_by waits apps.now) ≤ books.new.pool.spare }
     ensures place { IsTrue result → vec_len books.new.rows < vec_capacity books.new.rows }
 {
-    let (Some(one), Some(two)) = (waiting(modules), waiting(apps)) else {
+    let Some(keys) = all_waiting(books.rows.as_slice(), modules, apps) else {
         return false;
     };
-    let Some(keys) = one.checked_add(two) else {
-        return false;
-    };
-    let Some(all) = keys.checked_add(books.pool.spare()) else {
-        return false;
-    };
-    let Ok(all) = u32::try_from(all) else {
-        return false;
-    };
-    books.rows.reserve(1).is_ok() && books.pool.reserve(all).is_ok()
+    books.rows.reserve(1).is_ok() && books.pool.reserve(keys).is_ok()
 }

@@ -84,7 +84,11 @@ fn add_row(books: &mut Books, row: Row)
 }
 
 impl<F: Fixtures> Desk<F> {
-    // Makes the next draft, with all memory that its later life needs.
+    /// Makes the next draft, with all memory that its later life needs, and answers its number.
+    ///
+    /// # Errors
+    ///
+    /// `Spent` where as many drafts were made as a history may have, and `NoMemory`. The history is as it was after both.
     pub fn draft(&mut self, alloc: Global, tree: &Tree, plan: &Plan) -> Result<u64, DraftFault>
         requires modules { length plan.now.modules ≤ 65536 }
         requires apps { length plan.now.apps ≤ 65537 }
@@ -92,6 +96,7 @@ impl<F: Fixtures> Desk<F> {
         ensures row { IfOk result (λ d. HasNew self.new.books d tree.now plan.now) }
         ensures err { OnErr result (Keeps F.calls self.old self.new) }
         ensures spent { result ≡ Err fault.Spent ↔ drafts_in self.old.books ≡ MAX_DRAFTS }
+        ensures faults { F.faults self.new.fixtures ≡ F.faults self.old.fixtures }
     {
         let number = self.books.first + self.books.rows.len() as u64;
         if number == MAX_DRAFTS {

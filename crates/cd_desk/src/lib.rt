@@ -10,7 +10,8 @@
 //!
 //! Files: instance.rt takes and gives back the keys of one instance; opening.rt opens and ends one of a line, rows.rt one of a
 //! draft, making.rt and steps.rt one as an entry; drafts.rt, lives.rt and tickets.rt have the other entries that lead to a
-//! publishing. What is published and given up, and what is tied to modules, is left to `cd_life`.
+//! publishing. trimming.rt lets the rows of closed drafts go, and emptying.rt ends a desk of which nothing is left. What is
+//! published and given up, and what is tied to modules, is left to `cd_life`.
 #![tactic(auto)]
 
 mod beginning;
@@ -20,6 +21,7 @@ mod closing;
 mod desk;
 mod drafting;
 mod drafts;
+mod emptying;
 mod instance;
 mod left;
 mod line;
@@ -34,6 +36,7 @@ mod steps;
 mod stopping;
 mod superseding;
 mod tickets;
+mod trimming;
 
 pub use beginning::NoDesk;
 pub use closing::Closing;

@@ -1,6 +1,6 @@
-ghost use Rattle.std.specs.Prelude.{◌≡◌, ◌≤◌, length};
+ghost use Rattle.std.specs.Prelude.{◌≡◌, ◌≤◌, ◌-◌, length};
 ghost use Rattle.cd_legal.specs.State.{part_keys};
-ghost use Rattle.cd_desk.specs.Waiting.{Wait};
+ghost use Rattle.cd_desk.specs.Waiting.{Wait, Spent};
 
 use crate::instance::Instance;
 use cd_legal::{Part, Plan};
@@ -20,4 +20,5 @@ pub struct Line {
     ghost within: { opened ≤ length parts.items },
     ghost bound: { length parts.items ≤ 65537 },
     ghost wait: { Wait opened parts.items (part_keys part plan.value) },
+    ghost spent: { Spent (opened - ended) parts.items },
 }

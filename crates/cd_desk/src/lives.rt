@@ -15,12 +15,13 @@ use cd_legal::Life;
 use cd_outside::Fixtures;
 
 impl<F: Fixtures> Desk<F> {
-    // A complete draft becomes the configuration with the next serial.
+    /// A complete draft becomes the configuration with the next serial.
     pub fn publish(&mut self, draft: u64)
         requires can { CanPublish self.old draft }
         ensures entry { (change : Change) → AddsTo F.calls self.old self.new (entry.Publish draft (self.old.serial + 1) self.old.serial change) }
         ensures serial { self.new.serial ≡ self.old.serial + 1 }
         ensures halted { self.new.halted ≡ self.old.halted }
+        ensures faults { F.faults self.new.fixtures ≡ F.faults self.old.fixtures }
     {
         let place = place_of(&self.books, draft);
         self.serial += 1;
@@ -28,13 +29,14 @@ impl<F: Fixtures> Desk<F> {
         set_life(&mut self.books, place, Life::Published(self.serial));
     }
 
-    // A draft is given up. What it has made and started is left to be ended.
+    /// A draft is given up. What it has made and started is left to be ended.
     pub fn abandon(&mut self, left: Left) -> Closing
         requires { (t : Tree) × IsLeft self.old.books t left }
         ensures entry { AddsTo F.calls self.old self.new (entry.Abandon left.number) }
         ensures closing { result ≡ record { number = left.number; serial = None; apps = left.started; instances = left.made } }
         ensures at { IsClosing self.new result }
         ensures clean { MayClean self.new.books left.number }
+        ensures faults { F.faults self.new.fixtures ≡ F.faults self.old.fixtures }
     {
         let place = place_of(&self.books, left.number);
         set_life(&mut self.books, place, Life::Abandoned);

@@ -1,4 +1,4 @@
-ghost use Rattle.std.specs.Prelude.{IfErr};
+ghost use Rattle.std.specs.Prelude.{◌≤◌, IfErr};
 ghost use Rattle.cd_outside.specs.Counts.{Rose};
 ghost use Rattle.cd_legal.specs.declared.part.Part.TheVariants as part;
 ghost use Rattle.cd_desk.specs.Opening.{CanOpenOf, OpensEntry};
@@ -12,6 +12,7 @@ impl<F: Fixtures> Desk<F> {
     pub(crate) fn make(&mut self, draft: u64) -> Result<(), Key>
         requires can { CanOpenOf part.Instance self.old.books draft }
         ensures entry { OpensEntry F.calls part.Instance self.old self.new draft result }
+        ensures later { F.faults self.old.fixtures ≤ F.faults self.new.fixtures }
         ensures cause { IfErr result (λ _. Rose (F.faults self.old.fixtures) (F.faults self.new.fixtures)) }
     {
         let place = place_of(&self.books, draft);
@@ -22,6 +23,7 @@ impl<F: Fixtures> Desk<F> {
     pub(crate) fn start(&mut self, draft: u64) -> Result<(), Key>
         requires can { CanOpenOf part.App self.old.books draft }
         ensures entry { OpensEntry F.calls part.App self.old self.new draft result }
+        ensures later { F.faults self.old.fixtures ≤ F.faults self.new.fixtures }
         ensures cause { IfErr result (λ _. Rose (F.faults self.old.fixtures) (F.faults self.new.fixtures)) }
     {
         let place = place_of(&self.books, draft);

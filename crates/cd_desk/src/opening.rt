@@ -30,9 +30,11 @@ impl Line {
         draft: u64,
     ) -> Result<(), Key>
         requires left { self.old.opened < length self.old.parts.items }
+        requires unended { self.old.ended ≡ 0 }
         requires room { IfSome (slice_get self.old.parts.items self.old.opened) (λ a. waits a ≤ pool.old.spare) }
         requires none { leases_of (part_of self.old.part draft self.old.opened) pool.old.held ≡ [] }
         ensures opens { OpensNext draft self.old self.new pool.old pool.new (F.calls fixtures.old) (F.calls fixtures.new) result }
+        ensures later { F.faults fixtures.old ≤ F.faults fixtures.new }
         ensures cause { IfErr result (λ _. Rose (F.faults fixtures.old) (F.faults fixtures.new)) }
     {
         let place = self.opened;

@@ -31,7 +31,8 @@ impl<F: Fixtures> Desk<F> {
     /// Retires a serial.
     pub fn retire(&mut self, serial: u32)
         requires { CanRetire self.old serial }
-        ensures { AddsTo F.calls self.old self.new (entry.Retire serial) }
+        ensures entry { AddsTo F.calls self.old self.new (entry.Retire serial) }
+        ensures faults { F.faults self.new.fixtures ≡ F.faults self.old.fixtures }
     {
         if serial == 0 {
             self.opening_retired = true;
@@ -49,6 +50,7 @@ impl<F: Fixtures> Desk<F> {
         requires bound { self.old.serial + 1 < 2 ^ 32 }
         ensures entry { AddsTo F.calls self.old self.new (entry.Halt (self.old.serial + 1)) }
         ensures halted { self.new.halted ≡ true }
+        ensures faults { F.faults self.new.fixtures ≡ F.faults self.old.fixtures }
     {
         let last = are_stopped(self.books.rows.as_slice(), self.serial);
         self.serial += 1;

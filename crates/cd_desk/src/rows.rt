@@ -25,6 +25,7 @@ pub(crate) fn make_in<F: Fixtures>(
 ) -> Result<(), Key>
     requires can { CanOpen part.Instance books.old place }
     ensures opens { Opens part.Instance place books.old books.new (F.calls fixtures.old) (F.calls fixtures.new) result }
+    ensures later { F.faults fixtures.old ≤ F.faults fixtures.new }
     ensures cause { IfErr result (λ _. Rose (F.faults fixtures.old) (F.faults fixtures.new)) }
 {
     let draft = books.first + place as u64;
@@ -42,6 +43,7 @@ pub(crate) fn start_in<F: Fixtures>(
 ) -> Result<(), Key>
     requires can { CanOpen part.App books.old place }
     ensures opens { Opens part.App place books.old books.new (F.calls fixtures.old) (F.calls fixtures.new) result }
+    ensures later { F.faults fixtures.old ≤ F.faults fixtures.new }
     ensures cause { IfErr result (λ _. Rose (F.faults fixtures.old) (F.faults fixtures.new)) }
 {
     let draft = books.first + place as u64;
@@ -63,6 +65,7 @@ pub(crate) fn set_life(books: &mut Books, place: usize, life: Life)
 pub(crate) fn stop_in<F: Fixtures>(books: &mut Books, fixtures: &mut F, place: usize)
     requires can { CanEnd part.App books.old place }
     ensures ends { Ends part.App place books.old books.new (F.calls fixtures.old) (F.calls fixtures.new) }
+    ensures faults { F.faults fixtures.new ≡ F.faults fixtures.old }
 {
     let draft = books.first + place as u64;
     books.rows[place]
@@ -74,6 +77,7 @@ pub(crate) fn stop_in<F: Fixtures>(books: &mut Books, fixtures: &mut F, place: u
 pub(crate) fn clean_in<F: Fixtures>(books: &mut Books, fixtures: &mut F, place: usize)
     requires can { CanEnd part.Instance books.old place }
     ensures ends { Ends part.Instance place books.old books.new (F.calls fixtures.old) (F.calls fixtures.new) }
+    ensures faults { F.faults fixtures.new ≡ F.faults fixtures.old }
 {
     let draft = books.first + place as u64;
     books.rows[place]

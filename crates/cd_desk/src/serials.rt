@@ -36,7 +36,7 @@ pub(crate) fn place_with(rows: &[Row], serial: u32) -> Option<usize>
 }
 
 impl<F: Fixtures> Desk<F> {
-    // Whether a serial is retired.
+    /// Whether a serial is retired.
     pub fn retired(&self, serial: u32) -> bool
         ensures { (opening : Desk F) (log : List Signed) → Holds F.calls opening self.now log → result ≡ has_number serial (state_at log).retired }
     {

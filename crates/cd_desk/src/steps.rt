@@ -1,4 +1,4 @@
-ghost use Rattle.std.specs.Prelude.{◌≡◌, ◌<◌, ℕ, IfOk, IfErr, is_err, false};
+ghost use Rattle.std.specs.Prelude.{◌≡◌, ◌<◌, ◌≤◌, ℕ, IfOk, IfErr, is_err, false};
 ghost use Rattle.cd_outside.specs.Counts.{Rose};
 ghost use Rattle.cd_tree.specs.declared.tree.Tree.{Tree};
 ghost use Rattle.cd_legal.specs.declared.entry.Entry.TheVariants as entry;
@@ -18,7 +18,11 @@ fn step(count: u32, all: u32) -> Step
 }
 
 impl<F: Fixtures> Desk<F> {
-    // The next instance of a draft is made.
+    /// The next instance of a draft is made. It takes its keys in order, and opens each that nobody has.
+    ///
+    /// # Errors
+    ///
+    /// The key that could not be opened. Those before it are held until the draft is cleaned.
     pub fn make_next(&mut self, left: &mut Left) -> Result<Step, Key>
         requires at { (t : Tree) × IsLeft self.old.books t left.old }
         requires more { left.old.made < left.old.modules }
@@ -27,6 +31,7 @@ impl<F: Fixtures> Desk<F> {
         ensures left { left.new ≡ one_made left.old (is_err result) }
         ensures at { (t : Tree) → IsLeft self.old.books t left.old → IsLeft self.new.books t left.new }
         ensures step { IfOk result (λ step. step ≡ step_at left.new.made left.new.modules) }
+        ensures later { F.faults self.old.fixtures ≤ F.faults self.new.fixtures }
         ensures cause { IfErr result (λ _. Rose (F.faults self.old.fixtures) (F.faults self.new.fixtures)) }
     {
         let made = self.make(left.number);
@@ -38,7 +43,11 @@ impl<F: Fixtures> Desk<F> {
         Ok(step(left.made, left.modules))
     }
 
-    // The next app of a draft is started.
+    /// The next app of a draft is started, in the same way.
+    ///
+    /// # Errors
+    ///
+    /// The key that could not be opened.
     pub fn start_next(&mut self, left: &mut Left) -> Result<Step, Key>
         requires at { (t : Tree) × IsLeft self.old.books t left.old }
         requires ready { left.old.made ≡ left.old.modules }
@@ -48,6 +57,7 @@ impl<F: Fixtures> Desk<F> {
         ensures left { left.new ≡ one_started left.old (is_err result) }
         ensures at { (t : Tree) → IsLeft self.old.books t left.old → IsLeft self.new.books t left.new }
         ensures step { IfOk result (λ step. step ≡ step_at left.new.started left.new.apps) }
+        ensures later { F.faults self.old.fixtures ≤ F.faults self.new.fixtures }
         ensures cause { IfErr result (λ _. Rose (F.faults self.old.fixtures) (F.faults self.new.fixtures)) }
     {
         let started = self.start(left.number);

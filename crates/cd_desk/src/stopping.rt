@@ -31,7 +31,8 @@ fn is_last(halted: bool, row: &Row, serial: u32) -> bool
 
 // Shuts the fixtures where nothing is left to be stopped.
 pub(crate) fn shut_where<F: Fixtures>(fixtures: &mut F, last: bool)
-    ensures { CallsGrow (F.calls fixtures.old) (cond last (call.Shut ∷ []) []) (F.calls fixtures.new) }
+    ensures calls { CallsGrow (F.calls fixtures.old) (cond last (call.Shut ∷ []) []) (F.calls fixtures.new) }
+    ensures faults { F.faults fixtures.new ≡ F.faults fixtures.old }
 {
     if last {
         fixtures.shut();
@@ -39,7 +40,7 @@ pub(crate) fn shut_where<F: Fixtures>(fixtures: &mut F, last: bool)
 }
 
 impl<F: Fixtures> Desk<F> {
-    // The last app that is left is stopped. Where it was the last one of a halted host, the fixtures are shut.
+    /// The last app that is left is stopped. Where it was the last one of a halted host, the fixtures are shut.
     pub fn stop(&mut self, closing: &mut Closing) -> Step
         requires at { IsClosing self.old closing.old }
         requires more { 0 < closing.old.apps }
@@ -48,6 +49,7 @@ impl<F: Fixtures> Desk<F> {
         ensures at { IsClosing self.new closing.new }
         ensures clean { MayClean self.old.books closing.old.number → MayClean self.new.books closing.old.number }
         ensures step { result ≡ step_at closing.new.apps 0 }
+        ensures faults { F.faults self.new.fixtures ≡ F.faults self.old.fixtures }
     {
         let place = place_of(&self.books, closing.number);
         stop_in(&mut self.books, &mut self.fixtures, place);
@@ -57,7 +59,7 @@ impl<F: Fixtures> Desk<F> {
         step_to(closing.apps)
     }
 
-    // The last instance that is left is cleaned.
+    /// The last instance that is left is cleaned.
     pub fn clean(&mut self, closing: &mut Closing) -> Step
         requires at { IsClosing self.old closing.old }
         requires stopped { closing.old.apps ≡ 0 }
@@ -68,6 +70,7 @@ impl<F: Fixtures> Desk<F> {
         ensures at { IsClosing self.new closing.new }
         ensures clean { MayClean self.new.books closing.old.number }
         ensures step { result ≡ step_at closing.new.instances 0 }
+        ensures faults { F.faults self.new.fixtures ≡ F.faults self.old.fixtures }
     {
         let place = place_of(&self.books, closing.number);
         clean_in(&mut self.books, &mut self.fixtures, place);

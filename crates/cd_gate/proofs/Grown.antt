@@ -27,6 +27,10 @@ entries_all : (k : ℕ) (es : List Entry) → entries (all_signed k es) ≡ es
 entries_all k [] = refl
 entries_all k (e ∷ es) = ap (λ (l : List Entry). e ∷ l) (entries_all k es)
 
+all-append : (k : ℕ) (xs ys : List Entry) → all_signed k (xs ++ ys) ≡ all_signed k xs ++ all_signed k ys
+all-append k [] ys = refl
+all-append k (x ∷ xs) ys = ap (λ (l : List Signed). signed k x ∷ l) (all-append k xs ys)
+
 ends : (log : List Signed) (k : ℕ) (es : List Entry) → EndsWith (log ++ all_signed k es) k es
 ends log k [] = tt
 ends log k (e ∷ []) = (log, refl)
@@ -134,7 +138,8 @@ module _ {T : Type 0} where
       ap entries (g.own ∙ g.adds)
       ∙ (entries-append v.mine all
       ∙ (ap (λ (l : List Entry). l ++ entries all) (ap entries (sym g.before) ∙ sym (placed-entries k v.seen))
-      ∙ ap (λ (l : List Entry). placed_entries (placed k v.seen) ++ l) (entries_all k es))) in (
+      ∙ ap (λ (l : List Entry). placed_entries (placed k v.seen) ++ l) (entries_all k es))) in
+      let are : placed_entries added ≡ es = append_cancel_left (placed_entries (placed k v.seen)) (placed_entries added) es (there ∙ said) in (
         added,
         record {
           number = ap (λ (z : View T). z.number) g.same;
@@ -142,8 +147,10 @@ module _ {T : Type 0} where
           history = g.history;
           placed_is = placed_is;
           last = subst (λ (l : List Signed). IsPrefix (through k added) l) whole (through_front k v.seen more);
+          adds = g.adds ∙ ap (λ (l : List Entry). v.mine ++ all_signed k l) (sym are);
+          same = g.same;
         },
-        append_cancel_left (placed_entries (placed k v.seen)) (placed_entries added) es (there ∙ said),
+        are,
       )
 
   -- the places of two calls, one after the other
@@ -158,4 +165,10 @@ module _ {T : Type 0} where
         history = b.history;
         placed_is = second ∙ (ap (λ (l : List Placed). l ++ two) a.placed_is ∙ append_assoc (placed k v.seen) one two);
         last = through_both k one two w.seen x.seen a.last b.seen behind;
+        adds = subst (λ (n : ℕ). x.mine ≡ w.mine ++ all_signed n (placed_entries two)) a.number b.adds
+            ∙ ap (λ (l : List Signed). l ++ all_signed k (placed_entries two)) a.adds
+            ∙ append_assoc v.mine (all_signed k (placed_entries one)) (all_signed k (placed_entries two))
+            ∙ ap (λ (l : List Signed). v.mine ++ l) (sym (all-append k (placed_entries one) (placed_entries two)))
+            ∙ ap (λ (l : List Entry). v.mine ++ all_signed k l) (sym (map-append (λ (p : Placed). p.entry) one two));
+        same = b.same ∙ ap (λ (z : View T). record z { seen = x.seen; mine = x.mine; ticket = x.ticket; draft = x.draft; duties = x.duties }) a.same;
       }

@@ -5,7 +5,7 @@ use Rattle.cd_legal.specs.declared.entry.Entry.{Entry}
 use Rattle.cd_legal.specs.declared.entry.Signed.{Signed}
 use Rattle.cd_legal.specs.Entry.{signed, mine}
 use Rattle.cd_legal.specs.Owing.{Owes, owes_by}
-use Rattle.cd_legal.specs.Placed.{Placed, placed, through}
+use Rattle.cd_legal.specs.Placed.{Placed, placed, placed_entries, through}
 use Rattle.cd_legal.specs.Signing.{IsHistory}
 use Rattle.cd_gate.specs.declared.view.View.{View}
 use Rattle.cd_gate.specs.Words.{owed}
@@ -50,6 +50,9 @@ module _ {T : Type 0} where
     pub history : IsHistory w.seen
     pub placed_is : placed v.number w.seen ≡ placed v.number v.seen ++ added
     pub last : IsPrefix (through v.number added) w.seen
+    -- what the pass knows of its own entries has grown by these, and all else but what it owes is as it was
+    pub adds : w.mine ≡ v.mine ++ all_signed v.number (placed_entries added)
+    pub same : w ≡ record v { seen = w.seen; mine = w.mine; ticket = w.ticket; draft = w.draft; duties = w.duties }
 
   -- the view with these entries of its own more
   abbrev pub noted_all : View T → List Entry → View T

@@ -1,14 +1,19 @@
 -- Drafts that are made and opened in a turn.
 use Rattle.std.proofs.Common.{◌≡◌, ℕ, zero, suc, ◌+◌, ◌==◌, Bool, true, false, cond, List, [], ◌∷◌, ◌++◌, length, take, slice_get, Option, Some, None, option_map, refl, sym, ap, subst, ◌∙◌, eq-eqb}
-use Rattle.std.specs.Prelude.{◌||◌, is_some, is_none, is_err, Result, Ok, Err}
+use Rattle.std.specs.Arc.{arc_value}
+use Rattle.std.specs.Prelude.{◌||◌, is_some, is_none, is_err, IfErr, Result, Ok, Err}
 use Rattle.std.proofs.lemmas.Bool.{eqb-true}
 use Rattle.cd_outside.specs.declared.key.Key.{Key}
+use Rattle.cd_outside.specs.declared.fixtures.FixtureCall.{FixtureCall}
 use Rattle.cd_outside.specs.declared.holder.Pair.{Pair}
+use Rattle.cd_outside.specs.Counts.{Rose}
 use Rattle.cd_outside.specs.Keys.{key_eq, has_key, keys_in}
 use Rattle.cd_outside.proofs.KeyLemmas.{has_key-append}
 use Rattle.cd_tree.specs.declared.tree.Tree.{Tree}
+use Rattle.cd_wire.specs.declared.request.Request.{Request}
+use Rattle.cd_module.specs.declared.fault.LoadFault.{LoadFault}
 use Rattle.cd_legal.specs.declared.entry.Entry.{Entry}
-use Rattle.cd_legal.specs.declared.entry.Entry.TheVariants.{Made, Started}
+use Rattle.cd_legal.specs.declared.entry.Entry.TheVariants.{Draft, Made, Started}
 use Rattle.cd_legal.specs.declared.entry.Signed.{Signed}
 use Rattle.cd_legal.specs.declared.part.Part.{Part}
 use Rattle.cd_legal.specs.declared.part.Part.TheVariants.{Instance, App}
@@ -31,9 +36,17 @@ use Rattle.cd_gate.specs.declared.view.View.{View}
 use Rattle.cd_gate.specs.Passes.{view, opening_of}
 use Rattle.cd_gate.specs.Steps.{may_note, with_turn, without_turn, noted}
 use Rattle.cd_gate.specs.Words.{owed}
-use Rattle.cd_hall.specs.Boards.{Adds}
-use Rattle.cd_hall.specs.Drafts.{Held, new_held, one_made, one_started, IsLiveAs, IsDraftOf, place_of, taken_of, failed_in, draft_entry, made_entry, started_entry}
+use Rattle.cd_desk.specs.declared.left.Left.{Left}
+use Rattle.cd_desk.specs.Instances.{failed_in}
+use Rattle.cd_desk.specs.Lefts.{IsLeft, left_of, one_made as left_made, one_started as left_started}
+use Rattle.cd_desk.proofs.Laws.{left_there}
+use Rattle.cd_life.specs.declared.board.Board.{Board}
+use Rattle.cd_life.specs.declared.board.Draft.{Draft as HeldDraft}
+use Rattle.cd_life.specs.Standing.{Stood, Adds}
+use Rattle.cd_hall.specs.declared.faults.KeyFailed.{KeyFailed}
+use Rattle.cd_hall.specs.Drafts.{FaultRose, Held, held, new_held, one_made, one_started, IsLiveAs, IsDraftOf, place_of, taken_of, draft_entry, made_entry, started_entry}
 use Rattle.cd_hall.specs.Turns.{InTurn}
+use Rattle.cd_hall.proofs.Requested.{allows, stands_on}
 
 -- what is said of equals
 pub said : {D R : Type 0} (P : D → R → Type 0) (d d' : D) (r r' : R) → d' ≡ d → r' ≡ r → P d r → P d' r'
@@ -128,6 +141,33 @@ started_live s h failed live = record {
   failed = refl;
 }
 
+-- ---- a draft and how far it has come
+
+module _ {A B : Type 0} {k : _} (d : HeldDraft A B k) where
+  pub held_made : (e : HeldDraft A B k) (err : Bool) → e.left ≡ left_made d.left err → e.loaded ≡ d.loaded → held e ≡ one_made (held d) err
+  held_made e err l o = λ i. record { number = (l i).number; tree = (arc_value (o i)).tree; plan = (arc_value (o i)).plan; made = (l i).made; started = (l i).started; failed = (l i).failed }
+
+  pub held_started : (e : HeldDraft A B k) (err : Bool) → e.left ≡ left_started d.left err → e.loaded ≡ d.loaded → held e ≡ one_started (held d) err
+  held_started e err l o = λ i. record { number = (l i).number; tree = (arc_value (o i)).tree; plan = (arc_value (o i)).plan; made = (l i).made; started = (l i).started; failed = (l i).failed }
+
+  -- that of a new one
+  abbrev fresh : ℕ → ℕ → Left
+  fresh modules apps = record { number = d.left.number; made = 0; modules = modules; started = 0; apps = apps; failed = false }
+
+  pub held_new : (tree : Tree) (plan : Plan) (modules apps : ℕ) → d.left ≡ fresh modules apps → (arc_value d.loaded).tree ≡ tree → (arc_value d.loaded).plan ≡ plan → held d ≡ new_held d.left.number tree plan
+  held_new tree plan modules apps l t p = λ i. record { number = d.left.number; tree = t i; plan = p i; made = (l i).made; started = (l i).started; failed = (l i).failed }
+
+  pub entry_new : (tree : Tree) (plan : Plan) → (arc_value d.loaded).tree ≡ tree → (arc_value d.loaded).plan ≡ plan → draft_entry (held d) ≡ Draft d.left.number tree plan
+  entry_new tree plan t p = λ i. Draft d.left.number (t i) (p i)
+
+  -- what is left of it, as the state has it
+  left_same : {T : Type 0} (v : View T) (has : IsDraftOf v d) → left_of d.left.number has.live.drafted ≡ d.left
+  left_same v has =
+      let x = has.live.drafted in
+      let modules : length x.plan.modules ≡ d.left.modules = ap (λ (p : Plan). length p.modules) has.live.plan ∙ sym has.modules in
+      let apps : length x.plan.apps ≡ d.left.apps = ap (λ (p : Plan). length p.apps) has.live.plan ∙ sym has.apps in
+      λ i. record { number = d.left.number; made = has.live.made i; modules = modules i; started = has.live.started i; apps = apps i; failed = has.live.failed i }
+
 -- ---- in a turn
 
 owns : (n : ℕ) (o : Option ℕ) → o ≡ Some n → holds (λ own. own == n) o ≡ true
@@ -143,55 +183,107 @@ module _ {T : Type 0} where
   pub may_start : (v : View T) (h : Held) (failed : Option Key) → v.draft ≡ Some h.number → allowed (state_at v.seen) (started_entry h failed) ≡ true → may_note v (started_entry h failed) ≡ true
   may_start v h failed has may = both (allowed (state_at v.seen) (started_entry h failed)) _ may (both (may_sign v.number (owed v) (started_entry h failed)) true (owns h.number v.draft has) refl)
 
+module _ {T A B : Type 0} {k : _} where
   -- the draft after its entry
-  pub drafted : (v w : View T) (h : Held) (tree : Tree) (plan : Plan) → allowed (state_at v.seen) (draft_entry h) ≡ true → h ≡ new_held h.number tree plan → w ≡ noted v (draft_entry h) → IsDraftOf w h
-  drafted v w h tree plan may is seen =
-      let new : h ≡ new_held h.number h.tree h.plan = is ∙ (λ i. new_held h.number (ap (λ (z : Held). z.tree) (sym is) i) (ap (λ (z : Held). z.plan) (sym is) i)) in
-      subst (λ (z : View T). IsDraftOf z h) (sym seen)
-      (refl, subst (λ (s : State). IsLiveAs s h) (sym (state-snoc v.seen (signed v.number (draft_entry h)))) (new_live (state_at v.seen) h may new))
+  pub drafted : (v w : View T) (d : HeldDraft A B k) (modules apps : ℕ) → allowed (state_at v.seen) (draft_entry (held d)) ≡ true → d.left ≡ fresh d modules apps
+      → modules ≡ length (held d).plan.modules → apps ≡ length (held d).plan.apps → w ≡ noted v (draft_entry (held d)) → IsDraftOf w d
+  drafted v w d modules apps may l m a seen =
+      let h : Held = held d in
+      let new : h ≡ new_held h.number h.tree h.plan = held_new d h.tree h.plan modules apps l refl refl in
+      record {
+        own = ap (λ (z : View T). z.draft) seen;
+        live = subst (λ (z : View T). IsLiveAs (state_at z.seen) h) (sym seen) (subst (λ (s : State). IsLiveAs s h) (sym (state-snoc v.seen (signed v.number (draft_entry h)))) (new_live (state_at v.seen) h may new));
+        modules = ap (λ (z : Left). z.modules) l ∙ m;
+        apps = ap (λ (z : Left). z.apps) l ∙ a;
+      }
 
-  pub draft_made : (v w : View T) (h now : Held) (failed : Option Key) (err : Bool) → IsDraftOf v h → w ≡ noted v (made_entry h failed) → now ≡ one_made h err → err ≡ is_some failed → IsDraftOf w now
-  draft_made v w h now failed err has seen is same =
-      subst (λ (z : Held). IsDraftOf w z) (sym (is ∙ ap (one_made h) same))
-      (subst (λ (z : View T). IsDraftOf z (one_made h (is_some failed))) (sym seen)
-      (has.0, subst (λ (s : State). IsLiveAs s (one_made h (is_some failed))) (sym (state-snoc v.seen (signed v.number (made_entry h failed)))) (made_live (state_at v.seen) h failed has.1)))
+  -- and after those of its next instance, and of its next app
+  pub draft_made : (v w : View T) (d e : HeldDraft A B k) (failed : Option Key) (err : Bool) → IsDraftOf v d → w ≡ noted v (made_entry (held d) failed) → e.left ≡ left_made d.left err → e.loaded ≡ d.loaded → err ≡ is_some failed → IsDraftOf w e
+  draft_made v w d e failed err has seen l o same =
+      let h : Held = held d in
+      let is : held e ≡ one_made h err = held_made d e err l o in
+      record {
+        own = ap (λ (z : View T). z.draft) seen ∙ (has.own ∙ ap (λ (z : Left). Some z.number) (sym l));
+        live = subst (λ (z : Held). IsLiveAs (state_at w.seen) z) (sym (is ∙ ap (one_made h) same))
+            (subst (λ (z : View T). IsLiveAs (state_at z.seen) (one_made h (is_some failed))) (sym seen)
+            (subst (λ (s : State). IsLiveAs s (one_made h (is_some failed))) (sym (state-snoc v.seen (signed v.number (made_entry h failed)))) (made_live (state_at v.seen) h failed has.live)));
+        modules = ap (λ (z : Left). z.modules) l ∙ (has.modules ∙ ap (λ (z : Held). length z.plan.modules) (sym is));
+        apps = ap (λ (z : Left). z.apps) l ∙ (has.apps ∙ ap (λ (z : Held). length z.plan.apps) (sym is));
+      }
 
-  pub draft_started : (v w : View T) (h now : Held) (failed : Option Key) (err : Bool) → IsDraftOf v h → w ≡ noted v (started_entry h failed) → now ≡ one_started h err → err ≡ is_some failed → IsDraftOf w now
-  draft_started v w h now failed err has seen is same =
-      subst (λ (z : Held). IsDraftOf w z) (sym (is ∙ ap (one_started h) same))
-      (subst (λ (z : View T). IsDraftOf z (one_started h (is_some failed))) (sym seen)
-      (has.0, subst (λ (s : State). IsLiveAs s (one_started h (is_some failed))) (sym (state-snoc v.seen (signed v.number (started_entry h failed)))) (started_live (state_at v.seen) h failed has.1)))
+  pub draft_started : (v w : View T) (d e : HeldDraft A B k) (failed : Option Key) (err : Bool) → IsDraftOf v d → w ≡ noted v (started_entry (held d) failed) → e.left ≡ left_started d.left err → e.loaded ≡ d.loaded → err ≡ is_some failed → IsDraftOf w e
+  draft_started v w d e failed err has seen l o same =
+      let h : Held = held d in
+      let is : held e ≡ one_started h err = held_started d e err l o in
+      record {
+        own = ap (λ (z : View T). z.draft) seen ∙ (has.own ∙ ap (λ (z : Left). Some z.number) (sym l));
+        live = subst (λ (z : Held). IsLiveAs (state_at w.seen) z) (sym (is ∙ ap (one_started h) same))
+            (subst (λ (z : View T). IsLiveAs (state_at z.seen) (one_started h (is_some failed))) (sym seen)
+            (subst (λ (s : State). IsLiveAs s (one_started h (is_some failed))) (sym (state-snoc v.seen (signed v.number (started_entry h failed)))) (started_live (state_at v.seen) h failed has.live)));
+        modules = ap (λ (z : Left). z.modules) l ∙ (has.modules ∙ ap (λ (z : Held). length z.plan.modules) (sym is));
+        apps = ap (λ (z : Left). z.apps) l ∙ (has.apps ∙ ap (λ (z : Held). length z.plan.apps) (sym is));
+      }
 
   -- when the turn is taken, and when it is left
-  pub draft_in : (v w : View T) (h : Held) → w ≡ with_turn v w.seen → ((d : ℕ) → v.draft ≡ Some d → slice_get (state_at w.seen).drafts d ≡ slice_get (state_at v.seen).drafts d) → IsDraftOf v h → IsDraftOf w h
-  draft_in v w h same stays has = (
-    ap (λ (z : View T). z.draft) same ∙ has.0,
-    record {
-      drafted = has.1.drafted;
-      there = stays h.number has.0 ∙ has.1.there;
-      live = has.1.live;
-      tree = has.1.tree;
-      plan = has.1.plan;
-      made = has.1.made;
-      started = has.1.started;
-      failed = has.1.failed;
-    },
-  )
+  pub draft_in : (v w : View T) (d : HeldDraft A B k) → w ≡ with_turn v w.seen → ((n : ℕ) → v.draft ≡ Some n → slice_get (state_at w.seen).drafts n ≡ slice_get (state_at v.seen).drafts n) → IsDraftOf v d → IsDraftOf w d
+  draft_in v w d same stays has =
+      let l = has.live in
+      record {
+        own = ap (λ (z : View T). z.draft) same ∙ has.own;
+        live = record { drafted = l.drafted; there = stays d.left.number has.own ∙ l.there; live = l.live; tree = l.tree; plan = l.plan; made = l.made; started = l.started; failed = l.failed };
+        modules = has.modules;
+        apps = has.apps;
+      }
 
-  pub draft_after : (x y : View T) (h : Held) → y ≡ without_turn x → IsDraftOf x h → IsDraftOf y h
-  draft_after x y h is has = subst (λ (z : View T). IsDraftOf z h) (sym is) has
+  pub draft_after : (x y : View T) (d : HeldDraft A B k) → y ≡ without_turn x → IsDraftOf x d → IsDraftOf y d
+  draft_after x y d is has =
+      let left : IsDraftOf (without_turn x) d = record { own = has.own; live = has.live; modules = has.modules; apps = has.apps } in
+      subst (λ (z : View T). IsDraftOf z d) (sym is) left
 
-module _ {T : Type 0} {stands : T → T → List Signed → Type 0} (g : Gate T) (t : Turn T) (p : Pass T) (h : InTurn stands g t p) (b : T) where
+module _ {A F B : Type 0} {k : _} (calls : F → Option (List FixtureCall)) (faults : F → ℕ) (plan : Tree → Result Plan LoadFault) (makes : Tree → Request → Option Tree) (g : Gate (Board A F B k)) (t : Turn (Board A F B k)) (p : Pass (Board A F B k)) (h : InTurn (Stood calls faults plan makes) g t p) where
+  -- what is left of the draft is in the books
+  pub left_here : (d : HeldDraft A B k) → IsDraftOf (view p) d → IsLeft t.value.desk.books (arc_value d.loaded).tree d.left
+  left_here d has =
+      let x = has.live.drafted in
+      subst (λ (l : Left). IsLeft t.value.desk.books (arc_value d.loaded).tree l) (left_same d (view p) has)
+      (subst (λ (tree : Tree). IsLeft t.value.desk.books tree (left_of d.left.number x)) has.live.tree
+      (left_there calls (opening_of g).desk t.value.desk (view p).seen h.board.desk d.left.number x has.live.there has.live.live))
+
   -- the entry that was made is allowed, and the board stands for it
-  abbrev IsMade : Entry → Type 0
-  IsMade e = (allowed (state_at (view p).seen) e ≡ true) × stands (opening_of g) b ((view p).seen ++ signed (view p).number e ∷ [])
+  abbrev IsMade : Board A F B k → Entry → Type 0
+  IsMade b e = (allowed (state_at (view p).seen) e ≡ true) × Stood calls faults plan makes (opening_of g) b ((view p).seen ++ signed (view p).number e ∷ [])
 
-  pub made_here : (d : Held) (failed : Option Key) → IsDraftOf (view p) d → ((taken : ℕ) × Adds stands t.value b (Made d.number d.made taken failed)) → IsMade (made_entry d failed)
-  made_here d failed has adds =
-      let is = adds.1 (opening_of g) (view p).seen (view p).number h.board in
-      subst IsMade (made_is (state_at (view p).seen) d adds.0 failed has.1 is.0) is
+  made_by : (b : Board A F B k) (e : Entry) → Adds calls faults plan makes t.value b e → IsMade b e
+  made_by b e adds = (allows calls faults plan makes g t p h b e adds, stands_on calls faults plan makes g t p h b e adds)
 
-  pub started_here : (d : Held) (failed : Option Key) → IsDraftOf (view p) d → ((taken : ℕ) × Adds stands t.value b (Started d.number d.started taken failed)) → IsMade (started_entry d failed)
-  started_here d failed has adds =
-      let is = adds.1 (opening_of g) (view p).seen (view p).number h.board in
-      subst IsMade (started_is (state_at (view p).seen) d adds.0 failed has.1 is.0) is
+  pub drafted_here : (b : Board A F B k) (d : HeldDraft A B k) (tree : Tree) (planned : Plan) → (arc_value d.loaded).tree ≡ tree → (arc_value d.loaded).plan ≡ planned → Adds calls faults plan makes t.value b (Draft d.left.number tree planned) → IsMade b (draft_entry (held d))
+  drafted_here b d tree planned one two adds = subst (IsMade b) (sym (entry_new d tree planned one two)) (made_by b (Draft d.left.number tree planned) adds)
+
+  pub made_here : (b : Board A F B k) (d : HeldDraft A B k) (failed : Option Key) → IsDraftOf (view p) d → ((taken : ℕ) × Adds calls faults plan makes t.value b (Made d.left.number d.left.made taken failed)) → IsMade b (made_entry (held d) failed)
+  made_here b d failed has adds =
+      let is = made_by b (Made d.left.number d.left.made adds.0 failed) adds.1 in
+      subst (IsMade b) (made_is (state_at (view p).seen) (held d) adds.0 failed has.live is.0) is
+
+  pub started_here : (b : Board A F B k) (d : HeldDraft A B k) (failed : Option Key) → IsDraftOf (view p) d → ((taken : ℕ) × Adds calls faults plan makes t.value b (Started d.left.number d.left.started taken failed)) → IsMade b (started_entry (held d) failed)
+  started_here b d failed has adds =
+      let is = made_by b (Started d.left.number d.left.started adds.0 failed) adds.1 in
+      subst (IsMade b) (started_is (state_at (view p).seen) (held d) adds.0 failed has.live is.0) is
+
+  -- as many drafts were made as the books say
+  pub drafts_here : length (state_at (view p).seen).drafts ≡ t.value.desk.books.first + length t.value.desk.books.rows.items
+  drafts_here = h.board.desk.agrees.drafts
+
+-- between the board that was found and the one that was left the faults rose, where the call failed
+pub fault_rose : {A F B S : Type 0} {k : _} (calls : F → Option (List FixtureCall)) (faults : F → ℕ) (plan : Tree → Result Plan LoadFault) (makes : Tree → Request → Option Tree) (o b c : Board A F B k) (found log seen : List Signed) (last : Signed) (r : Result S KeyFailed) (opened : Result S Key)
+    → Stood calls faults plan makes o b found → Stood calls faults plan makes o c log → seen ≡ log → seen ≡ found ++ last ∷ [] → IfErr r (λ failed. opened ≡ Err failed.key) → IfErr opened (λ key. Rose (faults b.desk.fixtures) (faults c.desk.fixtures))
+    → IfErr r (λ failed. FaultRose (Stood calls faults plan makes) (λ (z : Board A F B k). faults z.desk.fixtures) o seen last)
+fault_rose calls faults plan makes o b c found log seen last (Ok a) opened was is same made told rose = tt
+fault_rose calls faults plan makes o b c found log seen last (Err failed) opened was is same made told rose = record {
+  found = found;
+  before = b;
+  now = c;
+  made = made;
+  was = was;
+  is = subst (λ (l : List Signed). Stood calls faults plan makes o c l) (sym same) is;
+  rose = subst (λ z. IfErr z (λ key. Rose (faults b.desk.fixtures) (faults c.desk.fixtures))) told rose;
+}

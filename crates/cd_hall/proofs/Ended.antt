@@ -1,5 +1,5 @@
 -- When all passes have come together after the halt nothing is left.
-use Rattle.std.proofs.Common.{◌≡◌, ◌<◌, ℕ, zero, suc, Bool, true, false, not, cond, List, [], ◌∷◌, slice_get, Some, None, refl, sym, ap, ◌∙◌, ⊎_elim, eq-eqb, arith}
+use Rattle.std.proofs.Common.{◌≡◌, ◌<◌, ℕ, zero, suc, Bool, true, false, not, cond, List, [], ◌∷◌, ◌+◌, ◌-◌, length, slice_get, Some, None, refl, sym, ap, ◌∙◌, ⊎_elim, eq-eqb, arith}
 use Rattle.std.specs.List.{list_all}
 use Rattle.std.proofs.lemmas.Bool.Decides.{eqb_tells}
 use mathlib.Core.List.{IsPrefix}
@@ -13,18 +13,22 @@ use Rattle.cd_legal.specs.Entry.{entries}
 use Rattle.cd_legal.specs.State.{holds, has_number, is_live, apps_stopped, is_ticketed, ticket_of}
 use Rattle.cd_legal.specs.Legal.{after, state_from, state_at, may_retire}
 use Rattle.cd_legal.specs.Owing.{Owes, owes_of, owes_nothing}
+use Rattle.cd_legal.specs.Serials.{publishings}
 use Rattle.cd_legal.specs.Signing.{IsHistory}
 use Rattle.cd_legal.specs.Whole.{all_apps_stopped, nothing_left, all_retired, IsOver, IsWhole}
 use Rattle.cd_legal.proofs.Histories.{both, first, second}
 use Rattle.cd_legal.proofs.Logs.{state-append}
 use Rattle.cd_legal.proofs.Over.{over-whole}
+use Rattle.cd_legal.proofs.Serials.{published-count, publishes-count}
 use Rattle.cd_legal.proofs.Owed.{owed-ticket}
 use Rattle.cd_legal.proofs.Owners.{live-owned}
 use Rattle.cd_gate.specs.declared.pass.Pass.{Pass}
 use Rattle.cd_gate.specs.Ends.{Closes}
 use Rattle.cd_gate.specs.Passes.{view}
 use Rattle.cd_gate.proofs.Retiring.{retirable}
-use Rattle.cd_hall.specs.Ends.{IsHalted}
+use Rattle.cd_desk.specs.Emptying.{IsEnded}
+use Rattle.cd_life.proofs.Laws.{over_ended}
+use Rattle.cd_hall.specs.Ends.{IsHalted, EndsAs}
 
 -- ---- the halt stays
 
@@ -73,13 +77,17 @@ all_over s zero each = refl
 all_over s (suc k) each = both (has_number k s.retired) _ (each k (omega arith)) (all_over s k (λ n low. each n (omega arith)))
 
 module _ (log : List Signed) (is : IsHistory log) (owes : (k : ℕ) → owes_of k log ≡ owes_nothing) (due : (n : ℕ) → may_retire (state_at log) n ≡ false) (left : nothing_left (state_at log) ≡ true) where
+  -- nobody has a ticket
+  pub tickets_closed : (k : ℕ) → ticket_of k (state_at log).tickets ≡ None
+  tickets_closed k = sym (owed-ticket log k is) ∙ ap (λ (o : Owes). o.ticket) (owes k)
+
   retired_at : (n : ℕ) → n < (state_at log).serial → has_number n (state_at log).retired ≡ true
   retired_at n low = must (has_number n (state_at log).retired) (λ un.
       sym (retirable (state_at log) n record {
         superseded = low;
         unretired = un;
         stopped = stopped_at (state_at log) (state_at log).serial n low (first (all_apps_stopped (state_at log) (state_at log).serial) _ left);
-        unticketed = no_tickets n (state_at log).tickets (λ k. sym (owed-ticket log k is) ∙ ap (λ (o : Owes). o.ticket) (owes k));
+        unticketed = no_tickets n (state_at log).tickets tickets_closed;
       })
       ∙ due n)
 
@@ -88,7 +96,7 @@ module _ (log : List Signed) (is : IsHistory log) (owes : (k : ℕ) → owes_of 
       let owner = (live-owned log is).owner i (ap (holds (λ (y : Drafted). is_live y.life)) there ∙ live) in
       let some_draft : Some i ≡ None = sym owner.1 ∙ ap (λ (o : Owes). o.draft) (owes owner.0) in cc)
 
-  over : (state_at log).halted ≡ true → IsOver (state_at log)
+  pub over : (state_at log).halted ≡ true → IsOver (state_at log)
   over halted = record {
     halted = halted;
     drafts = all_by (λ x. not (is_live x.life)) (state_at log).drafts dead;
@@ -99,7 +107,24 @@ module _ (log : List Signed) (is : IsHistory log) (owes : (k : ℕ) → owes_of 
   pub is_whole : (state_at log).halted ≡ true → IsWhole (entries log)
   is_whole halted = over-whole (entries log) is.is_legal (over halted)
 
-pub closed : {T : Type 0} (stands : T → T → List Signed → Type 0) (o b : T) (passes : List (Pass T)) → IsHalted passes → (end : Closes stands o passes b) → ((state_at end.log).halted ≡ true) × IsWhole (entries end.log)
-closed stands o b passes h end =
-    let halted = halted_stays (view h.1).seen end.log (end.each h.0 h.1 h.2).0 h.3 in
-    (halted, is_whole end.log end.history end.owes end.due end.left halted)
+-- how all passes end
+module _ {T : Type 0} (stands : T → T → List Signed → Type 0) (o b : T) (passes : List (Pass T)) (h : IsHalted passes) (end : Closes stands o passes b) where
+  halted_at : (state_at end.log).halted ≡ true
+  halted_at = halted_stays (view h.1).seen end.log (end.each h.0 h.1 h.2).0 h.3
+
+  is_over : IsOver (state_at end.log)
+  is_over = over end.log end.history end.owes end.due end.left halted_at
+
+  pub ends_as : EndsAs passes end.log
+  ends_as = record { history = end.history; each = end.each; others = end.others; over = is_over; whole = is_whole end.log end.history end.owes end.due end.left halted_at }
+
+  -- so nothing is left of a board that stands for it
+  pub has_ended : IsEnded (state_at end.log)
+  has_ended = over_ended end.log end.history.is_legal is_over (tickets_closed end.log end.history end.owes end.due end.left)
+
+  -- and its serial, but for that of the halt, counts what was published
+  pub published_is : (serial n : ℕ) → serial ≡ (state_at end.log).serial → n ≡ serial - 1 → n ≡ publishings (entries end.log)
+  published_is serial n is less =
+      let count = publishes-count (entries end.log) in
+      let all : length (state_at end.log).published + 1 ≡ (state_at end.log).serial = ap (λ (c : Bool). length (state_at end.log).published + cond {A = ℕ} c 1 0) (sym halted_at) ∙ published-count (entries end.log) end.history.is_legal in
+      omega (arith, is, less, count, all)

@@ -1,8 +1,14 @@
 -- Requests that begin and end in a turn.
-use Rattle.std.proofs.Common.{◌≡◌, ◌≤◌, ◌<◌, ℕ, zero, suc, ◌+◌, ◌==◌, min, Bool, true, false, nat_lt, cond, List, [], ◌∷◌, ◌++◌, Some, None, refl, sym, ap, subst, ◌∙◌, eq-eqb, arith}
+use Rattle.std.proofs.Common.{◌≡◌, ◌≤◌, ◌<◌, ℕ, zero, suc, ◌+◌, ◌==◌, min, Bool, true, false, nat_lt, cond, List, [], ◌∷◌, ◌++◌, length, slice_get, Option, Some, None, Result, refl, sym, ap, subst, ◌∙◌, eq-eqb, arith}
 use Rattle.std.specs.Prelude.{◌&&◌, is_some}
 use Rattle.std.proofs.lemmas.Bool.{eqb-true}
+use mathlib.Core.List.{IsPrefix}
 use Rattle.cd_outside.specs.Counts.{count_end}
+use Rattle.cd_outside.specs.declared.fixtures.FixtureCall.{FixtureCall}
+use Rattle.cd_tree.specs.declared.tree.Tree.{Tree}
+use Rattle.cd_wire.specs.declared.request.Request.{Request}
+use Rattle.cd_module.specs.declared.fault.LoadFault.{LoadFault}
+use Rattle.cd_legal.specs.declared.plan.Plan.{Plan}
 use Rattle.cd_legal.specs.declared.entry.Entry.{Entry}
 use Rattle.cd_legal.specs.declared.entry.Entry.TheVariants.{Begin, Finish}
 use Rattle.cd_legal.specs.declared.entry.Signed.{Signed}
@@ -10,28 +16,39 @@ use Rattle.cd_legal.specs.declared.limits.TheConstants.{MAX_BEGINS}
 use Rattle.cd_legal.specs.declared.state.State.{State}
 use Rattle.cd_legal.specs.Begins.{begins_now}
 use Rattle.cd_legal.specs.Entry.{signed, entries}
-use Rattle.cd_legal.specs.State.{Conf, conf_of, has_ticket, ticket_of, open_at}
+use Rattle.cd_legal.specs.State.{conf_of, has_number, ticket_of, open_at}
 use Rattle.cd_legal.specs.Legal.{allowed, after, state_at, may_retire}
-use Rattle.cd_legal.specs.Signing.{may_sign}
+use Rattle.cd_legal.specs.Signing.{may_sign, IsHistory}
 use Rattle.cd_legal.specs.Whole.{nothing_left}
 use Rattle.cd_legal.proofs.Histories.{both, first, entries-snoc}
 use Rattle.cd_legal.proofs.Logs.{state-snoc}
 use Rattle.cd_legal.proofs.Callers.{has-ticket_of}
 use Rattle.cd_legal.proofs.Begun.{begins_now-snoc}
+use Rattle.cd_legal.proofs.Confs.{conf-stays}
+use Rattle.cd_legal.proofs.Serials.{serial-rises}
 use Rattle.cd_gate.specs.declared.gate.Gate.{Gate}
 use Rattle.cd_gate.specs.declared.pass.Pass.{Pass}
 use Rattle.cd_gate.specs.declared.pass.Turn.{Turn}
 use Rattle.cd_gate.specs.declared.view.View.{View}
-use Rattle.cd_gate.specs.Growing.{Since}
 use Rattle.cd_gate.specs.Knowing.{Knows, is_calm, due_at}
 use Rattle.cd_gate.specs.Passes.{view, IsIdleOf, opening_of}
 use Rattle.cd_gate.specs.Steps.{may_note, with_turn, without_turn, noted}
 use Rattle.cd_gate.specs.Words.{owed}
-use Rattle.cd_gate.proofs.Grown.{since_more}
 use Rattle.cd_gate.proofs.InTurn.{calm, ticket_at, may_finish, finished, told}
-use Rattle.cd_hall.specs.Boards.{StandsWhere, Tells, Adds, Keeps}
+use Rattle.cd_desk.specs.Desks.{HasTicket}
+use Rattle.cd_desk.proofs.Laws.{begin_free, finish_held}
+use Rattle.cd_life.specs.declared.board.Board.{Board}
+use Rattle.cd_life.specs.Shares.{conf_in}
+use Rattle.cd_life.specs.Standing.{Stood, Adds, Keeps, IsUnretired}
+use Rattle.cd_life.proofs.Laws.{current_unretired}
+use Rattle.cd_life.proofs.Shelving.{allowed_more}
+use Rattle.cd_hall.specs.declared.hall.Hall.{Hall}
+use Rattle.cd_hall.specs.declared.hall.Ticket.{Ticket}
 use Rattle.cd_hall.specs.Calls.{IsPassOf, StaysCalm}
+use Rattle.cd_hall.specs.Tickets.{IsTicketOf}
+use Rattle.cd_hall.specs.Turned.{SinceFound}
 use Rattle.cd_hall.specs.Turns.{InTurn}
+use Rattle.cd_hall.proofs.Turned.{found_more}
 
 -- ---- counts of begins
 
@@ -53,86 +70,91 @@ conf_begun log k n m serial = ap (λ (s : State). conf_of s serial) (state-snoc 
     same zero s = refl
     same (suc j) s = refl
 
-module _ {T : Type 0} {stands : T → T → List Signed → Type 0} (g : Gate T) (t : Turn T) (p : Pass T) (h : InTurn stands g t p) where
-  -- the entry is allowed after what the pass has seen, and the board stands for it
-  pub allows : (b : T) (e : Entry) → Adds stands t.value b e → allowed (state_at (view p).seen) e ≡ true
-  allows b e adds = (adds (opening_of g) (view p).seen (view p).number h.board).0
+module _ {A F B : Type 0} {k : _} (calls : F → Option (List FixtureCall)) (faults : F → ℕ) (plan : Tree → Result Plan LoadFault) (makes : Tree → Request → Option Tree) (g : Gate (Board A F B k)) (t : Turn (Board A F B k)) (p : Pass (Board A F B k)) (h : InTurn (Stood calls faults plan makes) g t p) where
+  -- the board stands for what the pass has seen and the entry, which is allowed
+  pub stands_on : (b : Board A F B k) (e : Entry) → Adds calls faults plan makes t.value b e → Stood calls faults plan makes (opening_of g) b ((view p).seen ++ signed (view p).number e ∷ [])
+  stands_on b e adds = adds (opening_of g) (view p).seen (view p).number h.board
 
-  pub stands_on : (b : T) (e : Entry) → Adds stands t.value b e → stands (opening_of g) b ((view p).seen ++ signed (view p).number e ∷ [])
-  stands_on b e adds = (adds (opening_of g) (view p).seen (view p).number h.board).1
+  pub allows : (b : Board A F B k) (e : Entry) → Adds calls faults plan makes t.value b e → allowed (state_at (view p).seen) e ≡ true
+  allows b e adds = allowed_more (view p).seen (signed (view p).number e) (stands_on b e adds).desk.is_legal
 
   -- nothing was added
-  pub kept_turn : (u : Turn T) → Keeps stands t.value u.value → InTurn stands g u p
+  pub kept_turn : (u : Turn (Board A F B k)) → Keeps calls faults plan makes t.value u.value → InTurn (Stood calls faults plan makes) g u p
   kept_turn u keeps = record { turn = h.turn; knows = h.knows; board = keeps (opening_of g) (view p).seen h.board }
 
-  number_is : (n : ℕ) → n ≡ p.number → n ≡ (view p).number
+  pub number_is : (n : ℕ) → n ≡ p.number → n ≡ (view p).number
   number_is n is = is ∙ h.turn.0.2
 
   -- the caller may begin
-  pub begins_free : (seats : T → ℕ) (n : ℕ) → n ≡ p.number → (view p).ticket ≡ None → (view p).number < seats (opening_of g)
-      → StandsWhere stands t.value (λ opening s. (has_ticket n s.tickets ≡ false) × (n < seats opening))
-  begins_free seats n is free seat =
-      let same = number_is n is in (
-        opening_of g,
-        (view p).seen,
-        h.board,
-        (
-          has-ticket_of n (state_at (view p).seen).tickets
-              ∙ (ap (λ (k : ℕ). is_some (ticket_of k (state_at (view p).seen).tickets)) same ∙ ap is_some (ticket_at (view p) h.knows ∙ free)),
-          subst (λ (k : ℕ). k < seats (opening_of g)) (sym same) seat,
-        ),
-      )
+  pub begins_free : (n : ℕ) → n ≡ p.number → (view p).ticket ≡ None → (view p).number < length (opening_of g).desk.tickets.by_caller.items → slice_get t.value.desk.tickets.by_caller.items n ≡ Some None
+  begins_free n is free seat =
+      let same = number_is n is in
+      begin_free calls (opening_of g).desk t.value.desk (view p).seen h.board.desk n
+      (has-ticket_of n (state_at (view p).seen).tickets
+      ∙ (ap (λ (j : ℕ). is_some (ticket_of j (state_at (view p).seen).tickets)) same ∙ ap is_some (ticket_at (view p) h.knows ∙ free)))
+      (subst (λ (j : ℕ). j < length (opening_of g).desk.tickets.by_caller.items) (sym same) seat)
 
   pub may_begin : (n m : ℕ) → n ≡ p.number → allowed (state_at (view p).seen) (Begin n m) ≡ true → may_note (view p) (Begin n m) ≡ true
   may_begin n m is allowing =
       both (allowed (state_at (view p).seen) (Begin n m)) _ allowing
       (both (may_sign (view p).number (owed (view p)) (Begin n m)) true (eq-eqb n (view p).number (number_is n is)) refl)
 
-  pub begun : (n m : ℕ) (q : Pass T) → n ≡ p.number → view q ≡ noted (view p) (Begin n m) → view q ≡ noted (view p) (Begin (view p).number m)
-  begun n m q is seen = seen ∙ ap (λ (k : ℕ). noted (view p) (Begin k m)) (number_is n is)
+  pub begun : (n m : ℕ) (q : Pass (Board A F B k)) → n ≡ p.number → view q ≡ noted (view p) (Begin n m) → view q ≡ noted (view p) (Begin (view p).number m)
+  begun n m q is seen = seen ∙ ap (λ (j : ℕ). noted (view p) (Begin j m)) (number_is n is)
 
   -- under the current serial
   pub current : (n m : ℕ) → allowed (state_at (view p).seen) (Begin n m) ≡ true → m ≡ (state_at (view p).seen).serial
   current n m allowing = eqb-true m (state_at (view p).seen).serial (first (m == (state_at (view p).seen).serial) _ allowing)
 
   -- the caller may end
-  pub ends_there : (n m : ℕ) → n ≡ p.number → (view p).ticket ≡ Some m → StandsWhere stands t.value (λ opening s. has_ticket n s.tickets ≡ true)
+  pub ends_there : (n m : ℕ) → n ≡ p.number → (view p).ticket ≡ Some m → HasTicket t.value.desk.tickets.by_caller.items n
   ends_there n m is has =
-      let same = number_is n is in (
-        opening_of g,
-        (view p).seen,
-        h.board,
-        has-ticket_of n (state_at (view p).seen).tickets
-            ∙ (ap (λ (k : ℕ). is_some (ticket_of k (state_at (view p).seen).tickets)) same ∙ ap is_some (ticket_at (view p) h.knows ∙ has)),
-      )
+      let same = number_is n is in
+      finish_held calls (opening_of g).desk t.value.desk (view p).seen h.board.desk n
+      (has-ticket_of n (state_at (view p).seen).tickets
+      ∙ (ap (λ (j : ℕ). is_some (ticket_of j (state_at (view p).seen).tickets)) same ∙ ap is_some (ticket_at (view p) h.knows ∙ has)))
 
   pub may_end : (n m : ℕ) → n ≡ p.number → (view p).ticket ≡ Some m → may_note (view p) (Finish n) ≡ true
-  may_end n m is has = ap (λ (k : ℕ). may_note (view p) (Finish k)) (number_is n is) ∙ may_finish (view p) m h.knows has
+  may_end n m is has = ap (λ (j : ℕ). may_note (view p) (Finish j)) (number_is n is) ∙ may_finish (view p) m h.knows has
 
-  pub ended : (n : ℕ) (q : Pass T) → n ≡ p.number → view q ≡ noted (view p) (Finish n) → view q ≡ noted (view p) (Finish (view p).number)
-  ended n q is seen = seen ∙ ap (λ (k : ℕ). noted (view p) (Finish k)) (number_is n is)
+  pub ended : (n : ℕ) (q : Pass (Board A F B k)) → n ≡ p.number → view q ≡ noted (view p) (Finish n) → view q ≡ noted (view p) (Finish (view p).number)
+  ended n q is seen = seen ∙ ap (λ (j : ℕ). noted (view p) (Finish j)) (number_is n is)
 
-  -- the board tells the current serial
-  pub serial_here : (n : ℕ) → Tells stands t.value (λ log. n ≡ (state_at log).serial) → StandsWhere stands t.value (λ opening s. n ≡ s.serial)
-  serial_here n tells = (opening_of g, (view p).seen, h.board, tells (opening_of g) (view p).seen h.board)
+  -- the current serial may be shared
+  current_low : (n : ℕ) → n ≡ (state_at (view p).seen).serial → n ≤ (state_at (view p).seen).serial
+  current_low n is = omega (arith, is)
+
+  current_free : (n : ℕ) → n ≡ (state_at (view p).seen).serial → has_number n (state_at (view p).seen).retired ≡ false
+  current_free n is = ap (λ (j : ℕ). has_number j (state_at (view p).seen).retired) is ∙ current_unretired calls faults plan makes (opening_of g) t.value (view p).seen h.board
+
+  pub shares_current : (n : ℕ) → n ≡ (state_at (view p).seen).serial → IsUnretired calls faults plan makes t.value n
+  shares_current n is = (opening_of g, (view p).seen, h.board, current_low n is, current_free n is)
 
   -- the request that was begun has the configuration that was shared
-  pub conf_after : (conf : Conf) (told n : ℕ) (q : Pass T) → Tells stands t.value (λ log. told ≡ (state_at log).serial) → Tells stands t.value (λ log. conf ≡ conf_of (state_at log) told) → n ≡ (state_at (view p).seen).serial
-      → view q ≡ noted (view p) (Begin (view p).number n) → conf ≡ conf_of (state_at (view q).seen) n
-  conf_after conf told n q serial shares same seen =
-      let same_serial : told ≡ n = serial (opening_of g) (view p).seen h.board ∙ sym same in
-      shares (opening_of g) (view p).seen h.board
-      ∙ (ap (λ (m : ℕ). conf_of (state_at (view p).seen) m) same_serial
-      ∙ (sym (conf_begun (view p).seen (view p).number (view p).number n n) ∙ ap (λ (z : View T). conf_of (state_at z.seen) n) (sym seen)))
+  pub ticket_begun : (tk : Ticket A B k) (asked : ℕ) (q : Pass (Board A F B k)) → asked ≡ (state_at (view p).seen).serial
+      → ((o : Board A F B k) (log : List Signed) → Stood calls faults plan makes o t.value log → asked ≤ (state_at log).serial → has_number asked (state_at log).retired ≡ false → conf_in tk.share ≡ conf_of (state_at log) asked)
+      → tk.serial ≡ (state_at (view p).seen).serial → view q ≡ noted (view p) (Begin (view p).number tk.serial) → IsTicketOf (view q) tk
+  ticket_begun tk asked q serial shares same seen =
+      let s : State = state_at (view p).seen in
+      let conf : conf_in tk.share ≡ conf_of s asked = shares (opening_of g) (view p).seen h.board (current_low asked serial) (current_free asked serial) in
+      let kept : (state_at (view q).seen).serial ≡ s.serial = ap (λ (z : View (Board A F B k)). (state_at z.seen).serial) seen ∙ ap (λ (z : State). z.serial) (state-snoc (view p).seen (signed (view p).number (Begin (view p).number tk.serial))) in
+      record {
+        own = ap (λ (z : View (Board A F B k)). z.ticket) seen;
+        there = omega (arith, kept, same);
+        conf = conf
+            ∙ (ap (λ (m : ℕ). conf_of s m) (serial ∙ sym same)
+            ∙ (sym (conf_begun (view p).seen (view p).number (view p).number tk.serial tk.serial)
+            ∙ ap (λ (z : View (Board A F B k)). conf_of (state_at z.seen) tk.serial) (sym seen)));
+      }
 
   -- few requests have begun
-  pub few_after : (told n : ℕ) (q : Pass T) → Tells stands t.value (λ log. told ≡ min (begins_now (entries log)) count_end) → told < MAX_BEGINS → view q ≡ noted (view p) (Begin (view p).number n) → begins_now (entries (view q).seen) ≤ MAX_BEGINS
+  pub few_after : (told n : ℕ) (q : Pass (Board A F B k)) → ((o : Board A F B k) (log : List Signed) → Stood calls faults plan makes o t.value log → told ≡ min (begins_now (entries log)) count_end) → told < MAX_BEGINS → view q ≡ noted (view p) (Begin (view p).number n) → begins_now (entries (view q).seen) ≤ MAX_BEGINS
   few_after told n q tells low seen =
       few_are told (begins_now (entries (view p).seen)) MAX_BEGINS (begins_now (entries (view q).seen)) (tells (opening_of g) (view p).seen h.board) low (omega arith)
-      (ap (λ (z : View T). begins_now (entries z.seen)) seen ∙ one_begun (view p).seen (view p).number (view p).number n)
+      (ap (λ (z : View (Board A F B k)). begins_now (entries z.seen)) seen ∙ one_begun (view p).seen (view p).number (view p).number n)
 
   -- as many have as may
-  pub worn_here : (told : ℕ) → Tells stands t.value (λ log. told ≡ min (begins_now (entries log)) count_end) → MAX_BEGINS ≤ told → MAX_BEGINS ≤ begins_now (entries (view p).seen)
+  pub worn_here : (told : ℕ) → ((o : Board A F B k) (log : List Signed) → Stood calls faults plan makes o t.value log → told ≡ min (begins_now (entries log)) count_end) → MAX_BEGINS ≤ told → MAX_BEGINS ≤ begins_now (entries (view p).seen)
   worn_here told tells le = worn_is told (begins_now (entries (view p).seen)) MAX_BEGINS (tells (opening_of g) (view p).seen h.board) le
 
 module _ {T : Type 0} where
@@ -175,15 +197,6 @@ module _ {T : Type 0} where
   pub number_in : (v w : View T) → w ≡ with_turn v w.seen → w.number ≡ v.number
   number_in v w same = ap (λ (z : View T). z.number) same
 
-  -- one entry was made since
-  pub since_one : (v w x : View T) (e : Entry) → Since v [] w → x ≡ noted w e → Since v (e ∷ []) x
-  since_one v w x e since seen = since_more v w x [] e since seen
-
-  -- the pass after the turn
-  pub pass_after : (seats : T → ℕ) (g : Gate T) (p : Pass T) (v w x : View T) → IsIdleOf g p → v.number < seats (opening_of g) → w.number ≡ v.number → x.number ≡ w.number → view p ≡ without_turn x → IsPassOf seats g p
-  pass_after seats g p v w x idle seat one two seen =
-      (idle, subst (λ (k : ℕ). k < seats (opening_of g)) (sym (ap (λ (z : View T). z.number) seen ∙ (two ∙ one))) seat)
-
   pub seen_after : (x y : View T) → y ≡ without_turn x → y.seen ≡ x.seen
   seen_after x y is = ap (λ (z : View T). z.seen) is
 
@@ -197,11 +210,38 @@ module _ {T : Type 0} where
   number_noted w x e seen = ap (λ (z : View T). z.number) seen
 
   -- a request was begun since, or ended
-  pub finish_since : (v w x : View T) → Since v [] w → w ≡ with_turn v w.seen → x ≡ noted w (Finish w.number) → Since v (Finish v.number ∷ []) x
-  finish_since v w x since same seen = since_one v w x (Finish v.number) since (seen ∙ ap (λ (k : ℕ). noted w (Finish k)) (number_in v w same))
+  pub finish_found : (v w x : View T) → SinceFound v w.seen [] w → w ≡ with_turn v w.seen → x ≡ noted w (Finish w.number) → SinceFound v w.seen (Finish v.number ∷ []) x
+  finish_found v w x since same seen = found_more v w x w.seen [] (Finish v.number) since (seen ∙ ap (λ (j : ℕ). noted w (Finish j)) (number_in v w same))
 
-  pub begin_since : (v w x : View T) (n : ℕ) → Since v [] w → w ≡ with_turn v w.seen → x ≡ noted w (Begin w.number n) → Since v (Begin v.number n ∷ []) x
-  begin_since v w x n since same seen = since_one v w x (Begin v.number n) since (seen ∙ ap (λ (k : ℕ). noted w (Begin k n)) (number_in v w same))
+  -- in the history that was found the pass has its ticket
+  pub ticket_found : (v w : View T) (n : ℕ) → Knows w → w ≡ with_turn v w.seen → v.ticket ≡ Some n → ticket_of v.number (state_at w.seen).tickets ≡ Some n
+  ticket_found v w n knows same has = ap (λ (j : ℕ). ticket_of j (state_at w.seen).tickets) (sym (number_in v w same)) ∙ (ticket_at w knows ∙ has_ticket_in v w n same has)
+
+  pub begin_found : (v w x : View T) (n : ℕ) → SinceFound v w.seen [] w → w ≡ with_turn v w.seen → x ≡ noted w (Begin w.number n) → SinceFound v w.seen (Begin v.number n ∷ []) x
+  begin_found v w x n since same seen = found_more v w x w.seen [] (Begin v.number n) since (seen ∙ ap (λ (j : ℕ). noted w (Begin j n)) (number_in v w same))
+
+  -- a ticket keeps its configuration while the history grows
+  pub ticket_stays : {A B : Type 0} {k : _} (v w : View T) (tk : Ticket A B k) → IsTicketOf v tk → IsPrefix v.seen w.seen → IsHistory w.seen → w.ticket ≡ v.ticket → IsTicketOf w tk
+  ticket_stays v w tk has front history same =
+      let up = serial-rises v.seen w.seen front history.is_legal in
+      let there = has.there in
+      record {
+        own = same ∙ has.own;
+        there = omega (arith, up, there);
+        conf = has.conf ∙ sym (conf-stays v.seen w.seen tk.serial front history.is_legal has.there);
+      }
+
+  -- the ticket when the turn is left
+  pub ticket_after : {A B : Type 0} {k : _} (x y : View T) (tk : Ticket A B k) → y ≡ without_turn x → IsTicketOf x tk → IsTicketOf y tk
+  ticket_after x y tk is has =
+      let left : IsTicketOf (without_turn x) tk = record { own = has.own; there = has.there; conf = has.conf } in
+      subst (λ (z : View T). IsTicketOf z tk) (sym is) left
 
   pub number_kept : (w x : View T) → x ≡ w → x.number ≡ w.number
   number_kept w x same = ap (λ (z : View T). z.number) same
+
+-- the pass after the turn
+pub pass_after : {A F B : Type 0} {k : _} (h : Hall A F B k) (p : Pass (Board A F B k)) (v w x : View (Board A F B k)) → IsIdleOf h.gate p → v.number < length (opening_of h.gate).desk.tickets.by_caller.items → w.number ≡ v.number → x.number ≡ w.number → view p ≡ without_turn x
+    → IsPassOf h p
+pass_after {A} {F} {B} {k} h p v w x idle seat one two seen =
+    (idle, subst (λ (j : ℕ). j < length (opening_of h.gate).desk.tickets.by_caller.items) (sym (ap (λ (z : View (Board A F B k)). z.number) seen ∙ (two ∙ one))) seat)

@@ -1,6 +1,6 @@
 -- What follows for a result.
 use Rattle.std.proofs.Common.{◌≡◌, subst}
-use Rattle.std.specs.Prelude.{Result, Ok, Err, IfOk}
+use Rattle.std.specs.Prelude.{Result, Ok, Err, IfOk, OnErr}
 
 pub if_ok : {A E : Type 0} (P Q : A → Type 0) (r : Result A E) → ((a : A) → P a → Q a) → IfOk r P → IfOk r Q
 if_ok P Q (Ok a) goes is = goes a is
@@ -10,3 +10,8 @@ if_ok P Q (Err e) goes is = tt
 pub if_told : {A E K : Type 0} (P : A → Type 0) (r : Result A E) (o : Result A K) → IfOk r (λ a. o ≡ Ok a) → IfOk o P → IfOk r P
 if_told P (Ok a) o is had = subst (λ z. IfOk z P) is had
 if_told P (Err e) o is had = tt
+
+-- and for one that is an error
+pub on_err : {A E : Type 0} (P Q : Type 0) (r : Result A E) → (P → Q) → OnErr r P → OnErr r Q
+on_err P Q (Ok a) goes is = tt
+on_err P Q (Err e) goes is = goes is

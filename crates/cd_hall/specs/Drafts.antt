@@ -1,18 +1,23 @@
 -- A draft as its holder knows it.
-use Rattle.std.specs.Prelude.{◌≡◌, ℕ, suc, ◌+◌, Bool, false, cond, List, [], ◌∷◌, length, slice_get, Option, Some, None, is_some, Result, Ok, Err}
+use Rattle.std.specs.Prelude.{◌≡◌, ℕ, suc, ◌+◌, Bool, false, cond, List, [], ◌∷◌, ◌++◌, length, slice_get, Option, Some, None, is_some, Result, Ok, Err}
 use Rattle.cd_outside.specs.declared.key.Key.{Key}
+use Rattle.std.specs.Arc.{arc_value}
+use Rattle.cd_outside.specs.Counts.{Rose}
 use Rattle.cd_outside.specs.Keys.{key_eq}
 use Rattle.cd_tree.specs.declared.tree.Tree.{Tree}
 use Rattle.cd_legal.specs.declared.plan.Plan.{Plan}
 use Rattle.cd_legal.specs.declared.part.Part.TheVariants.{Instance, App}
 use Rattle.cd_legal.specs.declared.entry.Entry.{Entry}
 use Rattle.cd_legal.specs.declared.entry.Entry.TheVariants.{Draft, Made, Started}
+use Rattle.cd_legal.specs.declared.entry.Signed.{Signed}
 use Rattle.cd_legal.specs.declared.state.State.{State}
 use Rattle.cd_legal.specs.declared.state.Drafted.{Drafted}
 use Rattle.cd_legal.specs.declared.state.Life.TheVariants.{Live}
 use Rattle.cd_legal.specs.State.{keys_at, part_keys}
 use Rattle.cd_legal.specs.Legal.{state_at}
 use Rattle.cd_gate.specs.declared.view.View.{View}
+use Rattle.cd_life.specs.declared.board.Draft.{Draft as HeldDraft}
+use Rattle.cd_hall.specs.declared.faults.KeyFailed.{KeyFailed}
 
 -- its number, its tree and plan, how many instances are made and apps are started, and whether a key could not be opened
 pub record Held : Type 0 where
@@ -45,9 +50,22 @@ pub record IsLiveAs (s : State) (h : Held) : Type 0 where
   pub started : drafted.started ≡ h.started
   pub failed : is_some drafted.failed ≡ h.failed
 
--- it is the draft of the pass, and has come as far as the pass has seen
-abbrev pub IsDraftOf : {T : Type 0} → View T → Held → Type 0
-IsDraftOf v h = (v.draft ≡ Some h.number) × IsLiveAs (state_at v.seen) h
+-- how far a draft has come
+abbrev pub held : {A B : Type 0} {g : _} → HeldDraft A B g → Held
+held d = record { number = d.left.number; tree = (arc_value d.loaded).tree; plan = (arc_value d.loaded).plan; made = d.left.made; started = d.left.started; failed = d.left.failed }
+
+-- it is the draft of the pass, has come as far as the pass has seen, and counts what its plan says
+pub record IsDraftOf {T A B : Type 0} {g : _} (v : View T) (d : HeldDraft A B g) : Type 0 where
+  pub own : v.draft ≡ Some d.left.number
+  pub live : IsLiveAs (state_at v.seen) (held d)
+  pub modules : d.left.modules ≡ length (held d).plan.modules
+  pub apps : d.left.apps ≡ length (held d).plan.apps
+
+-- all of it is there
+pub record IsWholeDraft (h : Held) : Type 0 where
+  pub made : h.made ≡ length h.plan.modules
+  pub started : h.started ≡ length h.plan.apps
+  pub unfailed : h.failed ≡ false
 
 -- the place of the key among these
 abbrev pub place_of : Key → List Key → ℕ
@@ -60,9 +78,9 @@ taken_of keys None = length keys
 taken_of keys (Some key) = place_of key keys
 
 -- the key that could not be opened, where one could not
-abbrev pub failed_in : {A : Type 0} → Result A Key → Option Key
-failed_in (Ok a) = None
-failed_in (Err key) = Some key
+abbrev pub key_in : {A : Type 0} → Result A KeyFailed → Option Key
+key_in (Ok a) = None
+key_in (Err failed) = Some failed.key
 
 -- the entries of a draft that is made, of its next instance, and of its next app
 abbrev pub draft_entry : Held → Entry
@@ -73,3 +91,14 @@ made_entry h failed = Made h.number h.made (taken_of (keys_at (part_keys Instanc
 
 abbrev pub started_entry : Held → Option Key → Entry
 started_entry h failed = Started h.number h.started (taken_of (keys_at (part_keys App h.plan) h.started) failed) failed
+
+-- the last entry was made between a board that stood for the history before it and one that stands for it, and from the one to the
+-- other the faults of the fixtures rose
+pub record FaultRose {T : Type 0} (stands : T → T → List Signed → Type 0) (faults : T → ℕ) (opening : T) (seen : List Signed) (last : Signed) : Type 0 where
+  pub found : List Signed
+  pub before : T
+  pub now : T
+  pub made : seen ≡ found ++ last ∷ []
+  pub was : stands opening before found
+  pub is : stands opening now seen
+  pub rose : Rose (faults before) (faults now)

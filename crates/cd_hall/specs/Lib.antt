@@ -1,5 +1,6 @@
-pub mod Boards
+pub mod Turned
+pub mod Turns
+pub mod Tickets
 pub mod Drafts
 pub mod Calls
-pub mod Turns
 pub mod Ends

@@ -1,29 +1,36 @@
 //! Drafts are made, provisioned and started.
-ghost use Rattle.std.specs.Prelude.{◌≡◌, ◌<◌, ◌==◌, ◌∷◌, [], ℕ, Some, None, Ok, Err, IfOk, IfErr, OnErr, is_err, length, true, false};
-ghost use Rattle.cd_legal.specs.declared.entry.Entry.TheVariants.{Made, Started};
+ghost use Rattle.std.specs.Prelude.{◌≡◌, ◌<◌, ◌∷◌, [], List, None, Ok, Err, IfOk, IfErr, OnErr, is_err, length, true, false};
+ghost use Rattle.cd_outside.specs.Counts.{Rose};
+ghost use Rattle.cd_legal.specs.declared.entry.Entry.TheVariants as entry;
+ghost use Rattle.cd_legal.specs.declared.entry.Signed.{Signed};
 ghost use Rattle.cd_legal.specs.declared.limits.TheConstants.{MAX_DRAFTS};
+ghost use Rattle.cd_legal.specs.Entry.{signed};
 ghost use Rattle.cd_legal.specs.Legal.{state_at};
 ghost use Rattle.cd_legal.specs.Whole.{nothing_left};
-ghost use Rattle.cd_gate.specs.Growing.{Grows};
 ghost use Rattle.cd_gate.specs.Passes.{view, opening_of};
 ghost use Rattle.cd_gate.specs.Steps.{noted};
-ghost use Rattle.cd_hall.specs.declared.duty.DraftFault.TheVariants as fault;
-ghost use Rattle.cd_hall.specs.Calls.{IsPassOf, StaysCalm, FaultRose, key_in};
-ghost use Rattle.cd_hall.specs.Drafts.{IsDraftOf, new_held, one_made, one_started, failed_in, draft_entry, made_entry, started_entry};
+ghost use Rattle.cd_desk.specs.declared.drafts.DraftFault.TheVariants as fault;
+ghost use Rattle.cd_desk.specs.Instances.{failed_in};
+ghost use Rattle.cd_desk.specs.Lefts.{step_at};
+ghost use Rattle.cd_life.specs.Standing.{Stood};
+ghost use Rattle.cd_hall.specs.Calls.{IsPassOf, StaysCalm};
+ghost use Rattle.cd_hall.specs.Drafts.{IsDraftOf, FaultRose, held, new_held, one_made, one_started, key_in, made_entry, started_entry};
+ghost use Rattle.cd_hall.specs.Turned.{Turned, Makes};
 ghost use Rattle.cd_hall.specs.Turns.{InTurn};
 
-use crate::draft_board::DraftBoard;
-use crate::duty::{DraftFault, KeyFailed};
+use crate::faults::KeyFailed;
 use crate::hall::Hall;
 use crate::names::{NamesDraft, NamesMade, NamesStarted};
 use crate::turns::{add, leave_turn, take_turn};
 use cd_gate::{Pass, Turn};
-use cd_outside::Key;
+use cd_life::{Board, Draft, DraftFault, Step};
+use cd_module_set::{Loaded, ModuleSet};
+use cd_outside::{Fixtures, Key};
 use std::alloc::Global;
 use std::snapshot::Snapshot;
 use std::sync::Wait;
 
-impl<B: DraftBoard> Hall<B> {
+impl<M: ModuleSet, F: Fixtures> Hall<M, F> {
     /// Makes a draft of a configuration. The pass has none so far.
     ///
     /// # Errors
@@ -33,16 +40,16 @@ impl<B: DraftBoard> Hall<B> {
         &self,
         rt: &R,
         alloc: Global,
-        pass: &mut Pass<B>,
-        loaded: B::Loaded,
-    ) -> Result<B::Draft, DraftFault>
-        requires pass { IsPassOf B.seats self.now.gate pass.old }
+        pass: &mut Pass<Board<M, F>>,
+        loaded: Loaded<M>,
+    ) -> Result<Draft<M>, DraftFault>
+        requires pass { IsPassOf self.now pass.old }
         requires free { (view pass.old).draft ≡ None }
-        ensures pass { IsPassOf B.seats self.now.gate pass.new }
-        ensures grows { IfOk result (λ draft. Grows (view pass.old) (view pass.new) (draft_entry (B.held draft) ∷ [])) }
-        ensures new { IfOk result (λ draft. B.held draft ≡ new_held (B.held draft).number (B.tree loaded) (B.plan loaded)) }
-        ensures draft { IfOk result (λ draft. IsDraftOf (view pass.new) (B.held draft)) }
-        ensures err { OnErr result (Grows (view pass.old) (view pass.new) []) }
+        ensures pass { IsPassOf self.now pass.new }
+        ensures made { IfOk result (λ draft. Makes (view pass.old) (view pass.new) (λ s. entry.Draft draft.left.number loaded.tree loaded.plan ∷ [])) }
+        ensures draft { IfOk result (λ draft. IsDraftOf (view pass.new) draft) }
+        ensures new { IfOk result (λ draft. held draft ≡ new_held draft.left.number loaded.tree loaded.plan) }
+        ensures err { OnErr result (Makes (view pass.old) (view pass.new) (λ s. [])) }
         ensures spent { result ≡ Err fault.Spent → length (state_at (view pass.new).seen).drafts ≡ MAX_DRAFTS }
         ensures duties { (view pass.new).duties ≡ (view pass.old).duties }
     {
@@ -54,20 +61,21 @@ impl<B: DraftBoard> Hall<B> {
 
     fn draft_in_turn(
         &self,
-        turn: &mut Turn<B>,
-        pass: &mut Pass<B>,
+        turn: &mut Turn<Board<M, F>>,
+        pass: &mut Pass<Board<M, F>>,
         alloc: Global,
-        loaded: B::Loaded,
-    ) -> Result<B::Draft, DraftFault>
-        requires turn { InTurn B.stands self.now.gate turn.old pass.old }
+        loaded: Loaded<M>,
+    ) -> Result<Draft<M>, DraftFault>
+        requires turn { InTurn (Stood F.calls F.faults M.plan M.change) self.now.gate turn.old pass.old }
         requires free { (view pass.old).draft ≡ None }
         requires left { nothing_left (state_at (view pass.old).seen) ≡ true }
-        ensures turn { InTurn B.stands self.now.gate turn.new pass.new }
-        ensures seen { IfOk result (λ draft. view pass.new ≡ noted (view pass.old) (draft_entry (B.held draft))) }
-        ensures new { IfOk result (λ draft. B.held draft ≡ new_held (B.held draft).number (B.tree loaded) (B.plan loaded)) }
-        ensures draft { IfOk result (λ draft. IsDraftOf (view pass.new) (B.held draft)) }
+        ensures turn { InTurn (Stood F.calls F.faults M.plan M.change) self.now.gate turn.new pass.new }
+        ensures seen { IfOk result (λ draft. view pass.new ≡ noted (view pass.old) (entry.Draft draft.left.number loaded.tree loaded.plan)) }
+        ensures draft { IfOk result (λ draft. IsDraftOf (view pass.new) draft) }
+        ensures new { IfOk result (λ draft. held draft ≡ new_held draft.left.number loaded.tree loaded.plan) }
         ensures err { OnErr result (view pass.new ≡ view pass.old) }
         ensures spent { result ≡ Err fault.Spent → length (state_at (view pass.new).seen).drafts ≡ MAX_DRAFTS }
+        ensures number { (view pass.new).number ≡ (view pass.old).number }
         ensures calm { StaysCalm (view pass.old) (view pass.new) }
     {
         let draft = match turn.value.draft(alloc, loaded) {
@@ -75,7 +83,7 @@ impl<B: DraftBoard> Hall<B> {
             Err(fault) => return Err(fault),
         };
         let said = Snapshot::of(&draft);
-        add::<B, Snapshot<B::Draft>, NamesDraft<B>>(&self.gate, turn, pass, &said);
+        add::<Board<M, F>, Snapshot<Draft<M>>, NamesDraft<M>>(&self.gate, turn, pass, &said);
         Ok(draft)
     }
 
@@ -88,19 +96,19 @@ impl<B: DraftBoard> Hall<B> {
     pub fn provision<R: Wait>(
         &self,
         rt: &R,
-        draft: &mut B::Draft,
-        pass: &mut Pass<B>,
-    ) -> Result<bool, KeyFailed>
-        requires pass { IsPassOf B.seats self.now.gate pass.old }
-        requires draft { IsDraftOf (view pass.old) (B.held draft.old) }
-        requires more { (B.held draft.old).made < length (B.held draft.old).plan.modules }
-        requires unfailed { (B.held draft.old).failed ≡ false }
-        ensures pass { IsPassOf B.seats self.now.gate pass.new }
-        ensures grows { Grows (view pass.old) (view pass.new) (made_entry (B.held draft.old) (key_in result) ∷ []) }
-        ensures made { B.held draft.new ≡ one_made (B.held draft.old) (is_err result) }
-        ensures last { IfOk result (λ last. last ≡ ((B.held draft.new).made == length (B.held draft.new).plan.modules)) }
-        ensures draft { IsDraftOf (view pass.new) (B.held draft.new) }
-        ensures cause { IfErr result (λ _. FaultRose B.stands B.faults (opening_of self.now.gate) (view pass.new).seen) }
+        draft: &mut Draft<M>,
+        pass: &mut Pass<Board<M, F>>,
+    ) -> Result<Step, KeyFailed>
+        requires pass { IsPassOf self.now pass.old }
+        requires draft { IsDraftOf (view pass.old) draft.old }
+        requires more { (held draft.old).made < length (held draft.old).plan.modules }
+        requires unfailed { (held draft.old).failed ≡ false }
+        ensures pass { IsPassOf self.now pass.new }
+        ensures made { (found : List Signed) × Turned (view pass.old) (view pass.new) found (made_entry (held draft.old) (key_in result) ∷ []) }
+        ensures cause { IfErr result (λ _. FaultRose (Stood F.calls F.faults M.plan M.change) (λ board. F.faults board.desk.fixtures) (opening_of self.now.gate) (view pass.new).seen (signed (view pass.old).number (made_entry (held draft.old) (key_in result)))) }
+        ensures held { held draft.new ≡ one_made (held draft.old) (is_err result) }
+        ensures draft { IsDraftOf (view pass.new) draft.new }
+        ensures step { IfOk result (λ step. step ≡ step_at (held draft.new).made (length (held draft.new).plan.modules)) }
         ensures duties { (view pass.new).duties ≡ (view pass.old).duties }
     {
         let mut turn = take_turn(rt, &self.gate, pass);
@@ -111,27 +119,27 @@ impl<B: DraftBoard> Hall<B> {
 
     fn make_in_turn(
         &self,
-        turn: &mut Turn<B>,
-        pass: &mut Pass<B>,
-        draft: &mut B::Draft,
-    ) -> Result<bool, Key>
-        requires turn { InTurn B.stands self.now.gate turn.old pass.old }
-        requires draft { IsDraftOf (view pass.old) (B.held draft.old) }
-        requires more { (B.held draft.old).made < length (B.held draft.old).plan.modules }
-        requires unfailed { (B.held draft.old).failed ≡ false }
+        turn: &mut Turn<Board<M, F>>,
+        pass: &mut Pass<Board<M, F>>,
+        draft: &mut Draft<M>,
+    ) -> Result<Step, Key>
+        requires turn { InTurn (Stood F.calls F.faults M.plan M.change) self.now.gate turn.old pass.old }
+        requires draft { IsDraftOf (view pass.old) draft.old }
+        requires more { (held draft.old).made < length (held draft.old).plan.modules }
+        requires unfailed { (held draft.old).failed ≡ false }
         requires left { nothing_left (state_at (view pass.old).seen) ≡ true }
-        ensures turn { InTurn B.stands self.now.gate turn.new pass.new }
-        ensures seen { view pass.new ≡ noted (view pass.old) (made_entry (B.held draft.old) (failed_in result)) }
-        ensures made { B.held draft.new ≡ one_made (B.held draft.old) (is_err result) }
-        ensures last { IfOk result (λ last. last ≡ ((B.held draft.new).made == length (B.held draft.new).plan.modules)) }
-        ensures draft { IsDraftOf (view pass.new) (B.held draft.new) }
-        ensures cause { IfErr result (λ _. FaultRose B.stands B.faults (opening_of self.now.gate) (view pass.new).seen) }
+        ensures turn { InTurn (Stood F.calls F.faults M.plan M.change) self.now.gate turn.new pass.new }
+        ensures seen { view pass.new ≡ noted (view pass.old) (made_entry (held draft.old) (failed_in result)) }
+        ensures held { held draft.new ≡ one_made (held draft.old) (is_err result) }
+        ensures draft { IsDraftOf (view pass.new) draft.new }
+        ensures step { IfOk result (λ step. step ≡ step_at (held draft.new).made (length (held draft.new).plan.modules)) }
+        ensures cause { IfErr result (λ _. Rose (F.faults turn.old.value.desk.fixtures) (F.faults turn.new.value.desk.fixtures)) }
         ensures calm { StaysCalm (view pass.old) (view pass.new) }
     {
         let was = Snapshot::of(&*draft);
         let made = turn.value.make(draft);
         let said = Snapshot::of(&made);
-        add::<B, (Snapshot<B::Draft>, Snapshot<Result<bool, Key>>), NamesMade<B>>(
+        add::<Board<M, F>, (Snapshot<Draft<M>>, Snapshot<Result<Step, Key>>), NamesMade<M>>(
             &self.gate,
             turn,
             pass,
@@ -148,20 +156,20 @@ impl<B: DraftBoard> Hall<B> {
     pub fn start<R: Wait>(
         &self,
         rt: &R,
-        draft: &mut B::Draft,
-        pass: &mut Pass<B>,
-    ) -> Result<bool, KeyFailed>
-        requires pass { IsPassOf B.seats self.now.gate pass.old }
-        requires draft { IsDraftOf (view pass.old) (B.held draft.old) }
-        requires ready { (B.held draft.old).made ≡ length (B.held draft.old).plan.modules }
-        requires more { (B.held draft.old).started < length (B.held draft.old).plan.apps }
-        requires unfailed { (B.held draft.old).failed ≡ false }
-        ensures pass { IsPassOf B.seats self.now.gate pass.new }
-        ensures grows { Grows (view pass.old) (view pass.new) (started_entry (B.held draft.old) (key_in result) ∷ []) }
-        ensures started { B.held draft.new ≡ one_started (B.held draft.old) (is_err result) }
-        ensures last { IfOk result (λ last. last ≡ ((B.held draft.new).started == length (B.held draft.new).plan.apps)) }
-        ensures draft { IsDraftOf (view pass.new) (B.held draft.new) }
-        ensures cause { IfErr result (λ _. FaultRose B.stands B.faults (opening_of self.now.gate) (view pass.new).seen) }
+        draft: &mut Draft<M>,
+        pass: &mut Pass<Board<M, F>>,
+    ) -> Result<Step, KeyFailed>
+        requires pass { IsPassOf self.now pass.old }
+        requires draft { IsDraftOf (view pass.old) draft.old }
+        requires ready { (held draft.old).made ≡ length (held draft.old).plan.modules }
+        requires more { (held draft.old).started < length (held draft.old).plan.apps }
+        requires unfailed { (held draft.old).failed ≡ false }
+        ensures pass { IsPassOf self.now pass.new }
+        ensures started { (found : List Signed) × Turned (view pass.old) (view pass.new) found (started_entry (held draft.old) (key_in result) ∷ []) }
+        ensures cause { IfErr result (λ _. FaultRose (Stood F.calls F.faults M.plan M.change) (λ board. F.faults board.desk.fixtures) (opening_of self.now.gate) (view pass.new).seen (signed (view pass.old).number (started_entry (held draft.old) (key_in result)))) }
+        ensures held { held draft.new ≡ one_started (held draft.old) (is_err result) }
+        ensures draft { IsDraftOf (view pass.new) draft.new }
+        ensures step { IfOk result (λ step. step ≡ step_at (held draft.new).started (length (held draft.new).plan.apps)) }
         ensures duties { (view pass.new).duties ≡ (view pass.old).duties }
     {
         let mut turn = take_turn(rt, &self.gate, pass);
@@ -172,28 +180,28 @@ impl<B: DraftBoard> Hall<B> {
 
     fn start_in_turn(
         &self,
-        turn: &mut Turn<B>,
-        pass: &mut Pass<B>,
-        draft: &mut B::Draft,
-    ) -> Result<bool, Key>
-        requires turn { InTurn B.stands self.now.gate turn.old pass.old }
-        requires draft { IsDraftOf (view pass.old) (B.held draft.old) }
-        requires ready { (B.held draft.old).made ≡ length (B.held draft.old).plan.modules }
-        requires more { (B.held draft.old).started < length (B.held draft.old).plan.apps }
-        requires unfailed { (B.held draft.old).failed ≡ false }
+        turn: &mut Turn<Board<M, F>>,
+        pass: &mut Pass<Board<M, F>>,
+        draft: &mut Draft<M>,
+    ) -> Result<Step, Key>
+        requires turn { InTurn (Stood F.calls F.faults M.plan M.change) self.now.gate turn.old pass.old }
+        requires draft { IsDraftOf (view pass.old) draft.old }
+        requires ready { (held draft.old).made ≡ length (held draft.old).plan.modules }
+        requires more { (held draft.old).started < length (held draft.old).plan.apps }
+        requires unfailed { (held draft.old).failed ≡ false }
         requires left { nothing_left (state_at (view pass.old).seen) ≡ true }
-        ensures turn { InTurn B.stands self.now.gate turn.new pass.new }
-        ensures seen { view pass.new ≡ noted (view pass.old) (started_entry (B.held draft.old) (failed_in result)) }
-        ensures started { B.held draft.new ≡ one_started (B.held draft.old) (is_err result) }
-        ensures last { IfOk result (λ last. last ≡ ((B.held draft.new).started == length (B.held draft.new).plan.apps)) }
-        ensures draft { IsDraftOf (view pass.new) (B.held draft.new) }
-        ensures cause { IfErr result (λ _. FaultRose B.stands B.faults (opening_of self.now.gate) (view pass.new).seen) }
+        ensures turn { InTurn (Stood F.calls F.faults M.plan M.change) self.now.gate turn.new pass.new }
+        ensures seen { view pass.new ≡ noted (view pass.old) (started_entry (held draft.old) (failed_in result)) }
+        ensures held { held draft.new ≡ one_started (held draft.old) (is_err result) }
+        ensures draft { IsDraftOf (view pass.new) draft.new }
+        ensures step { IfOk result (λ step. step ≡ step_at (held draft.new).started (length (held draft.new).plan.apps)) }
+        ensures cause { IfErr result (λ _. Rose (F.faults turn.old.value.desk.fixtures) (F.faults turn.new.value.desk.fixtures)) }
         ensures calm { StaysCalm (view pass.old) (view pass.new) }
     {
         let was = Snapshot::of(&*draft);
         let started = turn.value.start(draft);
         let said = Snapshot::of(&started);
-        add::<B, (Snapshot<B::Draft>, Snapshot<Result<bool, Key>>), NamesStarted<B>>(
+        add::<Board<M, F>, (Snapshot<Draft<M>>, Snapshot<Result<Step, Key>>), NamesStarted<M>>(
             &self.gate,
             turn,
             pass,
@@ -204,13 +212,14 @@ impl<B: DraftBoard> Hall<B> {
 }
 
 // The key that could not be opened, by its name.
-fn failing(opened: Result<bool, Key>) -> Result<bool, KeyFailed>
+fn failing(opened: Result<Step, Key>) -> Result<Step, KeyFailed>
     ensures key { key_in result ≡ failed_in opened }
     ensures err { is_err result ≡ is_err opened }
-    ensures ok { IfOk result (λ last. opened ≡ Ok last) }
+    ensures ok { IfOk result (λ step. opened ≡ Ok step) }
+    ensures fault { IfErr result (λ failed. opened ≡ Err failed.key) }
 {
     match opened {
-        Ok(last) => Ok(last),
+        Ok(step) => Ok(step),
         Err(key) => Err(KeyFailed { key }),
     }
 }

@@ -1,6 +1,7 @@
 // Which entry is added, by what the call hands in.
-use crate::draft_board::DraftBoard;
 use cd_gate::Names;
+use cd_life::{Draft, Step};
+use cd_module_set::ModuleSet;
 use cd_outside::Key;
 use std::marker::PhantomData;
 use std::snapshot::Snapshot;
@@ -21,32 +22,34 @@ impl Names<u32> for NamesFinish {
     ghost entry = { λ caller. Finish caller };
 }
 
-pub(crate) struct NamesDraft<B> {
-    of: PhantomData<B>,
+pub(crate) struct NamesDraft<M> {
+    set: PhantomData<M>,
 }
 
-impl<B: DraftBoard> Names<Snapshot<B::Draft>> for NamesDraft<B> {
-    ghost use Rattle.cd_hall.specs.Drafts.{draft_entry};
+impl<M: ModuleSet> Names<Snapshot<Draft<M>>> for NamesDraft<M> {
+    ghost use Rattle.cd_hall.specs.Drafts.{held, draft_entry};
 
-    ghost entry = { λ x. draft_entry (B.held x.value) };
+    ghost entry = { λ x. draft_entry (held x.value) };
 }
 
-pub(crate) struct NamesMade<B> {
-    of: PhantomData<B>,
+pub(crate) struct NamesMade<M> {
+    set: PhantomData<M>,
 }
 
-impl<B: DraftBoard> Names<(Snapshot<B::Draft>, Snapshot<Result<bool, Key>>)> for NamesMade<B> {
-    ghost use Rattle.cd_hall.specs.Drafts.{made_entry, failed_in};
+impl<M: ModuleSet> Names<(Snapshot<Draft<M>>, Snapshot<Result<Step, Key>>)> for NamesMade<M> {
+    ghost use Rattle.cd_desk.specs.Instances.{failed_in};
+    ghost use Rattle.cd_hall.specs.Drafts.{held, made_entry};
 
-    ghost entry = { λ x. made_entry (B.held x.0.value) (failed_in x.1.value) };
+    ghost entry = { λ x. made_entry (held x.0.value) (failed_in x.1.value) };
 }
 
-pub(crate) struct NamesStarted<B> {
-    of: PhantomData<B>,
+pub(crate) struct NamesStarted<M> {
+    set: PhantomData<M>,
 }
 
-impl<B: DraftBoard> Names<(Snapshot<B::Draft>, Snapshot<Result<bool, Key>>)> for NamesStarted<B> {
-    ghost use Rattle.cd_hall.specs.Drafts.{started_entry, failed_in};
+impl<M: ModuleSet> Names<(Snapshot<Draft<M>>, Snapshot<Result<Step, Key>>)> for NamesStarted<M> {
+    ghost use Rattle.cd_desk.specs.Instances.{failed_in};
+    ghost use Rattle.cd_hall.specs.Drafts.{held, started_entry};
 
-    ghost entry = { λ x. started_entry (B.held x.0.value) (failed_in x.1.value) };
+    ghost entry = { λ x. started_entry (held x.0.value) (failed_in x.1.value) };
 }

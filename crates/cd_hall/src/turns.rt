@@ -1,15 +1,16 @@
 // A turn: it is taken, entries are added in it, and it is left. Whatever is guarded, it stands for what the pass has seen.
 ghost use Rattle.std.specs.Prelude.{◌≡◌, ◌≤◌, ◌++◌, ◌∷◌, [], ℕ, List, Some, slice_get, true, false};
 ghost use Rattle.cd_legal.specs.declared.entry.Entry.{Entry};
+ghost use Rattle.cd_legal.specs.declared.entry.Signed.{Signed};
 ghost use Rattle.cd_legal.specs.declared.limits.TheConstants.{LAST_SERIAL};
 ghost use Rattle.cd_legal.specs.Entry.{signed};
 ghost use Rattle.cd_legal.specs.Legal.{state_at};
 ghost use Rattle.cd_legal.specs.Whole.{nothing_left};
 ghost use Rattle.cd_gate.specs.declared.view.View.{View};
-ghost use Rattle.cd_gate.specs.Growing.{Grows, Since};
 ghost use Rattle.cd_gate.specs.Knowing.{Knows};
 ghost use Rattle.cd_gate.specs.Passes.{view, IsIdleOf, HasTurnOf, opening_of};
 ghost use Rattle.cd_gate.specs.Steps.{may_note, with_turn, without_turn, noted};
+ghost use Rattle.cd_hall.specs.Turned.{Turned, SinceFound};
 ghost use Rattle.cd_hall.specs.Turns.{InTurn};
 
 use cd_gate::{Gate, Names, Pass, Turn};
@@ -20,7 +21,7 @@ use std::sync::Wait;
 pub(crate) fn take_turn<T: Stands, R: Wait>(rt: &R, gate: &Gate<T>, pass: &mut Pass<T>) -> Turn<T>
     requires { IsIdleOf gate.now pass.old }
     ensures turn { InTurn T.stands gate.now result pass.new }
-    ensures since { Since (view pass.old) [] (view pass.new) }
+    ensures since { SinceFound (view pass.old) (view pass.new).seen [] (view pass.new) }
     ensures same { view pass.new ≡ with_turn (view pass.old) (view pass.new).seen }
     ensures left { nothing_left (state_at (view pass.new).seen) ≡ true }
     ensures room { (state_at (view pass.new).seen).halted ≡ false → (state_at (view pass.new).seen).serial ≤ LAST_SERIAL }
@@ -54,7 +55,7 @@ pub(crate) fn leave_turn<T: Stands>(gate: &Gate<T>, turn: Turn<T>, pass: &mut Pa
     requires left { nothing_left (state_at (view pass.old).seen) ≡ true }
     ensures pass { IsIdleOf gate.now pass.new }
     ensures seen { view pass.new ≡ without_turn (view pass.old) }
-    ensures grows { (v : View T) (entries : List Entry) → Since v entries (view pass.old) → v.turn ≡ false → Grows v (view pass.new) entries }
+    ensures turned { (v : View T) (found : List Signed) (made : List Entry) → SinceFound v found made (view pass.old) → v.turn ≡ false → Turned v (view pass.new) found made }
 {
     gate.leave(turn, pass);
 }

@@ -1,5 +1,7 @@
 -- What a board has of what a history leaves for which it stands.
-use Rattle.std.proofs.Common.{◌≡◌, ◌≢◌, ℕ, zero, suc, ◌+◌, ◌<◌, ◌≤◌, ◌==◌, ◌&&◌, cond, Bool, true, false, not, ◌||◌, List, [], ◌∷◌, length, refl, sym, ap, ◌∙◌, arith, subst, slice_get, Option, Some, None, Result, eq-eqb, ne_eqb, nat_lt, IfSome}
+use Rattle.std.proofs.Common.{◌≡◌, ◌≢◌, ℕ, zero, suc, ◌+◌, ◌<◌, ◌≤◌, ◌==◌, ◌&&◌, ◌-◌, cond, Bool, true, false, not, ◌||◌, List, [], ◌∷◌, length, refl, sym, ap, ◌∙◌, arith, subst, slice_get, Option, Some, None, Result, eq-eqb, ne_eqb, nat_lt, IfSome, ⊎_elim}
+use Rattle.std.specs.List.{list_all}
+use Rattle.std.proofs.lemmas.Bool.Decides.{eqb_tells}
 use Rattle.std.proofs.lemmas.Option.{slice_get_within}
 use Rattle.cd_outside.specs.declared.fixtures.FixtureCall.{FixtureCall}
 use Rattle.cd_tree.specs.declared.tree.Tree.{Tree}
@@ -11,20 +13,27 @@ use Rattle.cd_legal.specs.declared.entry.Change.{Change}
 use Rattle.cd_legal.specs.declared.entry.Entry.TheVariants.{Publish}
 use Rattle.cd_legal.specs.declared.state.State.{State}
 use Rattle.cd_legal.specs.declared.state.Drafted.{Drafted}
+use Rattle.cd_legal.specs.declared.state.Life.{Life}
+use Rattle.cd_legal.specs.declared.state.Life.TheVariants.{Live, Published, Abandoned}
 use Rattle.cd_legal.specs.Entry.{entries}
-use Rattle.cd_legal.specs.State.{has_number, Conf, conf_of, conf_at, conf_in, holds_if_there}
-use Rattle.cd_legal.specs.Legal.{state_at}
+use Rattle.cd_legal.specs.State.{opening_state, has_number, is_live, may_clean_instances, all_stopped, all_cleaned, ticket_of, draft_of, Conf, conf_of, conf_at, conf_in, holds_if_there}
+use Rattle.cd_legal.specs.Legal.{state_at, IsLegal}
+use Rattle.cd_legal.specs.Whole.{IsOver, is_closed, nothing_left_of, all_retired}
 use Rattle.cd_legal.proofs.Facts.{is-less}
+use Rattle.cd_legal.proofs.Histories.{both, first, second}
+use Rattle.cd_legal.proofs.Sound.{is_below, is_sound, is_unended_if_live, bound_of, are_sound, sound_from}
 use Rattle.cd_legal.proofs.Serials.{published-count, retired-below}
 use Rattle.cd_legal.proofs.Confs.{IsSteady, legal-steady}
 use Rattle.cd_legal.proofs.Leaving.{at_each}
 use Rattle.cd_desk.specs.declared.left.Left.{Left}
 use Rattle.cd_desk.specs.Lefts.{IsLeft}
+use Rattle.cd_desk.specs.Emptying.{IsEnded}
 use Rattle.cd_desk.proofs.Laws.{LeftDraft, left_is}
+use Rattle.cd_desk.proofs.Shuttings.{last_at}
 use Rattle.cd_life.specs.declared.board.Board.{Board}
 use Rattle.cd_life.specs.Changes.{tree_at, conf_there, conf_kept, conf_here}
 use Rattle.cd_life.specs.Fits.{Fits, Suits}
-use Rattle.cd_life.specs.Standing.{Stood, is_kept}
+use Rattle.cd_life.specs.Standing.{Stood, is_kept, last_published}
 
 -- ---- the configurations of a state, by what is kept
 
@@ -84,7 +93,7 @@ here_is b n t flag some has =
 pub here_halted : {A F B : Type 0} {g : _} (b : Board A F B g) (n : ℕ) → (b.desk.halted && (n == b.desk.serial)) ≡ true → Conf.Halted ≡ conf_here b n
 here_halted b n flag = sym (ap (λ (z : Bool). conf_there z (tree_at b.kept.items n) n) flag)
 
-module _ {A F B : Type 0} {g : _} (calls : F → Option (List FixtureCall)) (plan : Tree → Result Plan LoadFault) (makes : Tree → Request → Option Tree) (opening b : Board A F B g) (log : List Signed) (h : Stood calls plan makes opening b log) where
+module _ {A F B : Type 0} {g : _} (calls : F → Option (List FixtureCall)) (faults : F → ℕ) (plan : Tree → Result Plan LoadFault) (makes : Tree → Request → Option Tree) (opening b : Board A F B g) (log : List Signed) (h : Stood calls faults plan makes opening b log) where
   same_flag : (n : ℕ) → (b.desk.halted && (n == b.desk.serial)) ≡ ((state_at log).halted && (n == (state_at log).serial))
   same_flag n = ap (λ (z : Bool). z && (n == b.desk.serial)) (sym h.desk.agrees.halted) ∙ ap (λ (z : ℕ). (state_at log).halted && (n == z)) (sym h.desk.agrees.serial)
 
@@ -110,6 +119,38 @@ module _ {A F B : Type 0} {g : _} (calls : F → Option (List FixtureCall)) (pla
       at false e = e
       at true e = absurd (let low = retired-below (entries log) (state_at log).serial h.desk.is_legal e in omega (arith, low))
 
+  -- what is kept of the configuration that was published last
+  pub last_is : (n : ℕ) → n ≡ b.desk.serial - cond {A = ℕ} b.desk.halted 1 0 → conf_there false (tree_at b.kept.items n) n ≡ last_published (state_at log)
+  last_is n is =
+      let s : State = state_at log in
+      let halted : n ≡ s.serial - cond {A = ℕ} s.halted 1 0 = is ∙ (ap (λ (z : ℕ). z - cond {A = ℕ} b.desk.halted 1 0) (sym h.desk.agrees.serial) ∙ ap (λ (z : Bool). s.serial - cond {A = ℕ} z 1 0) (sym h.desk.agrees.halted)) in
+      at n (before_halt s.halted (length s.published) s.serial n (published-count (entries log) h.desk.is_legal) halted) ∙ ap (conf_at false s.drafts) (sym (last_at s.published))
+    where
+      before_halt : (c : Bool) (l serial n : ℕ) → l + cond {A = ℕ} c 1 0 ≡ serial → n ≡ serial - cond {A = ℕ} c 1 0 → n ≡ l
+      before_halt true l serial n e is = omega (arith, e, is)
+      before_halt false l serial n e is = omega (arith, e, is)
+
+      with_draft : (m : ℕ) → suc m ≡ length (state_at log).published → (d : ℕ) → slice_get (state_at log).published m ≡ Some d → conf_there false (tree_at b.kept.items (suc m)) (suc m) ≡ conf_at false (state_at log).drafts (slice_get (state_at log).published m)
+      with_draft m its d there =
+          let s : State = state_at log in
+          let all = (legal-steady (entries log) h.desk.is_legal).there in
+          let below = is-less d (length s.drafts) (ap (holds_if_there (λ j. nat_lt j (length s.drafts))) (sym there) ∙ at_each (λ j. nat_lt j (length s.drafts)) s.published m all) in
+          let x = get_there s.drafts d below in
+          let conf : conf_of s (suc m) ≡ Conf.Of x.0.tree = ap (conf_at (s.halted && (suc m == s.serial)) s.drafts) there ∙ ap conf_in x.1 in
+          let kept = h.shelf.kept (suc m) x.0.tree conf (or_true (not (has_number (suc m) s.retired)) (eq-eqb (suc m) (length s.published) its)) in
+          ap (λ (z : Bool). cond z Conf.Opening (conf_kept (tree_at b.kept.items (suc m)))) (ne_eqb (suc m) 0 (λ (q : suc m ≡ 0). cc))
+          ∙ (ap conf_kept kept ∙ sym (ap (conf_at false s.drafts) there ∙ ap conf_in x.1))
+        where
+          or_true : (c : Bool) {d : Bool} → d ≡ true → (c || d) ≡ true
+          or_true true e = refl
+          or_true false e = e
+
+      at : (n : ℕ) → n ≡ length (state_at log).published → conf_there false (tree_at b.kept.items n) n ≡ conf_at false (state_at log).drafts (draft_of (length (state_at log).published) (state_at log).published)
+      at zero its = ap (λ (z : ℕ). conf_at false (state_at log).drafts (draft_of z (state_at log).published)) its
+      at (suc m) its =
+          let d = get_there (state_at log).published m (omega (arith, its)) in
+          with_draft m its d.0 d.1 ∙ ap (λ (z : ℕ). conf_at false (state_at log).drafts (draft_of z (state_at log).published)) its
+
   -- a publishing that suits what the board has fits the history
   pub publish_fits : (t : Tree) (l : Left) (from n : ℕ) (way : Change) → IsLeft b.desk.books t l → from ≡ b.desk.serial → Suits makes (conf_here b from) way t → Fits plan makes (state_at log) (Publish l.number n from way)
   publish_fits t l from n way i current suits =
@@ -118,3 +159,39 @@ module _ {A F B : Type 0} {g : _} (calls : F → Option (List FixtureCall)) (pla
       let conf : conf_here b from ≡ conf_of (state_at log) from = conf_is from (omega (arith, serial)) (ap (λ (z : ℕ). has_number z (state_at log).retired) serial ∙ current_unretired) in
       subst (λ (o : Option Drafted). IfSome o (λ y. Suits makes (conf_of (state_at log) from) way y.tree)) (sym x.there)
       (subst (λ (z : Conf). Suits makes z way x.draft.tree) conf (subst (λ (z : Tree). Suits makes (conf_here b from) way z) (sym x.tree) suits))
+
+-- ---- what is over
+
+lower : (n m : ℕ) → n < suc m → n ≢ m → n < m
+lower n m low ne = grind arith
+
+retired_under : (retired : List ℕ) (n m : ℕ) → all_retired m retired ≡ true → n < m → has_number n retired ≡ true
+retired_under retired n zero all low = absurd (omega arith)
+retired_under retired n (suc m) all low = ⊎_elim
+    (λ q. ap (λ (z : ℕ). has_number z retired) q.1 ∙ first (has_number m retired) _ all)
+    (λ q. retired_under retired n m (second (has_number m retired) _ all) (lower n m low q.1)) (eqb_tells n m)
+
+done_over : (b q : Bool) → b ≡ true → (not b || q) ≡ true → (b && q) ≡ true
+done_over true q is e = e
+done_over false q is e = cc
+
+life_over : (serial : ℕ) (retired : List ℕ) → all_retired serial retired ≡ true → (l : Life) (q : Bool) → not (is_live l) ≡ true → is_below serial l ≡ true → (not (may_clean_instances retired l) || q) ≡ true → (may_clean_instances retired l && q) ≡ true
+life_over serial retired all Live q gone low e = cc
+life_over serial retired all (Published n) q gone low e = done_over (has_number n retired) q (retired_under retired n serial all (is-less n serial low)) e
+life_over serial retired all Abandoned q gone low e = e
+
+all_over : (serial : ℕ) (retired : List ℕ) → all_retired serial retired ≡ true → (xs : List Drafted) → list_all (λ x. not (is_live x.life)) xs ≡ true → list_all (is_sound serial) xs ≡ true → list_all (nothing_left_of retired) xs ≡ true → list_all (is_closed retired) xs ≡ true
+all_over serial retired all [] gone fine done = refl
+all_over serial retired all (x ∷ xs) gone fine done =
+    both (is_closed retired x) _
+    (life_over serial retired all x.life (all_stopped x && all_cleaned x) (first (not (is_live x.life)) _ gone) (second (is_unended_if_live x) _ (first (is_sound serial x) _ fine)) (first (nothing_left_of retired x) _ done))
+    (all_over serial retired all xs (second (not (is_live x.life)) _ gone) (second (is_sound serial x) _ fine) (second (nothing_left_of retired x) _ done))
+
+-- after a history that is over each draft is closed
+pub over_ended : (log : List Signed) → IsLegal log → IsOver (state_at log) → ((caller : ℕ) → ticket_of caller (state_at log).tickets ≡ None) → IsEnded (state_at log)
+over_ended log legal over free =
+    let s : State = state_at log in
+    let fine : are_sound s ≡ true = sound_from opening_state (entries log) legal refl in
+    let bound : bound_of s ≡ s.serial = ap (λ (c : Bool). cond c s.serial (s.serial + 1)) over.halted in
+    let below : list_all (is_sound s.serial) s.drafts ≡ true = subst (λ (n : ℕ). list_all (is_sound n) s.drafts ≡ true) bound fine in
+    record { closed = all_over s.serial s.retired over.retired s.drafts over.drafts below over.finished; free = free }

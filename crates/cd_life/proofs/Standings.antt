@@ -1,25 +1,29 @@
 -- What a board stands for after one entry more.
-use Rattle.std.proofs.Common.{◌≡◌, ◌≢◌, ℕ, zero, suc, ◌+◌, ◌-◌, ◌<◌, ◌≤◌, ◌==◌, ◌&&◌, true, false, Bool, not, ◌||◌, List, [], ◌∷◌, ◌++◌, length, refl, sym, ap, ◌∙◌, arith, subst, slice_get, Option, Some, None, Result, Ok, Err, OnErr, cond, eq-eqb, ne_eqb}
+use Rattle.std.proofs.Common.{◌≡◌, ◌≢◌, ℕ, zero, suc, ◌+◌, ◌-◌, ◌<◌, ◌≤◌, ◌==◌, ◌&&◌, true, false, Bool, not, ◌||◌, List, [], ◌∷◌, ◌++◌, length, refl, sym, ap, ◌∙◌, arith, subst, slice_get, Option, Some, None, Result, Ok, Err, OnErr, IfErr, cond, eq-eqb, ne_eqb}
 use Rattle.std.specs.Vec.{vec_len, vec_capacity}
+use Rattle.cd_outside.specs.declared.key.Key.{Key}
 use Rattle.cd_outside.specs.declared.fixtures.FixtureCall.{FixtureCall}
+use Rattle.cd_outside.specs.Counts.{Covers, Rises, Rose, raised}
 use Rattle.cd_tree.specs.declared.tree.Tree.{Tree}
 use Rattle.cd_wire.specs.declared.request.Request.{Request}
 use Rattle.cd_module.specs.declared.fault.LoadFault.{LoadFault}
 use Rattle.cd_legal.specs.declared.plan.Plan.{Plan}
 use Rattle.cd_legal.specs.declared.entry.Change.{Change}
 use Rattle.cd_legal.specs.declared.entry.Entry.{Entry}
-use Rattle.cd_legal.specs.declared.entry.Entry.TheVariants.{Draft, Publish, Abandon, Retire}
+use Rattle.cd_legal.specs.declared.entry.Entry.TheVariants.{Draft, Made, Started, Publish, Abandon, Retire}
 use Rattle.cd_legal.specs.declared.entry.Signed.{Signed}
 use Rattle.cd_legal.specs.declared.state.State.{State}
 use Rattle.cd_legal.specs.declared.state.Drafted.{Drafted}
 use Rattle.cd_legal.specs.declared.state.Life.TheVariants.{Published, Abandoned}
 use Rattle.cd_legal.specs.Entry.{signed, entries}
 use Rattle.cd_legal.specs.State.{opening_state, conf_of, Conf, is_live, new_draft, has_number}
+use Rattle.cd_legal.specs.Calls.{failures}
 use Rattle.cd_legal.specs.Legal.{allowed, after, is_complete, state_from, state_at, IsLegal}
 use Rattle.cd_legal.proofs.Histories.{entries-snoc}
 use Rattle.cd_legal.proofs.Serials.{is_publish, count_running, published-count}
 use Rattle.cd_legal.proofs.Facts.{can, completes, Publishes, Retires}
 use Rattle.cd_legal.proofs.Fresh.{serial_rises}
+use Rattle.cd_desk.specs.Instances.{failed_in}
 use Rattle.cd_desk.specs.Desks.{AddsTo, Holds, Keeps as KeepsDesk}
 use Rattle.cd_life.specs.declared.board.Board.{Board}
 use Rattle.cd_desk.specs.declared.left.Left.{Left}
@@ -54,24 +58,73 @@ at_push_none (x ∷ xs) y n e = pick (x.serial == n) (at_push_none xs y n) e
 same_tree : (o : Option Drafted) (x y : Drafted) (t : Tree) → o ≡ Some x → o ≡ Some y → x.tree ≡ t → y.tree ≡ t
 same_tree o x y t is there tree = ap (λ (z : Drafted). z.tree) (let e : Some y ≡ Some x = sym there ∙ is in let f : y ≡ x = cc in f) ∙ tree
 
-module _ {A F B : Type 0} {g : _} (calls : F → Option (List FixtureCall)) (plan : Tree → Result Plan LoadFault) (makes : Tree → Request → Option Tree) where
+-- ---- keys that could not be opened
+
+failures_more : (log : List Entry) (e : Entry) → failures (log ++ e ∷ []) ≡ failures log + failures (e ∷ [])
+failures_more [] e = omega arith
+failures_more (Made d i n None ∷ log) e = failures_more log e
+failures_more (Made d i n (Some key) ∷ log) e = let rest = failures_more log e in omega (arith, rest)
+failures_more (Started d i n None ∷ log) e = failures_more log e
+failures_more (Started d i n (Some key) ∷ log) e = let rest = failures_more log e in omega (arith, rest)
+failures_more (x ∷ log) e = failures_more log e
+
+one_failure : (e : Entry) → failures (e ∷ []) ≤ 1
+one_failure (Made d i n None) = omega arith
+one_failure (Made d i n (Some key)) = omega arith
+one_failure (Started d i n None) = omega arith
+one_failure (Started d i n (Some key)) = omega arith
+one_failure e = omega arith
+
+covers_more : (m n before was now : ℕ) → n ≤ 1 → Rises was now (0 < n) → Covers m before was 0 → Covers (m + n) before now 0
+covers_more m zero before was now few r covers below none = let later = r.later in let all = covers (omega (arith, later, below)) none in omega (arith, later, all)
+covers_more m (suc zero) before was now few r covers below none =
+    let later = r.later in
+    let all = covers (omega (arith, later, below)) none in
+    let rose : raised was ≤ now = r.rose (omega arith) in
+    omega (arith, later, all, rose, below)
+covers_more m (suc (suc n)) before was now few r covers below none = absurd (omega (arith, few))
+
+pub covers_none : (n : ℕ) → Covers 0 n n 0
+covers_none n below none = omega arith
+
+-- where the faults are as they were
+pub calm : (before now : ℕ) → now ≡ before → Rises before now (0 < 0)
+calm before now same = record { later = omega (arith, same); rose = λ more. absurd (omega (arith, more)) }
+
+-- they rose where a key could not be opened
+pub made_rises : {A : Type 0} (d i taken before now : ℕ) (result : Result A Key) → before ≤ now → IfErr result (λ key. Rose before now) → Rises before now (0 < failures (Made d i taken (failed_in result) ∷ []))
+made_rises d i taken before now (Ok a) later cause = record { later = later; rose = λ more. absurd (omega (arith, more)) }
+made_rises d i taken before now (Err key) later cause = record { later = later; rose = λ more. cause }
+
+pub started_rises : {A : Type 0} (d i taken before now : ℕ) (result : Result A Key) → before ≤ now → IfErr result (λ key. Rose before now) → Rises before now (0 < failures (Started d i taken (failed_in result) ∷ []))
+started_rises d i taken before now (Ok a) later cause = record { later = later; rose = λ more. absurd (omega (arith, more)) }
+started_rises d i taken before now (Err key) later cause = record { later = later; rose = λ more. cause }
+
+module _ {A F B : Type 0} {g : _} (calls : F → Option (List FixtureCall)) (faults : F → ℕ) (plan : Tree → Result Plan LoadFault) (makes : Tree → Request → Option Tree) where
   -- an entry of the desk is one of the board, where it fits, and leaves what is kept
-  pub adds : (v w : Board A F B g) (e : Entry) → AddsTo calls v.desk w.desk e → ((opening : Board A F B g) (log : List Signed) → Stood calls plan makes opening v log → Fits plan makes (state_at log) e)
-      → ((opening : Board A F B g) (log : List Signed) (k : ℕ) → Stood calls plan makes opening v log → IsLegal (log ++ signed k e ∷ []) → Shelves w (after (state_at log) e)) → Adds calls plan makes v w e
-  adds v w e desk fits shelf opening log k h =
+  pub adds : (v w : Board A F B g) (e : Entry) → AddsTo calls v.desk w.desk e → Rises (faults v.desk.fixtures) (faults w.desk.fixtures) (0 < failures (e ∷ [])) → ((opening : Board A F B g) (log : List Signed) → Stood calls faults plan makes opening v log → Fits plan makes (state_at log) e)
+      → ((opening : Board A F B g) (log : List Signed) (k : ℕ) → Stood calls faults plan makes opening v log → IsLegal (log ++ signed k e ∷ []) → Shelves w (after (state_at log) e)) → Adds calls faults plan makes v w e
+  adds v w e desk rises fits shelf opening log k h =
       let x : Signed = signed k e in
       let next : Holds calls opening.desk w.desk (log ++ x ∷ []) = desk opening.desk log k h.desk in
       record {
         desk = next;
         fits = subst (λ z. AllFit plan makes z) (sym (entries-snoc log x)) (fit_more plan makes opening_state (entries log) e h.fits (fits opening log h));
         shelf = subst (λ z. Shelves w z) (sym (state_more log x)) (shelf opening log k h next.is_legal);
+        covered = subst (λ (z : ℕ). Covers z (faults opening.desk.fixtures) (faults w.desk.fixtures) 0) (sym (ap failures (entries-snoc log x) ∙ failures_more (entries log) e))
+            (covers_more (failures (entries log)) (failures (e ∷ [])) (faults opening.desk.fixtures) (faults v.desk.fixtures) (faults w.desk.fixtures) (one_failure e) rises h.covered);
       }
 
-  pub keeps : (v w : Board A F B g) → KeepsDesk calls v.desk w.desk → ((s : State) → Shelves v s → Shelves w s) → Keeps calls plan makes v w
-  keeps v w desk shelf opening log h = record { desk = desk opening.desk log h.desk; fits = h.fits; shelf = shelf (state_at log) h.shelf }
+  pub keeps : (v w : Board A F B g) → KeepsDesk calls v.desk w.desk → faults w.desk.fixtures ≡ faults v.desk.fixtures → ((s : State) → Shelves v s → Shelves w s) → Keeps calls faults plan makes v w
+  keeps v w desk same shelf opening log h = record {
+    desk = desk opening.desk log h.desk;
+    fits = h.fits;
+    shelf = shelf (state_at log) h.shelf;
+    covered = subst (λ (z : ℕ). Covers (failures (entries log)) (faults opening.desk.fixtures) z 0) (sym same) h.covered;
+  }
 
   -- an entry that makes no draft, publishes and abandons none, where the board keeps what it kept
-  pub shelf_plain : (v w : Board A F B g) (e : Entry) → is_plain e ≡ true → is_publish e ≡ false → w.kept ≡ v.kept → w.live ≡ v.live → (opening : Board A F B g) (log : List Signed) (k : ℕ) → Stood calls plan makes opening v log → IsLegal (log ++ signed k e ∷ []) → Shelves w (after (state_at log) e)
+  pub shelf_plain : (v w : Board A F B g) (e : Entry) → is_plain e ≡ true → is_publish e ≡ false → w.kept ≡ v.kept → w.live ≡ v.live → (opening : Board A F B g) (log : List Signed) (k : ℕ) → Stood calls faults plan makes opening v log → IsLegal (log ++ signed k e ∷ []) → Shelves w (after (state_at log) e)
   shelf_plain v w e plain none kept live opening log k h legal =
       let s : State = state_at log in
       let may = allowed_more log (signed k e) legal in
@@ -84,7 +137,7 @@ module _ {A F B : Type 0} {g : _} (calls : F → Option (List FixtureCall)) (pla
       }
 
   -- a new draft, for which there is room
-  pub shelf_draft : (v w : Board A F B g) (d : ℕ) (tree : Tree) (planned : Plan) → w.kept.items ≡ v.kept.items → w.live ≡ v.live + 1 → vec_len w.kept + w.live ≤ vec_capacity w.kept → (opening : Board A F B g) (log : List Signed) (k : ℕ) → Stood calls plan makes opening v log → IsLegal (log ++ signed k (Draft d tree planned) ∷ [])
+  pub shelf_draft : (v w : Board A F B g) (d : ℕ) (tree : Tree) (planned : Plan) → w.kept.items ≡ v.kept.items → w.live ≡ v.live + 1 → vec_len w.kept + w.live ≤ vec_capacity w.kept → (opening : Board A F B g) (log : List Signed) (k : ℕ) → Stood calls faults plan makes opening v log → IsLegal (log ++ signed k (Draft d tree planned) ∷ [])
       → Shelves w (after (state_at log) (Draft d tree planned))
   shelf_draft v w d tree planned kept live room opening log k h legal =
       let s : State = state_at log in
@@ -98,7 +151,7 @@ module _ {A F B : Type 0} {g : _} (calls : F → Option (List FixtureCall)) (pla
       }
 
   -- a draft that is given up
-  pub shelf_abandon : (v w : Board A F B g) (d : ℕ) → w.kept ≡ v.kept → w.live ≡ v.live - 1 → (opening : Board A F B g) (log : List Signed) (k : ℕ) → Stood calls plan makes opening v log → IsLegal (log ++ signed k (Abandon d) ∷ []) → Shelves w (after (state_at log) (Abandon d))
+  pub shelf_abandon : (v w : Board A F B g) (d : ℕ) → w.kept ≡ v.kept → w.live ≡ v.live - 1 → (opening : Board A F B g) (log : List Signed) (k : ℕ) → Stood calls faults plan makes opening v log → IsLegal (log ++ signed k (Abandon d) ∷ []) → Shelves w (after (state_at log) (Abandon d))
   shelf_abandon v w d kept live opening log k h legal =
       let s : State = state_at log in
       let may : allowed s (Abandon d) ≡ true = allowed_more log (signed k (Abandon d)) legal in
@@ -114,7 +167,7 @@ module _ {A F B : Type 0} {g : _} (calls : F → Option (List FixtureCall)) (pla
 
   -- a configuration more
   pub shelf_publish : (v w : Board A F B g) (l : Left) (n : ℕ) (way : Change) (loaded : Tree) (one : Kept A B g) → one.serial ≡ n + 1 → tree_of one ≡ loaded → IsLeft v.desk.books loaded l → (vec_len v.kept < vec_capacity v.kept → w.kept.items ≡ v.kept.items ++ one ∷ []) → vec_len w.kept ≤ vec_len v.kept + 1
-      → vec_capacity w.kept ≡ vec_capacity v.kept → w.live ≡ v.live - 1 → (opening : Board A F B g) (log : List Signed) (k : ℕ) → Stood calls plan makes opening v log → IsLegal (log ++ signed k (Publish l.number (n + 1) n way) ∷ []) → Shelves w (after (state_at log) (Publish l.number (n + 1) n way))
+      → vec_capacity w.kept ≡ vec_capacity v.kept → w.live ≡ v.live - 1 → (opening : Board A F B g) (log : List Signed) (k : ℕ) → Stood calls faults plan makes opening v log → IsLegal (log ++ signed k (Publish l.number (n + 1) n way) ∷ []) → Shelves w (after (state_at log) (Publish l.number (n + 1) n way))
   shelf_publish v w l n way loaded one serial its left pushed len capacity live opening log k h legal =
       let s : State = state_at log in
       let d : ℕ = l.number in
@@ -140,7 +193,7 @@ module _ {A F B : Type 0} {g : _} (calls : F → Option (List FixtureCall)) (pla
 
   -- a serial that is retired, of which nothing is kept any more unless a halt has superseded it
   pub shelf_retire : (v w : Board A F B g) (n : ℕ) → (v.desk.halted && (n + 1 == v.desk.serial)) ≡ false → ((m : ℕ) → m ≢ n → tree_at w.kept.items m ≡ tree_at v.kept.items m) → vec_len w.kept ≤ vec_len v.kept → vec_capacity w.kept ≡ vec_capacity v.kept → w.live ≡ v.live → (opening : Board A F B g) (log : List Signed) (k : ℕ)
-      → Stood calls plan makes opening v log → IsLegal (log ++ signed k (Retire n) ∷ []) → Shelves w (after (state_at log) (Retire n))
+      → Stood calls faults plan makes opening v log → IsLegal (log ++ signed k (Retire n) ∷ []) → Shelves w (after (state_at log) (Retire n))
   shelf_retire v w n flag others len capacity live opening log k h legal =
       let s : State = state_at log in
       let e : Entry = Retire n in

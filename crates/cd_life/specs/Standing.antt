@@ -2,6 +2,7 @@
 use Rattle.std.specs.Prelude.{◌≡◌, ℕ, ◌+◌, ◌<◌, ◌≤◌, ◌==◌, ◌||◌, Bool, true, false, not, cond, List, [], ◌∷◌, ◌++◌, length, Option, Some, None, Result}
 use Rattle.std.specs.Vec.{vec_len, vec_capacity}
 use Rattle.cd_outside.specs.declared.fixtures.FixtureCall.{FixtureCall}
+use Rattle.cd_outside.specs.Counts.{Covers}
 use Rattle.cd_tree.specs.declared.tree.Tree.{Tree}
 use Rattle.cd_wire.specs.declared.request.Request.{Request}
 use Rattle.cd_module.specs.declared.fault.LoadFault.{LoadFault}
@@ -13,8 +14,9 @@ use Rattle.cd_legal.specs.declared.state.Drafted.{Drafted}
 use Rattle.cd_legal.specs.Entry.{signed, entries}
 use Rattle.cd_legal.specs.State.{has_number, is_live, Conf, conf_of, conf_at}
 use Rattle.cd_legal.specs.Legal.{state_at}
-use Rattle.cd_legal.specs.Calls.{last_of}
+use Rattle.cd_legal.specs.Calls.{last_of, failures}
 use Rattle.cd_desk.specs.Desks.{Holds}
+use Rattle.cd_desk.specs.Emptying.{IsEnded}
 use Rattle.cd_life.specs.declared.board.Board.{Board}
 use Rattle.cd_life.specs.Changes.{tree_at}
 use Rattle.cd_life.specs.Fits.{AllFit}
@@ -40,12 +42,14 @@ pub record Shelves {A F B : Type 0} {g : _} (b : Board A F B g) (s : State) : Ty
   pub live : live_among s.drafts ≡ b.live
   pub room : vec_len b.kept + b.live ≤ vec_capacity b.kept
 
-module _ {A F B : Type 0} {g : _} (calls : F → Option (List FixtureCall)) (plan : Tree → Result Plan LoadFault) (makes : Tree → Request → Option Tree) where
-  -- the desk stands for the history; each tree of it has its plan and follows by its change; and its configurations are kept
+module _ {A F B : Type 0} {g : _} (calls : F → Option (List FixtureCall)) (faults : F → ℕ) (plan : Tree → Result Plan LoadFault) (makes : Tree → Request → Option Tree) where
+  -- the desk stands for the history; each tree of it has its plan and follows by its change; its configurations are kept; and at
+  -- most as many keys of it could not be opened as the faults of the fixtures rose, unless their count stands at its end
   pub record Stood (opening b : Board A F B g) (log : List Signed) : Type 0 where
     pub desk : Holds calls opening.desk b.desk log
     pub fits : AllFit plan makes (entries log)
     pub shelf : Shelves b (state_at log)
+    pub covered : Covers (failures (entries log)) (faults opening.desk.fixtures) (faults b.desk.fixtures) 0
 
   -- what stood for a history stands afterwards for the same with this entry, whoever signs it
   abbrev pub Adds : Board A F B g → Board A F B g → Entry → Type 0
@@ -58,3 +62,7 @@ module _ {A F B : Type 0} {g : _} (calls : F → Option (List FixtureCall)) (pla
   -- the board stands for a history after which the serial is there, and not retired
   abbrev pub IsUnretired : Board A F B g → ℕ → Type 0
   IsUnretired b n = (opening : Board A F B g) × (log : List Signed) × Stood opening b log × (n ≤ (state_at log).serial) × (has_number n (state_at log).retired ≡ false)
+
+  -- the board stands for a history after which nothing is left
+  abbrev pub HasEnded : Board A F B g → Type 0
+  HasEnded b = (opening : Board A F B g) × (log : List Signed) × Stood opening b log × IsEnded (state_at log)

@@ -30,7 +30,7 @@ impl<M: ModuleSet, F: Fixtures> Board<M, F> {
     pub fn new(alloc: Global, fixtures: F, callers: u32) -> Result<Board<M, F>, NoBoard<F>>
         requires some { 0 < callers }
         requires few { callers ≤ 65536 }
-        ensures stands { IfOk result (λ board. Stood F.calls M.plan M.change board board []) }
+        ensures stands { IfOk result (λ board. Stood F.calls F.faults M.plan M.change board board []) }
         ensures fixtures { IfOk result (λ board. board.desk.fixtures ≡ fixtures) }
         ensures callers { IfOk result (λ board. length board.desk.tickets.by_caller.items ≡ callers) }
         ensures err { IfErr result (λ fault. fault.fixtures ≡ fixtures) }

@@ -44,11 +44,11 @@ impl<M: ModuleSet, F: Fixtures> Board<M, F> {
     ///
     /// `Spent` where as many drafts were made as a history may have, and `NoMemory`. The history is as it was after both.
     pub fn draft(&mut self, alloc: Global, loaded: Loaded<M>) -> Result<Draft<M>, DraftFault>
-        ensures entry { IfOk result (λ draft. Adds F.calls M.plan M.change self.old self.new (entry.Draft draft.left.number loaded.tree loaded.plan)) }
+        ensures entry { IfOk result (λ draft. Adds F.calls F.faults M.plan M.change self.old self.new (entry.Draft draft.left.number loaded.tree loaded.plan)) }
         ensures draft { IfOk result (λ draft. IsLeft self.new.desk.books loaded.tree draft.left) }
         ensures left { IfOk result (λ draft. draft.left ≡ record { number = draft.left.number; made = 0; modules = length loaded.plan.modules; started = 0; apps = length loaded.plan.apps; failed = false }) }
         ensures loaded { IfOk result (λ draft. arc_value draft.loaded ≡ loaded) }
-        ensures err { OnErr result (Keeps F.calls M.plan M.change self.old self.new) }
+        ensures err { OnErr result (Keeps F.calls F.faults M.plan M.change self.old self.new) }
         ensures spent { result ≡ Err fault.Spent → drafts_in self.old.desk.books ≡ MAX_DRAFTS }
         ensures unspent { IfOk result (λ _. drafts_in self.old.desk.books < MAX_DRAFTS) }
     {
@@ -73,7 +73,7 @@ impl<M: ModuleSet, F: Fixtures> Board<M, F> {
         requires draft { IsLeft self.old.desk.books (arc_value draft.old.loaded).tree draft.old.left }
         requires more { draft.old.left.made < draft.old.left.modules }
         requires unfailed { draft.old.left.failed ≡ false }
-        ensures entry { (taken : ℕ) × Adds F.calls M.plan M.change self.old self.new (entry.Made draft.old.left.number draft.old.left.made taken (failed_in result)) }
+        ensures entry { (taken : ℕ) × Adds F.calls F.faults M.plan M.change self.old self.new (entry.Made draft.old.left.number draft.old.left.made taken (failed_in result)) }
         ensures left { draft.new.left ≡ one_made draft.old.left (is_err result) }
         ensures draft { IsLeft self.new.desk.books (arc_value draft.new.loaded).tree draft.new.left }
         ensures loaded { draft.new.loaded ≡ draft.old.loaded }
@@ -89,7 +89,7 @@ impl<M: ModuleSet, F: Fixtures> Board<M, F> {
         requires ready { draft.old.left.made ≡ draft.old.left.modules }
         requires more { draft.old.left.started < draft.old.left.apps }
         requires unfailed { draft.old.left.failed ≡ false }
-        ensures entry { (taken : ℕ) × Adds F.calls M.plan M.change self.old self.new (entry.Started draft.old.left.number draft.old.left.started taken (failed_in result)) }
+        ensures entry { (taken : ℕ) × Adds F.calls F.faults M.plan M.change self.old self.new (entry.Started draft.old.left.number draft.old.left.started taken (failed_in result)) }
         ensures left { draft.new.left ≡ one_started draft.old.left (is_err result) }
         ensures draft { IsLeft self.new.desk.books (arc_value draft.new.loaded).tree draft.new.left }
         ensures loaded { draft.new.loaded ≡ draft.old.loaded }
@@ -111,7 +111,7 @@ impl<M: ModuleSet, F: Fixtures> Board<M, F> {
         requires current { from ≡ self.old.desk.serial }
         requires bound { from + 1 < 2 ^ 32 }
         requires change { Suits M.change (conf_here self.old from) change (arc_value draft.loaded).tree }
-        ensures entry { Adds F.calls M.plan M.change self.old self.new (entry.Publish draft.left.number (from + 1) from change) }
+        ensures entry { Adds F.calls F.faults M.plan M.change self.old self.new (entry.Publish draft.left.number (from + 1) from change) }
         ensures serial { self.new.desk.serial ≡ from + 1 }
     {
         let Draft { left, loaded } = draft;
@@ -125,7 +125,7 @@ impl<M: ModuleSet, F: Fixtures> Board<M, F> {
     /// Begins a request of a caller, which has none, under the current serial.
     pub fn begin(&mut self, caller: u32) -> u32
         requires { slice_get self.old.desk.tickets.by_caller.items caller ≡ Some None }
-        ensures entry { Adds F.calls M.plan M.change self.old self.new (entry.Begin caller result) }
+        ensures entry { Adds F.calls F.faults M.plan M.change self.old self.new (entry.Begin caller result) }
         ensures serial { result ≡ self.old.desk.serial }
     {
         self.desk.begin(caller)
@@ -134,7 +134,7 @@ impl<M: ModuleSet, F: Fixtures> Board<M, F> {
     /// Ends the request of a caller.
     pub fn finish(&mut self, caller: u32)
         requires { HasTicket self.old.desk.tickets.by_caller.items caller }
-        ensures { Adds F.calls M.plan M.change self.old self.new (entry.Finish caller) }
+        ensures { Adds F.calls F.faults M.plan M.change self.old self.new (entry.Finish caller) }
     {
         self.desk.finish(caller);
     }

@@ -1,12 +1,17 @@
-ghost use Rattle.std.specs.Prelude.{◌≡◌, ◌<◌, ◌+◌, ◌-◌, ◌^◌, ◌==◌, ◌&&◌, List, Some, None, true, false};
+ghost use Rattle.std.specs.Prelude.{◌≡◌, ◌<◌, ◌+◌, ◌-◌, ◌^◌, ◌==◌, ◌&&◌, ℕ, List, Some, None, true, false};
 ghost use Rattle.std.specs.Arc.{arc_value};
 ghost use Rattle.cd_legal.specs.declared.entry.Entry.TheVariants as entry;
 ghost use Rattle.cd_legal.specs.declared.entry.Signed.{Signed};
 ghost use Rattle.cd_legal.specs.Legal.{state_at};
 ghost use Rattle.cd_legal.specs.State.{has_number};
+ghost use Rattle.cd_tree.specs.declared.tree.Tree.{Tree};
+ghost use Rattle.cd_desk.specs.declared.closing.Closing.{Closing};
+ghost use Rattle.cd_desk.specs.declared.left.Left.{Left};
+ghost use Rattle.cd_desk.specs.Drafting.{drafts_in};
 ghost use Rattle.cd_desk.specs.Lefts.{IsLeft, step_at};
 ghost use Rattle.cd_desk.specs.Closings.{IsClosing, MayClean, CanRetire, Leaves};
-ghost use Rattle.cd_life.specs.Standing.{Stood, Adds};
+ghost use Rattle.cd_desk.specs.Trimming.{IsTrimmed};
+ghost use Rattle.cd_life.specs.Standing.{Stood, Adds, Keeps};
 
 use crate::board::{Board, Draft};
 use crate::kept::forget;
@@ -28,7 +33,7 @@ impl<M: ModuleSet, F: Fixtures> Board<M, F> {
     /// Gives a draft up. What it has made and started is left to be ended.
     pub fn abandon(&mut self, draft: Draft<M>) -> Closing
         requires { IsLeft self.old.desk.books (arc_value draft.loaded).tree draft.left }
-        ensures entry { Adds F.calls M.plan M.change self.old self.new (entry.Abandon draft.left.number) }
+        ensures entry { Adds F.calls F.faults M.plan M.change self.old self.new (entry.Abandon draft.left.number) }
         ensures closing { result ≡ record { number = draft.left.number; serial = None; apps = draft.left.started; instances = draft.left.made } }
         ensures at { IsClosing self.new.desk result }
         ensures clean { MayClean self.new.desk.books draft.left.number }
@@ -43,7 +48,7 @@ impl<M: ModuleSet, F: Fixtures> Board<M, F> {
     pub fn stop(&mut self, closing: &mut Closing) -> Step
         requires at { IsClosing self.old.desk closing.old }
         requires more { 0 < closing.old.apps }
-        ensures entry { Adds F.calls M.plan M.change self.old self.new (entry.Stopped closing.old.number (closing.old.apps - 1)) }
+        ensures entry { Adds F.calls F.faults M.plan M.change self.old self.new (entry.Stopped closing.old.number (closing.old.apps - 1)) }
         ensures closing { closing.new ≡ record closing.old { apps = closing.old.apps - 1 } }
         ensures at { IsClosing self.new.desk closing.new }
         ensures clean { MayClean self.old.desk.books closing.old.number → MayClean self.new.desk.books closing.old.number }
@@ -58,7 +63,7 @@ impl<M: ModuleSet, F: Fixtures> Board<M, F> {
         requires stopped { closing.old.apps ≡ 0 }
         requires more { 0 < closing.old.instances }
         requires may { MayClean self.old.desk.books closing.old.number }
-        ensures entry { Adds F.calls M.plan M.change self.old self.new (entry.Cleaned closing.old.number (closing.old.instances - 1)) }
+        ensures entry { Adds F.calls F.faults M.plan M.change self.old self.new (entry.Cleaned closing.old.number (closing.old.instances - 1)) }
         ensures closing { closing.new ≡ record closing.old { instances = closing.old.instances - 1 } }
         ensures at { IsClosing self.new.desk closing.new }
         ensures clean { MayClean self.new.desk.books closing.old.number }
@@ -67,13 +72,21 @@ impl<M: ModuleSet, F: Fixtures> Board<M, F> {
         self.desk.clean(closing)
     }
 
-    /// Spends a closing of which nothing is left.
+    /// Spends a closing of which nothing is left, and lets go of what is kept of closed drafts, up to the first draft that is not
+    /// closed. It adds no entry, and takes no memory.
     pub fn closed(&mut self, closing: Closing)
         requires apps { closing.apps ≡ 0 }
         requires instances { closing.instances ≡ 0 }
-        ensures { self.new ≡ self.old }
+        ensures keeps { Keeps F.calls F.faults M.plan M.change self.old self.new }
+        ensures same { self.new ≡ record self.old { desk = record self.old.desk { books = self.new.desk.books } } }
+        ensures drafts { drafts_in self.new.desk.books ≡ drafts_in self.old.desk.books }
+        ensures lefts { (t : Tree) (left : Left) → IsLeft self.old.desk.books t left → IsLeft self.new.desk.books t left }
+        ensures closings { (other : Closing) → IsClosing self.old.desk other → IsClosing self.new.desk other }
+        ensures clean { (draft : ℕ) → MayClean self.old.desk.books draft → MayClean self.new.desk.books draft }
+        ensures retire { (serial : ℕ) → CanRetire self.old.desk serial → CanRetire self.new.desk serial }
+        ensures trimmed { IsTrimmed self.new.desk.books }
     {
-        closing.end();
+        self.desk.closed(closing);
     }
 
     /// What is left to be ended of the configuration with a superseded serial; nothing of the opening one.
@@ -82,8 +95,8 @@ impl<M: ModuleSet, F: Fixtures> Board<M, F> {
         ensures same { self.new ≡ self.old }
         ensures at { IsClosing self.new.desk result }
         ensures serial { result.serial ≡ Some serial }
-        ensures left { (opening : _) (log : List Signed) → Stood F.calls M.plan M.change opening self.new log → Leaves (state_at log) serial result }
-        ensures clean { (opening : _) (log : List Signed) → Stood F.calls M.plan M.change opening self.new log → has_number serial (state_at log).retired ≡ true → 0 < result.instances → MayClean self.new.desk.books result.number }
+        ensures left { (opening : _) (log : List Signed) → Stood F.calls F.faults M.plan M.change opening self.new log → Leaves (state_at log) serial result }
+        ensures clean { (opening : _) (log : List Signed) → Stood F.calls F.faults M.plan M.change opening self.new log → has_number serial (state_at log).retired ≡ true → 0 < result.instances → MayClean self.new.desk.books result.number }
     {
         self.desk.superseded(serial)
     }
@@ -100,7 +113,7 @@ impl<M: ModuleSet, F: Fixtures> Board<M, F> {
     /// the one that was published last is kept to the end.
     pub fn retire(&mut self, serial: u32)
         requires { CanRetire self.old.desk serial }
-        ensures { Adds F.calls M.plan M.change self.old self.new (entry.Retire serial) }
+        ensures { Adds F.calls F.faults M.plan M.change self.old self.new (entry.Retire serial) }
     {
         let last = is_last_published(self.desk.halted, self.desk.serial, serial);
         self.desk.retire(serial);
@@ -114,7 +127,7 @@ impl<M: ModuleSet, F: Fixtures> Board<M, F> {
     pub fn halt(&mut self)
         requires running { self.old.desk.halted ≡ false }
         requires bound { self.old.desk.serial + 1 < 2 ^ 32 }
-        ensures entry { Adds F.calls M.plan M.change self.old self.new (entry.Halt (self.old.desk.serial + 1)) }
+        ensures entry { Adds F.calls F.faults M.plan M.change self.old self.new (entry.Halt (self.old.desk.serial + 1)) }
         ensures halted { self.new.desk.halted ≡ true }
     {
         self.desk.halt();

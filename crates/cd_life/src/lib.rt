@@ -7,14 +7,18 @@
 //!
 //! Files: beginning.rt makes a board and boarding.rt is the life of a draft up to its publishing; closing.rt stops and cleans what
 //! was given up or superseded, retires serials, and halts; sharing.rt gives configurations out; kept.rt finds them, and lets them
-//! go; readers.rt tells what stands.
+//! go; readers.rt tells what stands, and progress.rt how far a draft has come; ending.rt ends a board of which nothing is left, and
+//! over.rt says after which histories.
 #![tactic(auto)]
 
 mod beginning;
 mod board;
 mod boarding;
 mod closing;
+mod ending;
 mod kept;
+mod over;
+mod progress;
 mod readers;
 mod share;
 mod shares;
@@ -24,5 +28,6 @@ mod stands;
 pub use beginning::NoBoard;
 pub use board::{Board, Draft};
 pub use cd_desk::{Closing, DraftFault, Left, Step};
+pub use over::what_is_over_has_ended;
 pub use share::Nothing;
 pub use shares::Share;

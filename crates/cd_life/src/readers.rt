@@ -15,7 +15,7 @@ impl<M: ModuleSet, F: Fixtures> Board<M, F> {
     /// The serial of the current configuration.
     pub fn serial(&self) -> u32
         ensures is { result ≡ self.now.desk.serial }
-        ensures state { (opening : _) (log : List Signed) → Stood F.calls M.plan M.change opening self.now log → result ≡ (state_at log).serial }
+        ensures state { (opening : _) (log : List Signed) → Stood F.calls F.faults M.plan M.change opening self.now log → result ≡ (state_at log).serial }
     {
         self.desk.serial
     }
@@ -23,28 +23,28 @@ impl<M: ModuleSet, F: Fixtures> Board<M, F> {
     /// Whether the host has halted.
     pub fn halted(&self) -> bool
         ensures is { result ≡ self.now.desk.halted }
-        ensures state { (opening : _) (log : List Signed) → Stood F.calls M.plan M.change opening self.now log → result ≡ (state_at log).halted }
+        ensures state { (opening : _) (log : List Signed) → Stood F.calls F.faults M.plan M.change opening self.now log → result ≡ (state_at log).halted }
     {
         self.desk.halted
     }
 
     /// How many requests were begun under the current serial. The count stays at 2^64 - 1.
     pub fn begins(&self) -> u64
-        ensures { (opening : _) (log : List Signed) → Stood F.calls M.plan M.change opening self.now log → result ≡ min (begins_now (entries log)) count_end }
+        ensures { (opening : _) (log : List Signed) → Stood F.calls F.faults M.plan M.change opening self.now log → result ≡ min (begins_now (entries log)) count_end }
     {
         self.desk.begun
     }
 
     /// How many requests run under a serial.
     pub fn tickets(&self, serial: u32) -> u32
-        ensures { (opening : _) (log : List Signed) → Stood F.calls M.plan M.change opening self.now log → result ≡ open_at serial (state_at log).tickets }
+        ensures { (opening : _) (log : List Signed) → Stood F.calls F.faults M.plan M.change opening self.now log → result ≡ open_at serial (state_at log).tickets }
     {
         self.desk.tickets_at(serial)
     }
 
     /// Whether a serial is retired.
     pub fn retired(&self, serial: u32) -> bool
-        ensures { (opening : _) (log : List Signed) → Stood F.calls M.plan M.change opening self.now log → result ≡ has_number serial (state_at log).retired }
+        ensures { (opening : _) (log : List Signed) → Stood F.calls F.faults M.plan M.change opening self.now log → result ≡ has_number serial (state_at log).retired }
     {
         self.desk.retired(serial)
     }

@@ -39,3 +39,13 @@ impl<M: ModuleSet> Share<M> {
         }
     }
 }
+
+impl<M: ModuleSet> Drop for Share<M> {
+    fn drop(self) {
+        match self {
+            Share::Opening(nothing) => drop(nothing),
+            Share::Halted(nothing) => drop(nothing),
+            Share::Running(loaded) => drop(loaded),
+        }
+    }
+}

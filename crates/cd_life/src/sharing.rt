@@ -28,9 +28,9 @@ impl<M: ModuleSet, F: Fixtures> Board<M, F> {
     ///
     /// Out of memory.
     pub fn share(&self, serial: u32) -> Result<Share<M>, NoMemory>
-        requires { IsUnretired F.calls M.plan M.change self.now serial }
+        requires { IsUnretired F.calls F.faults M.plan M.change self.now serial }
         ensures here { IfOk result (λ share. conf_in share ≡ conf_here self.now serial) }
-        ensures state { IfOk result (λ share. (opening : _) (log : List Signed) → Stood F.calls M.plan M.change opening self.now log → serial ≤ (state_at log).serial → has_number serial (state_at log).retired ≡ false → conf_in share ≡ conf_of (state_at log) serial) }
+        ensures state { IfOk result (λ share. (opening : _) (log : List Signed) → Stood F.calls F.faults M.plan M.change opening self.now log → serial ≤ (state_at log).serial → has_number serial (state_at log).retired ≡ false → conf_in share ≡ conf_of (state_at log) serial) }
     {
         if is_halt(self.desk.halted, self.desk.serial, serial) {
             return Ok(Share::Halted(Arc::try_clone(&self.opening)?));

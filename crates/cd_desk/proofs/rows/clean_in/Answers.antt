@@ -67,4 +67,5 @@ returns g c =
         life = refl;
         retired = refl;
       };
+      faults = c.end_last.ensures.faults;
     }

@@ -19,6 +19,14 @@ open_next-opened-requires-clause-left g c =
     let there = slice_get_read rows _ c.args.place r refl (slice_get_within rows c.args.place can.0 can.1) (search rules) in
     subst (λ (z : Row). z.modules.opened < length z.modules.parts.items) (same_at rows c.args.place can.0 r can.1 there) can.2
 
+pub open_next-opened-requires-clause-unended : goal.open_next-opened-requires-clause-unended
+open_next-opened-requires-clause-unended g c =
+    let rows = c.args.books.now.rows.items in
+    let can = c.requires.can in
+    let r = c.index_mut-row.result.now in
+    let there = slice_get_read rows _ c.args.place r refl (slice_get_within rows c.args.place can.0 can.1) (search rules) in
+    ap (λ (z : Row). z.modules.ended) (sym (same_at rows c.args.place can.0 r can.1 there)) ∙ can.3
+
 pub open_next-opened-requires-clause-room : goal.open_next-opened-requires-clause-room
 open_next-opened-requires-clause-room g c =
     let rows = c.args.books.now.rows.items in

@@ -3,9 +3,8 @@ use Rattle.cd_legal.specs.Legal.{state_at}
 use Rattle.cd_legal.specs.Whole.{nothing_left}
 use Rattle.cd_gate.specs.declared.view.View.{View}
 use Rattle.cd_gate.specs.Passes.{view, opening_of}
-use Rattle.cd_gate.proofs.Grown.{since_none}
 use Rattle.cd_gate.proofs.Staying.{kept}
-use Rattle.cd_hall.proofs.Turned.{seen_is, in_turn, room_is}
+use Rattle.cd_hall.proofs.Turned.{seen_is, in_turn, room_is, found_none}
 use Rattle.cd_hall.proofs.turns.take_turn.Goals as goal
 
 pub returns-clause-turn : goal.returns-clause-turn
@@ -16,7 +15,7 @@ returns-clause-turn g c =
 pub returns-clause-since : goal.returns-clause-since
 returns-clause-since g c =
     let f = c.enter.ensures.seen in
-    since_none (view c.args.pass.now) (view c.enter.new.pass) f.0 f.2.seen f.2.own f.2.own_seen f.1
+    found_none g.T.Stands.stands (opening_of c.args.gate.now) c.enter.result.value (view c.args.pass.now) (view c.enter.new.pass) f.0 f.1 f.2
 
 pub returns-clause-same : goal.returns-clause-same
 returns-clause-same g c = let f = c.enter.ensures.seen in seen_is (view c.args.pass.now) (view c.enter.new.pass) f.0 f.1

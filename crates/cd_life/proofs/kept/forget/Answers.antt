@@ -1,4 +1,4 @@
-use Rattle.std.proofs.Common.{◌≡◌, ◌∙◌, ap, subst, Some}
+use Rattle.std.proofs.Common.{◌∙◌, ap, subst, Some}
 use Rattle.cd_life.specs.Changes.{tree_at, IsPlaceOf}
 use Rattle.cd_life.proofs.Shelving.{tree_at_removed}
 use Rattle.cd_life.proofs.kept.forget.Goals as goal

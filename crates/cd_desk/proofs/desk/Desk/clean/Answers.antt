@@ -1,4 +1,4 @@
-use Rattle.std.proofs.Common.{◌≡◌, ◌∙◌, ◌-◌, ◌+◌, ℕ, sym, ap, subst, arith, rules, refl}
+use Rattle.std.proofs.Common.{◌≡◌, ◌-◌, ◌+◌, ℕ, subst, arith}
 use Rattle.cd_legal.specs.declared.part.Part.TheVariants.{Instance}
 use Rattle.cd_legal.specs.declared.entry.Entry.TheVariants.{Cleaned}
 use Rattle.cd_desk.specs.declared.row.Row.{Row}

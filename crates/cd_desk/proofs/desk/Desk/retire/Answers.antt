@@ -1,4 +1,4 @@
-use Rattle.std.proofs.Common.{◌≡◌, ◌<◌, ℕ, false, true, sym, ap, ◌∙◌, rules, refl, slice_get, Some, None, subst}
+use Rattle.std.proofs.Common.{◌≡◌, ℕ, false, true, sym, ap, ◌∙◌, Some, None, subst}
 use Rattle.std.proofs.lemmas.Option.{slice_get_within}
 use Rattle.cd_legal.specs.declared.entry.Entry.TheVariants.{Retire}
 use Rattle.cd_legal.specs.Serials.{has_serial}
@@ -12,8 +12,8 @@ use Rattle.cd_desk.proofs.Standing.{adds}
 use Rattle.cd_desk.proofs.Retirings.{retires, retires_opening, positive, stopped_at, stopped_there}
 use Rattle.cd_desk.proofs.desk.Desk.retire.Goals as goal
 
-pub returns-then-serial-eq0 : goal.returns-then-serial-eq0
-returns-then-serial-eq0 g c =
+pub returns-then-serial-eq0-clause-entry : goal.returns-then-serial-eq0-clause-entry
+returns-then-serial-eq0-clause-entry g c =
     let v = c.args.self.now in
     let is : c.args.serial ≡ 0 = c.if-serial-eq0.true in
     let r : CanRetire v 0 = subst (λ (z : ℕ). CanRetire v z) is c.requires in
@@ -33,8 +33,8 @@ set_retired-requires g c =
     let p : IsPlaceOf n rows (Some c.in-Some.place) = subst (λ z. IsPlaceOf n rows z) c.in-Some.is (subst (λ z. IsPlaceOf n z c.place_with.result) c.as_slice.ensures.value c.place_with.ensures) in
     record { there = slice_get_within rows c.in-Some.place p.0 p.1 }
 
-pub returns : goal.returns
-returns g c =
+pub returns-clause-entry : goal.returns-clause-entry
+returns-clause-entry g c =
     let v = c.args.self.now in
     let n : ℕ = c.args.serial in
     let rows = v.books.rows.items in

@@ -10,7 +10,7 @@ start_in-requires g c =
     let at = c.place_of-place.ensures.place in
     let number = can.at.number in
     let here : can.place ≡ c.place_of-place.result = omega (arith, at, number) in
-    record { can = (can.row, subst (λ (z : ℕ). slice_get c.args.self.now.books.rows.items z ≡ Some can.row) here can.at.there, can.left) }
+    record { can = (can.row, subst (λ (z : ℕ). slice_get c.args.self.now.books.rows.items z ≡ Some can.row) here can.at.there, can.left, can.unended) }
 
 pub returns-clause-entry : goal.returns-clause-entry
 returns-clause-entry g c =

@@ -1,6 +1,5 @@
-use Rattle.std.proofs.Common.{◌≡◌, ◌∙◌, ◌-◌, ◌+◌, ◌==◌, ◌&&◌, ℕ, Bool, sym, ap, subst, arith, rules, refl, slice_get, Some}
+use Rattle.std.proofs.Common.{◌≡◌, ◌∙◌, ◌-◌, ◌+◌, ℕ, ap, subst, arith, rules, refl, slice_get, Some}
 use Rattle.std.proofs.lemmas.Option.{slice_get_read, slice_get_within}
-use Rattle.cd_legal.specs.Serials.{has_serial}
 use Rattle.cd_legal.specs.declared.part.Part.TheVariants.{App}
 use Rattle.cd_legal.specs.declared.entry.Entry.TheVariants.{Stopped}
 use Rattle.cd_desk.specs.declared.row.Row.{Row}
@@ -37,7 +36,7 @@ returns-clause-entry g c =
     let t = c.index.result.now in
     let read : slice_get rows place ≡ Some t = slice_get_read rows _ place t refl (slice_get_within rows place o.changes.is now) (search rules) in
     subst (λ (z : ℕ). AddsTo calls v (record v { fixtures = c.shut_where.new.fixtures; books = c.stop_in.new.books }) (Stopped k.number z)) i
-    (adds calls v _ _ (stops calls v c.stop_in.new.fixtures c.shut_where.new.fixtures c.stop_in.new.books k.number place can number o t c.is_last-last.result (same_at rows place t o.changes.is read now) c.is_last-last.ensures c.shut_where.ensures))
+    (adds calls v _ _ (stops calls v c.stop_in.new.fixtures c.shut_where.new.fixtures c.stop_in.new.books k.number place can number o t c.is_last-last.result (same_at rows place t o.changes.is read now) c.is_last-last.ensures c.shut_where.ensures.calls))
 
 pub returns-clause-at : goal.returns-clause-at
 returns-clause-at g c = record {

@@ -1,9 +1,10 @@
 use Rattle.std.proofs.Common.{arith, rules, refl, length, set, ◌≡◌, subst, ℕ, ◌-◌, ◌<◌}
 use Rattle.cd_outside.specs.declared.holder.Holder.{Holder}
 use Rattle.cd_desk.specs.Instances.{Gives}
+use Rattle.cd_desk.specs.Waiting.{Spent}
 use Rattle.std.proofs.lemmas.List.{length-set}
 use Rattle.std.proofs.lemmas.Option.{slice_get_read}
-use Rattle.cd_desk.proofs.Lists.{still_wait}
+use Rattle.cd_desk.proofs.Lists.{still_wait, spent_more}
 use Rattle.cd_desk.proofs.line.Line.end_last.Goals as goal
 
 pub returns-clause-ends : goal.returns-clause-ends
@@ -39,4 +40,5 @@ invariant_of-self g c =
       within = (let w = l.within in omega arith);
       bound = (let b = l.bound in omega arith);
       wait = still_wait l.opened i l.parts.items _ c.give_all.new.self _ (omega arith) (search rules) l.wait;
+      spent = subst (λ (z : ℕ). Spent z (set l.parts.items i c.give_all.new.self)) (omega arith) (spent_more i (l.opened - l.ended) l.parts.items _ c.give_all.new.self (omega arith) (let w = l.within in omega arith) refl c.give_all.ensures.empty l.spent);
     }

@@ -1,9 +1,9 @@
-use Rattle.std.proofs.Common.{arith, rules, refl, length, set, ◌≡◌, reverse, subst}
+use Rattle.std.proofs.Common.{arith, rules, refl, length, set, ◌≡◌, ◌+◌, reverse, subst}
 use Rattle.cd_outside.specs.declared.holder.Holder.{Holder}
 use Rattle.cd_desk.specs.Instances.{Takes}
 use Rattle.std.proofs.lemmas.List.{length-set}
 use Rattle.std.proofs.lemmas.Option.{slice_get_read}
-use Rattle.cd_desk.proofs.Lists.{wait_on}
+use Rattle.cd_desk.proofs.Lists.{wait_on, spent_on}
 use Rattle.cd_desk.proofs.line.Line.open_next.Goals as goal
 
 pub returns-clause-opens : goal.returns-clause-opens
@@ -29,4 +29,5 @@ invariant_of-self g c =
       within = (let l = c.requires.left in omega arith);
       bound = (let b = c.args.self.now.bound in omega arith);
       wait = wait_on c.args.self.now.opened c.args.self.now.parts.items _ c.take_all-taken.new.self _ (search rules) c.args.self.now.wait;
+      spent = spent_on (c.args.self.now.opened + 1) _ _ _ (let none = c.requires.unended in omega arith) (wait_on c.args.self.now.opened c.args.self.now.parts.items _ c.take_all-taken.new.self _ (search rules) c.args.self.now.wait);
     }

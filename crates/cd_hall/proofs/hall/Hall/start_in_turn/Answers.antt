@@ -1,37 +1,66 @@
-use Rattle.std.proofs.Common.{◌≡◌, ◌++◌, ◌∷◌, [], sym, refl, true}
+use Rattle.std.proofs.Common.{◌≡◌, ◌∙◌, ◌<◌, ◌++◌, ◌∷◌, ℕ, [], length, ap, sym, subst, refl, true}
 use Rattle.cd_legal.specs.Entry.{signed}
 use Rattle.cd_gate.specs.Passes.{view, opening_of}
 use Rattle.cd_gate.specs.Steps.{may_note, noted}
-use Rattle.cd_hall.specs.Drafts.{failed_in, started_entry}
+use Rattle.cd_desk.specs.Instances.{failed_in}
+use Rattle.cd_desk.specs.Lefts.{step_at}
+use Rattle.cd_life.specs.Standing.{Stood}
+use Rattle.cd_hall.specs.Drafts.{held, started_entry}
+use Rattle.cd_hall.proofs.Told.{if_ok}
 use Rattle.cd_hall.proofs.Requested.{stays_calm}
-use Rattle.cd_hall.proofs.Drafted.{said, err_is, started_here, may_start, draft_started}
+use Rattle.cd_hall.proofs.Drafted.{said, err_is, left_here, held_started, started_here, may_start, draft_started}
 use Rattle.cd_hall.proofs.hall.Hall.start_in_turn.Goals as goal
+
+pub start-started-requires-clause-draft : goal.start-started-requires-clause-draft
+start-started-requires-clause-draft g c κs within = left_here g.F.Fixtures.calls g.F.Fixtures.faults g.M.ModuleSet.plan g.M.ModuleSet.change c.args.self.now.gate c.args.turn.now c.args.pass.now c.requires.turn c.args.draft.now c.requires.draft
+
+pub start-started-requires-clause-more : goal.start-started-requires-clause-more
+start-started-requires-clause-more g c κs within = subst (λ (n : ℕ). c.args.draft.now.left.started < n) (sym c.requires.draft.apps) c.requires.more
+
+pub start-started-requires-clause-ready : goal.start-started-requires-clause-ready
+start-started-requires-clause-ready g c κs within = subst (λ (n : ℕ). c.args.draft.now.left.made ≡ n) (sym c.requires.draft.modules) c.requires.ready
 
 pub add-requires-clause-board : goal.add-requires-clause-board
 add-requires-clause-board g c =
-    said (λ d r. g.B.Stands.stands (opening_of c.args.self.now.gate) c.start-started.new.self ((view c.args.pass.now).seen ++ signed (view c.args.pass.now).number (started_entry (g.B.DraftBoard.held d) (failed_in r)) ∷ []))
+    let v = view c.args.pass.now in
+    said
+    (λ d r. Stood g.F.Fixtures.calls g.F.Fixtures.faults g.M.ModuleSet.plan g.M.ModuleSet.change (opening_of c.args.self.now.gate) c.start-started.new.self (v.seen ++ signed v.number (started_entry (held d) (failed_in r)) ∷ []))
     c.args.draft.now c.of-was.result.value c.start-started.result c.of-said.result.value c.of-was.ensures c.of-said.ensures
-    (started_here c.args.self.now.gate c.args.turn.now c.args.pass.now c.requires.turn c.start-started.new.self (g.B.DraftBoard.held c.args.draft.now) (failed_in c.start-started.result) c.requires.draft c.start-started.ensures.entry).1
+    (started_here g.F.Fixtures.calls g.F.Fixtures.faults g.M.ModuleSet.plan g.M.ModuleSet.change c.args.self.now.gate c.args.turn.now c.args.pass.now c.requires.turn c.start-started.new.self c.args.draft.now (failed_in c.start-started.result) c.requires.draft c.start-started.ensures.entry).1
 
 pub add-requires-clause-may : goal.add-requires-clause-may
 add-requires-clause-may g c =
-    said (λ d r. may_note (view c.args.pass.now) (started_entry (g.B.DraftBoard.held d) (failed_in r)) ≡ true)
-    c.args.draft.now c.of-was.result.value c.start-started.result c.of-said.result.value c.of-was.ensures c.of-said.ensures
-    (may_start (view c.args.pass.now) (g.B.DraftBoard.held c.args.draft.now) (failed_in c.start-started.result) c.requires.draft.0
-    (started_here c.args.self.now.gate c.args.turn.now c.args.pass.now c.requires.turn c.start-started.new.self (g.B.DraftBoard.held c.args.draft.now) (failed_in c.start-started.result) c.requires.draft c.start-started.ensures.entry).0)
+    let v = view c.args.pass.now in
+    said (λ d r. may_note v (started_entry (held d) (failed_in r)) ≡ true) c.args.draft.now c.of-was.result.value c.start-started.result c.of-said.result.value c.of-was.ensures c.of-said.ensures
+    (may_start v (held c.args.draft.now) (failed_in c.start-started.result) c.requires.draft.own
+    (started_here g.F.Fixtures.calls g.F.Fixtures.faults g.M.ModuleSet.plan g.M.ModuleSet.change c.args.self.now.gate c.args.turn.now c.args.pass.now c.requires.turn c.start-started.new.self c.args.draft.now (failed_in c.start-started.result) c.requires.draft c.start-started.ensures.entry).0)
+
+pub returns-clause-seen : goal.returns-clause-seen
+returns-clause-seen g c =
+    said (λ d r. view c.add.new.pass ≡ noted (view c.args.pass.now) (started_entry (held d) (failed_in r))) c.of-was.result.value c.args.draft.now c.of-said.result.value c.start-started.result (sym c.of-was.ensures) (sym c.of-said.ensures) c.add.ensures.seen
+
+pub returns-clause-held : goal.returns-clause-held
+returns-clause-held g c = held_started c.args.draft.now c.start-started.new.draft _ c.start-started.ensures.left c.start-started.ensures.loaded
 
 pub returns-clause-draft : goal.returns-clause-draft
 returns-clause-draft g c =
-    draft_started (view c.args.pass.now) (view c.add.new.pass) (g.B.DraftBoard.held c.args.draft.now) (g.B.DraftBoard.held c.start-started.new.draft) (failed_in c.start-started.result) _ c.requires.draft
-    (said (λ d r. view c.add.new.pass ≡ noted (view c.args.pass.now) (started_entry (g.B.DraftBoard.held d) (failed_in r)))
-    c.of-was.result.value c.args.draft.now c.of-said.result.value c.start-started.result (sym c.of-was.ensures) (sym c.of-said.ensures) c.add.ensures.seen)
-    c.start-started.ensures.draft (err_is c.start-started.result)
+    draft_started (view c.args.pass.now) (view c.add.new.pass) c.args.draft.now c.start-started.new.draft (failed_in c.start-started.result) _ c.requires.draft
+    (said (λ d r. view c.add.new.pass ≡ noted (view c.args.pass.now) (started_entry (held d) (failed_in r))) c.of-was.result.value c.args.draft.now c.of-said.result.value c.start-started.result (sym c.of-was.ensures) (sym c.of-said.ensures) c.add.ensures.seen)
+    c.start-started.ensures.left c.start-started.ensures.loaded (err_is c.start-started.result)
 
 pub returns-clause-calm : goal.returns-clause-calm
 returns-clause-calm g c =
-    stays_calm (view c.args.pass.now) (view c.add.new.pass) (started_entry (g.B.DraftBoard.held c.of-was.result.value) (failed_in c.of-said.result.value)) c.requires.turn.knows
-    (said (λ d r. may_note (view c.args.pass.now) (started_entry (g.B.DraftBoard.held d) (failed_in r)) ≡ true)
-    c.args.draft.now c.of-was.result.value c.start-started.result c.of-said.result.value c.of-was.ensures c.of-said.ensures
-    (may_start (view c.args.pass.now) (g.B.DraftBoard.held c.args.draft.now) (failed_in c.start-started.result) c.requires.draft.0
-    (started_here c.args.self.now.gate c.args.turn.now c.args.pass.now c.requires.turn c.start-started.new.self (g.B.DraftBoard.held c.args.draft.now) (failed_in c.start-started.result) c.requires.draft c.start-started.ensures.entry).0))
-    refl c.requires.left c.add.ensures.seen
+    let v = view c.args.pass.now in
+    stays_calm v (view c.add.new.pass) (started_entry (held c.args.draft.now) (failed_in c.start-started.result)) c.requires.turn.knows
+    (may_start v (held c.args.draft.now) (failed_in c.start-started.result) c.requires.draft.own
+    (started_here g.F.Fixtures.calls g.F.Fixtures.faults g.M.ModuleSet.plan g.M.ModuleSet.change c.args.self.now.gate c.args.turn.now c.args.pass.now c.requires.turn c.start-started.new.self c.args.draft.now (failed_in c.start-started.result) c.requires.draft c.start-started.ensures.entry).0)
+    refl c.requires.left
+    (said (λ d r. view c.add.new.pass ≡ noted v (started_entry (held d) (failed_in r))) c.of-was.result.value c.args.draft.now c.of-said.result.value c.start-started.result (sym c.of-was.ensures) (sym c.of-said.ensures) c.add.ensures.seen)
+
+pub returns-clause-step : goal.returns-clause-step
+returns-clause-step g c =
+    let new = c.start-started.new.draft in
+    let has = draft_started (view c.args.pass.now) (view c.add.new.pass) c.args.draft.now c.start-started.new.draft (failed_in c.start-started.result) _ c.requires.draft
+    (said (λ d r. view c.add.new.pass ≡ noted (view c.args.pass.now) (started_entry (held d) (failed_in r))) c.of-was.result.value c.args.draft.now c.of-said.result.value c.start-started.result (sym c.of-was.ensures) (sym c.of-said.ensures) c.add.ensures.seen)
+    c.start-started.ensures.left c.start-started.ensures.loaded (err_is c.start-started.result) in
+    if_ok (λ step. step ≡ step_at new.left.started new.left.apps) (λ step. step ≡ step_at new.left.started (length (held new).plan.apps)) c.start-started.result (λ step is. is ∙ ap (step_at new.left.started) has.apps) c.start-started.ensures.step

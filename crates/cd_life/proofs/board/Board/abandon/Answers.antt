@@ -1,5 +1,5 @@
 use Rattle.std.proofs.Common.{◌≡◌, ◌-◌, rules, refl}
-use Rattle.cd_life.proofs.Standings.{adds, shelf_abandon}
+use Rattle.cd_life.proofs.Standings.{adds, calm, shelf_abandon}
 use Rattle.cd_life.proofs.board.Board.abandon.Goals as goal
 
 pub abandon-requires : goal.abandon-requires
@@ -8,4 +8,4 @@ abandon-requires g c = (_, c.requires)
 pub returns-clause-entry : goal.returns-clause-entry
 returns-clause-entry g c =
     let live : c.saturating_sub-self.result ≡ c.args.self.now.live - 1 = search rules in
-    adds g.F.Fixtures.calls g.M.ModuleSet.plan g.M.ModuleSet.change c.args.self.now _ _ c.abandon.ensures.entry (λ o log h. tt) (shelf_abandon g.F.Fixtures.calls g.M.ModuleSet.plan g.M.ModuleSet.change c.args.self.now _ _ refl live)
+    adds g.F.Fixtures.calls g.F.Fixtures.faults g.M.ModuleSet.plan g.M.ModuleSet.change c.args.self.now _ _ c.abandon.ensures.entry (calm _ _ c.abandon.ensures.faults) (λ o log h. tt) (shelf_abandon g.F.Fixtures.calls g.F.Fixtures.faults g.M.ModuleSet.plan g.M.ModuleSet.change c.args.self.now _ _ refl live)

@@ -1,6 +1,6 @@
 use Rattle.std.proofs.Common.{refl}
-use Rattle.cd_life.proofs.Standings.{adds, shelf_plain}
+use Rattle.cd_life.proofs.Standings.{adds, calm, shelf_plain}
 use Rattle.cd_life.proofs.board.Board.clean.Goals as goal
 
 pub returns-clause-entry : goal.returns-clause-entry
-returns-clause-entry g c = adds g.F.Fixtures.calls g.M.ModuleSet.plan g.M.ModuleSet.change c.args.self.now _ _ c.clean.ensures.entry (λ o l h. tt) (shelf_plain g.F.Fixtures.calls g.M.ModuleSet.plan g.M.ModuleSet.change c.args.self.now _ _ refl refl refl refl)
+returns-clause-entry g c = adds g.F.Fixtures.calls g.F.Fixtures.faults g.M.ModuleSet.plan g.M.ModuleSet.change c.args.self.now _ _ c.clean.ensures.entry (calm _ _ c.clean.ensures.faults) (λ o l h. tt) (shelf_plain g.F.Fixtures.calls g.F.Fixtures.faults g.M.ModuleSet.plan g.M.ModuleSet.change c.args.self.now _ _ refl refl refl refl)

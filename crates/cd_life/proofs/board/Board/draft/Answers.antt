@@ -6,12 +6,13 @@ use Rattle.cd_desk.specs.Desks.{AddsTo, Keeps as KeepsDesk}
 use Rattle.cd_desk.specs.declared.left.Left.{Left}
 use Rattle.cd_desk.specs.Lefts.{IsLeft}
 use Rattle.cd_desk.proofs.Counts.{new_is}
-use Rattle.cd_life.proofs.Standings.{adds, keeps, shelf_draft, shelf_same, on_err}
+use Rattle.cd_life.proofs.Standings.{adds, calm, keeps, shelf_draft, shelf_same, on_err}
 use Rattle.cd_life.proofs.board.Board.draft.Goals as goal
 
 pub returns-clause-entry : goal.returns-clause-entry
 returns-clause-entry g c =
     let calls = g.F.Fixtures.calls in
+    let faults = g.F.Fixtures.faults in
     let plan = g.M.ModuleSet.plan in
     let change = g.M.ModuleSet.change in
     let v = c.args.self.now in
@@ -19,19 +20,22 @@ returns-clause-entry g c =
     let number = ap (λ z. z.number) c.new_left-left.ensures in
     let tree : c.deref.result.now.tree ≡ c.args.loaded.tree = ap (λ z. z.tree) (c.deref.ensures ∙ c.in-Ok.ensures.ok) in
     let planned : c.deref-2.result.now.plan ≡ c.args.loaded.plan = ap (λ z. z.plan) (c.deref-2.ensures ∙ c.in-Ok.ensures.ok) in
-    adds calls plan change v _ _
+    let same : faults w.fixtures ≡ faults v.desk.fixtures = search rules in
+    adds calls faults plan change v _ _
     (subst (λ (z : ℕ). AddsTo calls v.desk w (Draft z c.args.loaded.tree c.args.loaded.plan)) (sym number)
     (subst (λ (z : Plan). AddsTo calls v.desk w (Draft c.in_ok-number.number c.args.loaded.tree z)) planned
     (subst (λ (z : Tree). AddsTo calls v.desk w (Draft c.in_ok-number.number z c.deref-2.result.now.plan)) tree c.in_ok-number.ensures.entry)))
+    (calm _ _ same)
     (λ o log h. c.args.loaded.planned)
-    (shelf_draft calls plan change v _ _ _ _ (search rules) (search rules) (search rules))
+    (shelf_draft calls faults plan change v _ _ _ _ (search rules) (search rules) (search rules))
 
 pub returns-in_err-number-clause-err : goal.returns-in_err-number-clause-err
 returns-in_err-number-clause-err g c =
     let calls = g.F.Fixtures.calls in
     let v = c.args.self.now in
     let desk : OnErr c.from_residual.result (KeepsDesk calls v.desk c.draft.new.self) = search rules in
-    on_err c.from_residual.result (KeepsDesk calls v.desk c.draft.new.self) _ (λ k. keeps calls g.M.ModuleSet.plan g.M.ModuleSet.change v _ k (shelf_same v _ c.reserve.ensures.items c.reserve.ensures.len c.reserve.ensures.capacity refl)) desk
+    let same : g.F.Fixtures.faults c.draft.new.self.fixtures ≡ g.F.Fixtures.faults v.desk.fixtures = search rules in
+    on_err c.from_residual.result (KeepsDesk calls v.desk c.draft.new.self) _ (λ k. keeps calls g.F.Fixtures.faults g.M.ModuleSet.plan g.M.ModuleSet.change v _ k same (shelf_same v _ c.reserve.ensures.items c.reserve.ensures.len c.reserve.ensures.capacity refl)) desk
 
 pub returns-clause-draft : goal.returns-clause-draft
 returns-clause-draft g c =

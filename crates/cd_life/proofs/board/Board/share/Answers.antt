@@ -13,7 +13,7 @@ returns-then-is_halt-clause-here g c = here_halted c.args.self.now c.args.serial
 
 pub returns-then-is_halt-clause-state : goal.returns-then-is_halt-clause-state
 returns-then-is_halt-clause-state g c opening log h low free =
-    here_halted c.args.self.now c.args.serial (sym c.is_halt.ensures ∙ search rules) ∙ conf_is g.F.Fixtures.calls g.M.ModuleSet.plan g.M.ModuleSet.change opening c.args.self.now log h c.args.serial low free
+    here_halted c.args.self.now c.args.serial (sym c.is_halt.ensures ∙ search rules) ∙ conf_is g.F.Fixtures.calls g.F.Fixtures.faults g.M.ModuleSet.plan g.M.ModuleSet.change opening c.args.self.now log h c.args.serial low free
 
 pub unreachable-requires : goal.unreachable-requires
 unreachable-requires g c =
@@ -21,7 +21,7 @@ unreachable-requires g c =
     let n : ℕ = c.args.serial in
     let u = c.requires in
     let flag : (b.desk.halted && (n == b.desk.serial)) ≡ false = sym c.is_halt.ensures ∙ search rules in
-    let t = conf_there_is g.F.Fixtures.calls g.M.ModuleSet.plan g.M.ModuleSet.change u.0 b u.1 u.2 n c.if-serial-eq0.false u.3 u.4 flag in
+    let t = conf_there_is g.F.Fixtures.calls g.F.Fixtures.faults g.M.ModuleSet.plan g.M.ModuleSet.change u.0 b u.1 u.2 n c.if-serial-eq0.false u.3 u.4 flag in
     let none : tree_at b.kept.items n ≡ None = ap (λ z. tree_at z n) (sym c.as_slice.ensures.value) ∙ c.in_default.ensures in
     let f : false ≡ true = some_none t.0 (sym t.1 ∙ none) in cc
 
@@ -53,4 +53,4 @@ returns-clause-state g c opening log h low free =
     let there : slice_get b.kept.items place ≡ Some k = slice_get_read b.kept.items _ place k refl (slice_get_within b.kept.items place p.0 p.1) (search rules) in
     let flag : (b.desk.halted && (n == b.desk.serial)) ≡ false = sym c.is_halt.ensures ∙ search rules in
     let same : (arc_value c.in_ok-try_clone-3.field-0).tree ≡ tree_of p.0 = ap (λ z. z.tree) (let one : arc_value c.in_ok-try_clone-3.field-0 ≡ arc_value k.loaded = search rules in one) ∙ ap tree_of (same_at b.kept.items place k p.0 there p.1) in
-    ap (λ z. Conf.Of z) same ∙ (sym (here_is b n (tree_of p.0) flag c.if-serial-eq0.false p.3) ∙ conf_is g.F.Fixtures.calls g.M.ModuleSet.plan g.M.ModuleSet.change opening b log h n low free)
+    ap (λ z. Conf.Of z) same ∙ (sym (here_is b n (tree_of p.0) flag c.if-serial-eq0.false p.3) ∙ conf_is g.F.Fixtures.calls g.F.Fixtures.faults g.M.ModuleSet.plan g.M.ModuleSet.change opening b log h n low free)

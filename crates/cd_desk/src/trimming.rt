@@ -1,0 +1,117 @@
+ghost use Rattle.std.specs.Prelude.{◌≡◌, ◌+◌, ℕ, true, length, slice_get};
+ghost use Rattle.std.specs.Vec.{vec_capacity};
+ghost use Rattle.cd_legal.specs.State.{holds};
+ghost use Rattle.cd_tree.specs.declared.tree.Tree.{Tree};
+ghost use Rattle.cd_desk.specs.declared.closing.Closing.{Closing};
+ghost use Rattle.cd_desk.specs.declared.left.Left.{Left};
+ghost use Rattle.cd_desk.specs.Desks.{Keeps};
+ghost use Rattle.cd_desk.specs.Drafting.{drafts_in};
+ghost use Rattle.cd_desk.specs.Lefts.{IsLeft};
+ghost use Rattle.cd_desk.specs.Closings.{IsClosing, MayClean, CanRetire};
+ghost use Rattle.cd_desk.specs.Trimming.{is_done, is_closed_row, Trims, IsTrimmed};
+
+use crate::books::Books;
+use crate::closing::Closing;
+use crate::desk::Desk;
+use crate::drafting::end_all;
+use crate::line::Line;
+use crate::row::Row;
+use cd_legal::Life;
+use cd_outside::Fixtures;
+
+// Whether it is given up, or its serial is retired.
+fn is_done(life: Life, retired: bool) -> bool
+    ensures { result ≡ is_done life retired }
+{
+    match life {
+        Life::Live => false,
+        Life::Published(_) => retired,
+        Life::Abandoned => true,
+    }
+}
+
+// Whether the draft of the first row, if there is one, is closed.
+fn is_first_closed(rows: &[Row]) -> bool
+    ensures { result ≡ holds is_closed_row (slice_get rows.now 0) }
+{
+    let Some(row) = rows.first() else {
+        return false;
+    };
+    is_done(row.life, row.retired)
+        && (row.apps.ended == row.apps.opened && row.modules.ended == row.modules.opened)
+}
+
+// Spends a line of which each one that was opened is ended.
+fn end_line(line: Line)
+    requires { line.ended ≡ line.opened }
+{
+    let Line {
+        part: _,
+        plan: _,
+        parts,
+        opened: _,
+        ended: _,
+    } = line;
+    end_all(parts);
+}
+
+// Spends the row of a closed draft.
+pub(crate) fn end_row(row: Row)
+    requires { is_closed_row row ≡ true }
+{
+    let Row {
+        tree: _,
+        plan: _,
+        modules,
+        apps,
+        failed: _,
+        life: _,
+        retired: _,
+    } = row;
+    end_line(modules);
+    end_line(apps);
+}
+
+// The first row goes, which is that of a closed draft.
+fn drop_first(books: &mut Books)
+    requires { holds is_closed_row (slice_get books.old.rows.items 0) ≡ true }
+    ensures trims { Trims books.old books.new }
+    ensures one { length books.new.rows.items + 1 ≡ length books.old.rows.items }
+    ensures capacity { vec_capacity books.new.rows ≡ vec_capacity books.old.rows }
+{
+    let row = books.rows.remove(0);
+    books.first += 1;
+    end_row(row);
+}
+
+// The rows of closed drafts go, up to the first of a draft that is not closed.
+fn trim(books: &mut Books)
+    ensures trims { Trims books.old books.new }
+    ensures trimmed { IsTrimmed books.new }
+    ensures capacity { vec_capacity books.new.rows ≡ vec_capacity books.old.rows }
+{
+    while is_first_closed(books.rows.as_slice()) {
+        drop_first(books);
+    }
+}
+
+impl<F: Fixtures> Desk<F> {
+    /// Spends a closing of which nothing is left, and lets the rows of closed drafts go, up to the first draft that is not
+    /// closed. It takes no memory.
+    pub fn closed(&mut self, closing: Closing)
+        requires apps { closing.apps ≡ 0 }
+        requires instances { closing.instances ≡ 0 }
+        ensures keeps { Keeps F.calls self.old self.new }
+        ensures same { self.new ≡ record self.old { books = self.new.books } }
+        ensures drafts { drafts_in self.new.books ≡ drafts_in self.old.books }
+        ensures lefts { (t : Tree) (left : Left) → IsLeft self.old.books t left → IsLeft self.new.books t left }
+        ensures closings { (other : Closing) → IsClosing self.old other → IsClosing self.new other }
+        ensures clean { (draft : ℕ) → MayClean self.old.books draft → MayClean self.new.books draft }
+        ensures retire { (serial : ℕ) → CanRetire self.old serial → CanRetire self.new serial }
+        ensures trimmed { IsTrimmed self.new.books }
+        ensures capacity { vec_capacity self.new.books.rows ≡ vec_capacity self.old.books.rows }
+    {
+        closing.end();
+        trim(&mut self.books);
+    }
+}
