@@ -1,0 +1,12 @@
+mod Examples
+mod Signing
+mod Halts
+mod PartEntries
+mod Parted
+mod Gathered
+mod Untouched
+mod Alike
+mod Beginning
+mod Ending
+mod Going
+mod Joined

@@ -1,0 +1,103 @@
+-- Lanes that were not served tell of no connection.
+use Rattle.std.proofs.Common.{◌≡◌, ◌≤◌, ℕ, ◌+◌, ◌-◌, min, List, [], ◌∷◌, ◌++◌, Option, Some, None, refl, ap, sym, ◌∙◌, arith}
+use Rattle.std.proofs.lemmas.List.{append-nil}
+use Rattle.std.proofs.lemmas.List.Sums.{sum_by-cons}
+use mathlib.Core.List.{IsPrefix}
+use Rattle.cd_outside.specs.declared.past.Past.{Past}
+use Rattle.cd_outside.specs.Counts.{count_end, Covers}
+use Rattle.cd_legal.specs.declared.entry.Signed.{Signed}
+use Rattle.cd_legal.specs.Entry.{mine}
+use Rattle.cd_legal.specs.Legal.{IsLegal}
+use Rattle.cd_legal.specs.Placed.{placed}
+use Rattle.cd_legal.proofs.Fresh.{legal-fresh}
+use Rattle.cd_legal.proofs.Logs.{prefix_trans}
+use Rattle.cd_legal.proofs.Placed.{placed-stays}
+use Rattle.cd_serve.specs.Joining.{Span, Tale, TaleOf, TalesFrom, of_tale, mishaps, all_of, AllTell, of_those, EachCovered, NoneAtEnd, AllCovered, LanesTold}
+use Rattle.cd_serve.specs.Lanes.{early_in, answered_in}
+use Rattle.cd_serve.specs.Meanings.{Meaning}
+use Rattle.cd_host.specs.Joining.{AreBetween}
+use Rattle.cd_host.specs.Lanes.{AreUntouched}
+use Rattle.cd_host.specs.Parts.{IsAlone}
+use Rattle.cd_host.proofs.Going.{alone-front}
+
+abbrev no_tale : Tale
+no_tale = record { connections = []; endings = []; failed = 0 }
+
+-- a lane that tells has the empty tale
+abbrev silent : Option Past → Option Tale
+silent None = None
+silent (Some p) = Some no_tale
+
+abbrev all_silent : List Span → List (Option Tale)
+all_silent [] = []
+all_silent (lane ∷ lanes) = silent lane.told_now ∷ all_silent lanes
+
+nothing-counted : (f : Tale → ℕ) → f no_tale ≡ 0 → (told : Option Past) → of_tale f (silent told) ≡ 0
+nothing-counted f none None = refl
+nothing-counted f none (Some p) = none
+
+all-nothing : (f : Tale → ℕ) → f no_tale ≡ 0 → (lanes : List Span) → all_of f (all_silent lanes) ≡ 0
+all-nothing f none [] = refl
+all-nothing f none (lane ∷ lanes) =
+    let here = nothing-counted f none lane.told_now in
+    let rest = all-nothing f none lanes in
+    let sum = sum_by-cons (of_tale f) (silent lane.told_now) (all_silent lanes) in
+    omega arith
+
+module _ (m : Meaning) (history : List Signed) (legal : IsLegal history) where
+  no-tale : (k : ℕ) (lane : Span) (told : Option Past) → mine k history ≡ [] → lane.told_now ≡ told → lane.told_now ≡ lane.told_before → TaleOf m history k lane (silent told)
+  no-tale k lane None none is same = (sym same ∙ is, is)
+  no-tale k lane (Some p) none is same = (
+    p,
+    p,
+    sym same ∙ is,
+    is,
+    record {
+      added = sym (append-nil p.connections);
+      told = record { whole = placed-stays k [] history none; each = tt };
+      fresh = legal-fresh history k legal;
+      failed = omega arith;
+    },
+  )
+
+  no-tales : (k : ℕ) (lanes : List Span) → ((j : ℕ) → k ≤ j → mine j history ≡ []) → AreUntouched lanes → TalesFrom m history k lanes (all_silent lanes)
+  no-tales k [] none all = tt
+  no-tales k (lane ∷ lanes) none all = (no-tale k lane lane.told_now (none k (omega arith)) refl all.0, no-tales (k + 1) lanes (λ j low. none j (omega (arith, low))) all.2)
+
+  covered-one : (told : Option Past) (before now : ℕ) → now ≡ before → Covers (of_tale mishaps (silent told)) before now 0
+  covered-one told before now same = let none = nothing-counted mishaps refl told in λ a b. omega arith
+
+  each-covered : (lanes : List Span) → AreUntouched lanes → EachCovered lanes (all_silent lanes) 0
+  each-covered [] all = tt
+  each-covered (lane ∷ lanes) all = (covered-one lane.told_now lane.failed_before lane.failed_now all.1, each-covered lanes all.2)
+
+  -- those that tell have failed as often as they had
+  as-often : (told : Option Past) (lane : Span) (lanes : List Span) (ts : List (Option Tale)) → lane.failed_now ≡ lane.failed_before → of_those (λ l. l.failed_before) lanes ts ≤ of_those (λ l. l.failed_now) lanes ts
+      → of_those (λ l. l.failed_before) (lane ∷ lanes) (silent told ∷ ts) ≤ of_those (λ l. l.failed_now) (lane ∷ lanes) (silent told ∷ ts)
+  as-often None lane lanes ts same rest = rest
+  as-often (Some p) lane lanes ts same rest = omega arith
+
+  all-as-often : (lanes : List Span) → AreUntouched lanes → of_those (λ l. l.failed_before) lanes (all_silent lanes) ≤ of_those (λ l. l.failed_now) lanes (all_silent lanes)
+  all-as-often [] all = omega arith
+  all-as-often (lane ∷ lanes) all = as-often lane.told_now lane lanes (all_silent lanes) all.1 (all-as-often lanes all.2)
+
+  all-covered : (lanes : List Span) → AreUntouched lanes → AllCovered lanes (all_silent lanes) 0
+  all-covered lanes all =
+      let none = all-nothing mishaps refl lanes in
+      let often = all-as-often lanes all in λ a b. omega arith
+
+  pub untouched : (lanes : List Span) → ((k : ℕ) → 1 ≤ k → mine k history ≡ []) → AreUntouched lanes → LanesTold m history lanes 0 0
+  untouched lanes none all = record {
+    tales = all_silent lanes;
+    told = no-tales 1 lanes none all;
+    covered = each-covered lanes all;
+    all_covered = all-covered lanes all;
+    cut_early = λ tell. omega arith;
+    answers = λ tell. let answered = all-nothing (λ t. answered_in t.endings) refl lanes in sym (ap (λ (n : ℕ). min n count_end) answered);
+  }
+
+pub unsigned : (start found history : List Signed) → IsPrefix start found → IsPrefix found history → IsAlone history → AreBetween start found history
+unsigned start found history p q alone = λ k pos. (
+  alone-front start history (prefix_trans start found history p q) alone k pos,
+  alone k pos ∙ sym (alone-front found history q alone k pos),
+)

@@ -1,0 +1,52 @@
+-- The lanes of a run: what is known of each when all passes have come together.
+use Rattle.std.specs.Prelude.{◌≡◌, ◌⊎◌, ◌≤◌, ◌+◌, ◌++◌, ℕ, true, List, [], ◌∷◌, Option, Some, None}
+use mathlib.Core.List.{IsPrefix}
+use Rattle.cd_outside.specs.declared.accepted.Accepted.TheVariants as accepted
+use Rattle.cd_outside.specs.declared.past.Past.{Past}
+use Rattle.cd_outside.specs.Telling.{TellsOn}
+use Rattle.cd_legal.specs.declared.entry.Signed.{Signed}
+use Rattle.cd_legal.specs.Entry.{mine}
+use Rattle.cd_legal.specs.Legal.{state_at}
+use Rattle.cd_legal.specs.Placed.{Placed, placed, placed_entries}
+use Rattle.cd_gate.specs.Growing.{all_signed}
+use Rattle.cd_serve.specs.declared.lane_end.LaneHow.TheVariants as how
+use Rattle.cd_serve.specs.Meanings.{Meaning}
+use Rattle.cd_serve.specs.Lanes.{IsServed}
+use Rattle.cd_serve.specs.Joining.{Span, Slot}
+
+-- ---- what lanes tell
+
+-- a lane that tells its past tells that no more comes, or that it could not accept
+abbrev pub IsAtEnd : Option Past → Type 0
+IsAtEnd None = Unit {0}
+IsAtEnd (Some past) = (past.last ≡ Some accepted.Ended) ⊎ (past.last ≡ Some accepted.Failed)
+
+-- so each of these lanes
+abbrev pub AreAtEnd : List Span → Type 0
+AreAtEnd [] = Unit {0}
+AreAtEnd (lane ∷ lanes) = IsAtEnd lane.told_now × AreAtEnd lanes
+
+-- these lanes tell what they told, and have failed as often as they had
+abbrev pub AreUntouched : List Span → Type 0
+AreUntouched [] = Unit {0}
+AreUntouched (lane ∷ lanes) = (lane.told_now ≡ lane.told_before) × (lane.failed_now ≡ lane.failed_before) × AreUntouched lanes
+
+-- ---- lanes that were served
+
+-- Over one history, of which the program had seen `start` before the lanes were served, and `found` after that: pass k has served
+-- the lane, had seen the start before, and made these entries and no others; what it has seen then begins what was found.
+pub record IsLane (m : Meaning) (start found history : List Signed) (k : ℕ) (s : Slot) : Type 0 where
+  pub later : s.lane.failed_before ≤ s.lane.failed_now
+  pub begun : IsPrefix start s.seen_before
+  pub seen : IsPrefix s.seen_before s.seen_now
+  pub over : IsPrefix s.seen_now found
+  pub own : List Placed
+  pub added : placed k s.seen_now ≡ placed k s.seen_before ++ own
+  pub only : mine k history ≡ all_signed k (placed_entries own)
+  pub served : TellsOn (IsServed m k s.seen_now own s.lane.failed_before s.lane.failed_now s.end) s.lane.told_before s.lane.told_now
+  pub halted : s.end.how ≡ how.Halted → (state_at s.seen_now).halted ≡ true
+
+-- lane after lane, of which the first was served by pass k
+abbrev pub LanesFrom : Meaning → List Signed → List Signed → List Signed → ℕ → List Slot → Type 0
+LanesFrom m start found history k [] = Unit {0}
+LanesFrom m start found history k (s ∷ ss) = IsLane m start found history k s × LanesFrom m start found history (k + 1) ss
