@@ -54,14 +54,14 @@ live_none : (b : Bool) → (b ≡ true → true ≡ false) → not b ≡ true
 live_none true refuted = sym (refuted refl)
 live_none false refuted = refl
 
-all_by : (test : Drafted → Bool) (xs : List Drafted) → ((i : ℕ) (x : Drafted) → slice_get xs i ≡ Some x → test x ≡ true) → list_all test xs ≡ true
+pub all_by : (test : Drafted → Bool) (xs : List Drafted) → ((i : ℕ) (x : Drafted) → slice_get xs i ≡ Some x → test x ≡ true) → list_all test xs ≡ true
 all_by test [] each = refl
 all_by test (x ∷ xs) each = both (test x) _ (each zero x refl) (all_by test xs (λ i y is. each (suc i) y is))
 
 lower : (n k : ℕ) → n < suc k → ¬ (n ≡ k) → n < k
 lower n k low ne = grind arith
 
-stopped_at : (s : State) (k n : ℕ) → n < k → all_apps_stopped s k ≡ true → apps_stopped s n ≡ true
+pub stopped_at : (s : State) (k n : ℕ) → n < k → all_apps_stopped s k ≡ true → apps_stopped s n ≡ true
 stopped_at s zero n low is = absurd (omega arith)
 stopped_at s (suc k) n low is = ⊎_elim
     (λ q. ap (apps_stopped s) q.1 ∙ first (apps_stopped s k) _ is)

@@ -5,3 +5,13 @@ pub mod Told
 pub mod Requested
 pub mod Drafted
 pub mod Ended
+pub mod Unended
+pub mod Endings
+pub mod Dues
+pub mod Leftovers
+pub mod Noted
+pub mod OneByOne
+pub mod GivenUp
+pub mod Retirable
+pub mod InHand
+pub mod Wholes

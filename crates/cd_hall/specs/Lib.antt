@@ -4,3 +4,5 @@ pub mod Tickets
 pub mod Drafts
 pub mod Calls
 pub mod Ends
+pub mod Publishing
+pub mod Halting

@@ -13,3 +13,7 @@ pub enum BeginFault {
 pub struct KeyFailed {
     pub key: Key,
 }
+
+/// The host was halted before.
+#[derive(Clone, Copy, Debug, PartialEq, Eq)]
+pub struct Halted;

@@ -1,6 +1,7 @@
 // Which entry is added, by what the call hands in.
 use cd_gate::Names;
-use cd_life::{Draft, Step};
+use cd_legal::Change;
+use cd_life::{Closing, Draft, Step};
 use cd_module_set::ModuleSet;
 use cd_outside::Key;
 use std::marker::PhantomData;
@@ -52,4 +53,56 @@ impl<M: ModuleSet> Names<(Snapshot<Draft<M>>, Snapshot<Result<Step, Key>>)> for 
     ghost use Rattle.cd_hall.specs.Drafts.{held, started_entry};
 
     ghost entry = { λ x. started_entry (held x.0.value) (failed_in x.1.value) };
+}
+
+pub(crate) struct NamesPublish<M> {
+    set: PhantomData<M>,
+}
+
+impl<M: ModuleSet> Names<(Snapshot<Draft<M>>, u32, Snapshot<Change>)> for NamesPublish<M> {
+    ghost use Rattle.std.specs.Prelude.{◌+◌};
+    ghost use Rattle.cd_legal.specs.declared.entry.Entry.TheVariants.{Publish};
+
+    ghost entry = { λ x. Publish x.0.value.left.number (x.1 + 1) x.1 x.2.value };
+}
+
+pub(crate) struct NamesAbandon;
+
+impl Names<Closing> for NamesAbandon {
+    ghost use Rattle.cd_legal.specs.declared.entry.Entry.TheVariants.{Abandon};
+
+    ghost entry = { λ closing. Abandon closing.number };
+}
+
+pub(crate) struct NamesStopped;
+
+impl Names<Closing> for NamesStopped {
+    ghost use Rattle.cd_legal.specs.declared.entry.Entry.TheVariants.{Stopped};
+
+    ghost entry = { λ closing. Stopped closing.number closing.apps };
+}
+
+pub(crate) struct NamesCleaned;
+
+impl Names<Closing> for NamesCleaned {
+    ghost use Rattle.cd_legal.specs.declared.entry.Entry.TheVariants.{Cleaned};
+
+    ghost entry = { λ closing. Cleaned closing.number closing.instances };
+}
+
+pub(crate) struct NamesRetire;
+
+impl Names<u32> for NamesRetire {
+    ghost use Rattle.cd_legal.specs.declared.entry.Entry.TheVariants.{Retire};
+
+    ghost entry = { λ serial. Retire serial };
+}
+
+pub(crate) struct NamesHalt;
+
+impl Names<u32> for NamesHalt {
+    ghost use Rattle.std.specs.Prelude.{◌+◌};
+    ghost use Rattle.cd_legal.specs.declared.entry.Entry.TheVariants.{Halt};
+
+    ghost entry = { λ serial. Halt (serial + 1) };
 }

@@ -161,14 +161,14 @@ impl<M: ModuleSet, F: Fixtures> Hall<M, F> {
 }
 
 // Whether the serial is superseded, and no request runs under it.
-fn is_due<M: ModuleSet, F: Fixtures>(board: &Board<M, F>, serial: u32) -> bool
+pub(crate) fn is_due<M: ModuleSet, F: Fixtures>(board: &Board<M, F>, serial: u32) -> bool
     ensures { (opening : _) (log : List Signed) → Stood F.calls F.faults M.plan M.change opening board.now log → result ≡ (nat_lt serial (state_at log).serial && (open_at serial (state_at log).tickets == 0)) }
 {
     serial < board.serial() && board.tickets(serial) == 0
 }
 
 // The duty of the serial, where it is due.
-fn duty_of(serial: u32, due: bool) -> Option<Duty>
+pub(crate) fn duty_of(serial: u32, due: bool) -> Option<Duty>
     ensures { duties_in result ≡ cond due (serial ∷ []) [] }
 {
     if due { Some(Duty { serial }) } else { None }
