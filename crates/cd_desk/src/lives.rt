@@ -1,4 +1,5 @@
 ghost use Rattle.std.specs.Prelude.{◌≡◌, ◌+◌, None};
+ghost use Rattle.std.specs.Vec.{vec_capacity};
 ghost use Rattle.cd_legal.specs.declared.entry.Change.{Change};
 ghost use Rattle.cd_legal.specs.declared.entry.Entry.TheVariants as entry;
 ghost use Rattle.cd_desk.specs.Desks.{AddsTo};
@@ -22,6 +23,7 @@ impl<F: Fixtures> Desk<F> {
         ensures serial { self.new.serial ≡ self.old.serial + 1 }
         ensures halted { self.new.halted ≡ self.old.halted }
         ensures faults { F.faults self.new.fixtures ≡ F.faults self.old.fixtures }
+        ensures room { vec_capacity self.new.books.rows ≡ vec_capacity self.old.books.rows }
     {
         let place = place_of(&self.books, draft);
         self.serial += 1;
@@ -37,6 +39,7 @@ impl<F: Fixtures> Desk<F> {
         ensures at { IsClosing self.new result }
         ensures clean { MayClean self.new.books left.number }
         ensures faults { F.faults self.new.fixtures ≡ F.faults self.old.fixtures }
+        ensures room { vec_capacity self.new.books.rows ≡ vec_capacity self.old.books.rows }
     {
         let place = place_of(&self.books, left.number);
         set_life(&mut self.books, place, Life::Abandoned);

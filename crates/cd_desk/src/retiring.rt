@@ -1,4 +1,5 @@
 ghost use Rattle.std.specs.Prelude.{◌≡◌, ◌<◌, ◌+◌, ◌^◌, false, true, Some, List};
+ghost use Rattle.std.specs.Vec.{vec_capacity};
 ghost use Rattle.cd_legal.specs.declared.entry.Entry.TheVariants as entry;
 ghost use Rattle.cd_legal.specs.declared.entry.Signed.{Signed};
 ghost use Rattle.cd_legal.specs.State.{has_number};
@@ -33,6 +34,7 @@ impl<F: Fixtures> Desk<F> {
         requires { CanRetire self.old serial }
         ensures entry { AddsTo F.calls self.old self.new (entry.Retire serial) }
         ensures faults { F.faults self.new.fixtures ≡ F.faults self.old.fixtures }
+        ensures room { vec_capacity self.new.books.rows ≡ vec_capacity self.old.books.rows }
     {
         if serial == 0 {
             self.opening_retired = true;
@@ -51,6 +53,7 @@ impl<F: Fixtures> Desk<F> {
         ensures entry { AddsTo F.calls self.old self.new (entry.Halt (self.old.serial + 1)) }
         ensures halted { self.new.halted ≡ true }
         ensures faults { F.faults self.new.fixtures ≡ F.faults self.old.fixtures }
+        ensures room { vec_capacity self.new.books.rows ≡ vec_capacity self.old.books.rows }
     {
         let last = are_stopped(self.books.rows.as_slice(), self.serial);
         self.serial += 1;

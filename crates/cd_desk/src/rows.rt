@@ -1,4 +1,5 @@
 ghost use Rattle.std.specs.Prelude.{◌≡◌, ◌<◌, ◌+◌, ◌≤◌, IfErr, length};
+ghost use Rattle.std.specs.Vec.{vec_capacity};
 ghost use Rattle.cd_outside.specs.Counts.{Rose};
 ghost use Rattle.cd_legal.specs.declared.part.Part.TheVariants as part;
 ghost use Rattle.cd_desk.specs.declared.row.Row.{Row};
@@ -25,6 +26,7 @@ pub(crate) fn make_in<F: Fixtures>(
 ) -> Result<(), Key>
     requires can { CanOpen part.Instance books.old place }
     ensures opens { Opens part.Instance place books.old books.new (F.calls fixtures.old) (F.calls fixtures.new) result }
+    ensures capacity { vec_capacity books.new.rows ≡ vec_capacity books.old.rows }
     ensures later { F.faults fixtures.old ≤ F.faults fixtures.new }
     ensures cause { IfErr result (λ _. Rose (F.faults fixtures.old) (F.faults fixtures.new)) }
 {
@@ -43,6 +45,7 @@ pub(crate) fn start_in<F: Fixtures>(
 ) -> Result<(), Key>
     requires can { CanOpen part.App books.old place }
     ensures opens { Opens part.App place books.old books.new (F.calls fixtures.old) (F.calls fixtures.new) result }
+    ensures capacity { vec_capacity books.new.rows ≡ vec_capacity books.old.rows }
     ensures later { F.faults fixtures.old ≤ F.faults fixtures.new }
     ensures cause { IfErr result (λ _. Rose (F.faults fixtures.old) (F.faults fixtures.new)) }
 {
@@ -57,6 +60,7 @@ pub(crate) fn start_in<F: Fixtures>(
 pub(crate) fn set_life(books: &mut Books, place: usize, life: Life)
     requires there { place < length books.old.rows.items }
     ensures lives { Lives life place books.old books.new }
+    ensures capacity { vec_capacity books.new.rows ≡ vec_capacity books.old.rows }
 {
     books.rows[place].life = life;
 }
@@ -66,6 +70,7 @@ pub(crate) fn stop_in<F: Fixtures>(books: &mut Books, fixtures: &mut F, place: u
     requires can { CanEnd part.App books.old place }
     ensures ends { Ends part.App place books.old books.new (F.calls fixtures.old) (F.calls fixtures.new) }
     ensures faults { F.faults fixtures.new ≡ F.faults fixtures.old }
+    ensures capacity { vec_capacity books.new.rows ≡ vec_capacity books.old.rows }
 {
     let draft = books.first + place as u64;
     books.rows[place]
@@ -78,6 +83,7 @@ pub(crate) fn clean_in<F: Fixtures>(books: &mut Books, fixtures: &mut F, place: 
     requires can { CanEnd part.Instance books.old place }
     ensures ends { Ends part.Instance place books.old books.new (F.calls fixtures.old) (F.calls fixtures.new) }
     ensures faults { F.faults fixtures.new ≡ F.faults fixtures.old }
+    ensures capacity { vec_capacity books.new.rows ≡ vec_capacity books.old.rows }
 {
     let draft = books.first + place as u64;
     books.rows[place]
@@ -89,6 +95,7 @@ pub(crate) fn clean_in<F: Fixtures>(books: &mut Books, fixtures: &mut F, place: 
 pub(crate) fn set_retired(books: &mut Books, place: usize)
     requires there { place < length books.old.rows.items }
     ensures retires { Retires place books.old books.new }
+    ensures capacity { vec_capacity books.new.rows ≡ vec_capacity books.old.rows }
 {
     books.rows[place].retired = true;
 }

@@ -109,7 +109,7 @@ impl<F: Fixtures> Desk<F> {
         ensures clean { (draft : ℕ) → MayClean self.old.books draft → MayClean self.new.books draft }
         ensures retire { (serial : ℕ) → CanRetire self.old serial → CanRetire self.new serial }
         ensures trimmed { IsTrimmed self.new.books }
-        ensures capacity { vec_capacity self.new.books.rows ≡ vec_capacity self.old.books.rows }
+        ensures room { vec_capacity self.new.books.rows ≡ vec_capacity self.old.books.rows }
     {
         closing.end();
         trim(&mut self.books);

@@ -10,6 +10,7 @@ ghost use Rattle.cd_desk.specs.Drafting.{drafts_in};
 ghost use Rattle.cd_desk.specs.Lefts.{IsLeft, one_made, one_started, step_at};
 ghost use Rattle.cd_life.specs.Changes.{conf_here};
 ghost use Rattle.cd_life.specs.Fits.{Suits};
+ghost use Rattle.cd_life.specs.Rooms.{KeepsRoom};
 ghost use Rattle.cd_life.specs.Standing.{Adds, Keeps};
 
 use crate::board::{Board, Draft};
@@ -78,6 +79,7 @@ impl<M: ModuleSet, F: Fixtures> Board<M, F> {
         ensures draft { IsLeft self.new.desk.books (arc_value draft.new.loaded).tree draft.new.left }
         ensures loaded { draft.new.loaded ≡ draft.old.loaded }
         ensures step { IfOk result (λ step. step ≡ step_at draft.new.left.made draft.new.left.modules) }
+        ensures room { KeepsRoom self.old self.new }
         ensures cause { IfErr result (λ _. Rose (F.faults self.old.desk.fixtures) (F.faults self.new.desk.fixtures)) }
     {
         self.desk.make_next(&mut draft.left)
@@ -94,6 +96,7 @@ impl<M: ModuleSet, F: Fixtures> Board<M, F> {
         ensures draft { IsLeft self.new.desk.books (arc_value draft.new.loaded).tree draft.new.left }
         ensures loaded { draft.new.loaded ≡ draft.old.loaded }
         ensures step { IfOk result (λ step. step ≡ step_at draft.new.left.started draft.new.left.apps) }
+        ensures room { KeepsRoom self.old self.new }
         ensures cause { IfErr result (λ _. Rose (F.faults self.old.desk.fixtures) (F.faults self.new.desk.fixtures)) }
     {
         self.desk.start_next(&mut draft.left)
@@ -113,6 +116,7 @@ impl<M: ModuleSet, F: Fixtures> Board<M, F> {
         requires change { Suits M.change (conf_here self.old from) change (arc_value draft.loaded).tree }
         ensures entry { Adds F.calls F.faults M.plan M.change self.old self.new (entry.Publish draft.left.number (from + 1) from change) }
         ensures serial { self.new.desk.serial ≡ from + 1 }
+        ensures room { KeepsRoom self.old self.new }
     {
         let Draft { left, loaded } = draft;
         drop(change);
@@ -127,6 +131,7 @@ impl<M: ModuleSet, F: Fixtures> Board<M, F> {
         requires { slice_get self.old.desk.tickets.by_caller.items caller ≡ Some None }
         ensures entry { Adds F.calls F.faults M.plan M.change self.old self.new (entry.Begin caller result) }
         ensures serial { result ≡ self.old.desk.serial }
+        ensures room { KeepsRoom self.old self.new }
     {
         self.desk.begin(caller)
     }

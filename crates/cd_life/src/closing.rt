@@ -11,6 +11,7 @@ ghost use Rattle.cd_desk.specs.Drafting.{drafts_in};
 ghost use Rattle.cd_desk.specs.Lefts.{IsLeft, step_at};
 ghost use Rattle.cd_desk.specs.Closings.{IsClosing, MayClean, CanRetire, Leaves};
 ghost use Rattle.cd_desk.specs.Trimming.{IsTrimmed};
+ghost use Rattle.cd_life.specs.Rooms.{KeepsRoom};
 ghost use Rattle.cd_life.specs.Standing.{Stood, Adds, Keeps};
 
 use crate::board::{Board, Draft};
@@ -37,6 +38,7 @@ impl<M: ModuleSet, F: Fixtures> Board<M, F> {
         ensures closing { result ≡ record { number = draft.left.number; serial = None; apps = draft.left.started; instances = draft.left.made } }
         ensures at { IsClosing self.new.desk result }
         ensures clean { MayClean self.new.desk.books draft.left.number }
+        ensures room { KeepsRoom self.old self.new }
     {
         let Draft { left, loaded } = draft;
         drop(loaded);
@@ -53,6 +55,7 @@ impl<M: ModuleSet, F: Fixtures> Board<M, F> {
         ensures at { IsClosing self.new.desk closing.new }
         ensures clean { MayClean self.old.desk.books closing.old.number → MayClean self.new.desk.books closing.old.number }
         ensures step { result ≡ step_at closing.new.apps 0 }
+        ensures room { KeepsRoom self.old self.new }
     {
         self.desk.stop(closing)
     }
@@ -68,6 +71,7 @@ impl<M: ModuleSet, F: Fixtures> Board<M, F> {
         ensures at { IsClosing self.new.desk closing.new }
         ensures clean { MayClean self.new.desk.books closing.old.number }
         ensures step { result ≡ step_at closing.new.instances 0 }
+        ensures room { KeepsRoom self.old self.new }
     {
         self.desk.clean(closing)
     }
@@ -85,6 +89,7 @@ impl<M: ModuleSet, F: Fixtures> Board<M, F> {
         ensures clean { (draft : ℕ) → MayClean self.old.desk.books draft → MayClean self.new.desk.books draft }
         ensures retire { (serial : ℕ) → CanRetire self.old.desk serial → CanRetire self.new.desk serial }
         ensures trimmed { IsTrimmed self.new.desk.books }
+        ensures room { KeepsRoom self.old self.new }
     {
         self.desk.closed(closing);
     }
@@ -129,6 +134,7 @@ impl<M: ModuleSet, F: Fixtures> Board<M, F> {
         requires bound { self.old.desk.serial + 1 < 2 ^ 32 }
         ensures entry { Adds F.calls F.faults M.plan M.change self.old self.new (entry.Halt (self.old.desk.serial + 1)) }
         ensures halted { self.new.desk.halted ≡ true }
+        ensures room { KeepsRoom self.old self.new }
     {
         self.desk.halt();
     }

@@ -68,4 +68,5 @@ returns g c =
         retired = refl;
       };
       faults = c.end_last.ensures.faults;
+      capacity = search rules;
     }

@@ -20,4 +20,4 @@ returns c =
     let rows = c.args.books.now.rows.items in
     let r = c.index_mut.result.now in
     let there = slice_get_read rows _ c.args.place r refl c.requires.there (search rules) in
-    record { lives = record { changes = record { was = r; is = _; there = there; rows = refl; first = refl; tree = refl; plan = refl }; pool = refl; modules = refl; apps = refl; failed = refl; life = refl; retired = refl } }
+    record { lives = record { changes = record { was = r; is = _; there = there; rows = refl; first = refl; tree = refl; plan = refl }; pool = refl; modules = refl; apps = refl; failed = refl; life = refl; retired = refl }; capacity = search rules }
