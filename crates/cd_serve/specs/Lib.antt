@@ -2,6 +2,7 @@ pub mod Meanings
 pub mod Faults
 pub mod Blocks
 pub mod Changes
+pub mod Attempts
 pub mod Episodes
 pub mod Replies
 pub mod Connections

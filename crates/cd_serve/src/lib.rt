@@ -11,6 +11,9 @@
 //! into them. That no request is answered under an older configuration than its pass has seen is a law of `cd_legal`.
 //! answering.rt has the answers to changes that are not made, and to the halt, and sending.rt what is sent for an answer.
 //!
+//! What changes the configuration stands over the hall of `cd_hall`: attempting.rt attempts the change of a request once, opening.rt
+//! opens its draft, and halting.rt halts the host. specs/Attempts.antt says which entries that makes.
+//!
 //! The calls that serve are not here yet. specs/Serving.antt has what they are to promise. With `k` for the number of the pass,
 //! `m` for the meaning of the set of modules, and `own` for the entries that the pass makes in the call (which stand where `Places`
 //! of `cd_gate` says, so the pass has seen them):
@@ -37,17 +40,23 @@
 #![tactic(auto)]
 
 mod answering;
+mod attempting;
 mod fault;
+mod halting;
 mod lane_end;
 mod laws;
+mod opening;
 mod sending;
 
 pub use answering::halted_answer;
+pub use attempting::{Attempt, attempt_change};
 pub use fault::ChangeFault;
+pub use halting::halt_host;
 pub use lane_end::{LaneEnd, LaneHow};
 pub use laws::{
     a_halt_since_then_is_of_another, connections_are_told_together, connections_end,
     connections_go_on, counts_add_up, lanes_go_on, lanes_tell_together,
     later_entries_of_others_change_nothing, what_is_told_stays,
 };
+pub use opening::open_draft;
 pub use sending::{says_close, sent};
