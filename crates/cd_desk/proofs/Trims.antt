@@ -144,9 +144,9 @@ module _ (v w : Books) (t : Trims v w) where
 
 -- ---- the first row goes
 
-pub some_there : (rows : List Row) → holds is_closed_row (slice_get rows 0) ≡ true → 0 < length rows
+pub some_there : (all : List Row) → holds is_closed_row (slice_get all 0) ≡ true → 0 < length all
 some_there [] e = cc
-some_there (r ∷ rows) e = omega arith
+some_there (r ∷ rest) e = omega arith
 
 pub fewer_wait : (rows : List Row) → sum_by row_waits (drop 1 rows) ≤ sum_by row_waits rows
 fewer_wait [] = omega arith

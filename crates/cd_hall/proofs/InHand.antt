@@ -201,14 +201,6 @@ rest_of s =
     cond (nat_le MAX_UNRETIRED (s.serial + 1) && not (has_number (s.serial + 1 - MAX_UNRETIRED) s.retired)) (Some (Refusal.full (s.serial + 1 - MAX_UNRETIRED)))
     (cond (s.serial == LAST_SERIAL) (Some Refusal.exhausted) None)
 
-pub by_later : (s : State) (n m : ℕ) → m ≡ s.serial → n < m → Some (Refusal.superseded m) ≡ refusal s n
-by_later s n m is low =
-    ap (λ (z : ℕ). Some (Refusal.superseded z)) is
-    ∙ sym (ap (λ (b : Bool). cond b (Some (Refusal.superseded s.serial)) (rest_of s)) (less n s.serial (subst (λ (z : ℕ). n < z) is low)))
-  where
-    less : (n m : ℕ) → n < m → nat_lt n m ≡ true
-    less n m low = grind (arith, nat_tests)
-
 none_later : (s : State) (n m : ℕ) → m ≡ s.serial → m ≤ n → refusal s n ≡ rest_of s
 none_later s n m is high = ap (λ (b : Bool). cond b (Some (Refusal.superseded s.serial)) (rest_of s)) (not_less n s.serial (subst (λ (z : ℕ). z ≤ n) is high))
   where
@@ -219,26 +211,14 @@ none_later s n m is high = ap (λ (b : Bool). cond b (Some (Refusal.superseded s
 abbrev pub oldest_of : State → ℕ → Option ℕ
 oldest_of s m = cond (nat_le MAX_UNRETIRED (m + 1) && not (has_number (m + 1 - MAX_UNRETIRED) s.retired)) (Some (m + 1 - MAX_UNRETIRED)) None
 
-full_is : (b : Bool) (j i : ℕ) (rest : Option Refusal) → Some i ≡ cond b (Some j) None → Some (Refusal.full i) ≡ cond b (Some (Refusal.full j)) rest
-full_is true j i rest is = let same : i ≡ j = cc in ap (λ (z : ℕ). Some (Refusal.full z)) same
-full_is false j i rest is = absurd (let h : Some i ≡ None = is in cc)
-
 full_none : (b : Bool) (j : ℕ) (rest : Option Refusal) → None ≡ cond b (Some j) None → cond b (Some (Refusal.full j)) rest ≡ rest
 full_none true j rest is = absurd (let h : None ≡ Some j = is in cc)
 full_none false j rest is = refl
-
-pub by_oldest : (s : State) (n m i : ℕ) → m ≡ s.serial → m ≤ n → Some i ≡ oldest_of s m → Some (Refusal.full i) ≡ refusal s n
-by_oldest s n m i is high told =
-    full_is (nat_le MAX_UNRETIRED (s.serial + 1) && not (has_number (s.serial + 1 - MAX_UNRETIRED) s.retired)) (s.serial + 1 - MAX_UNRETIRED) i (cond (s.serial == LAST_SERIAL) (Some Refusal.exhausted) None) (told ∙ ap (oldest_of s) is)
-    ∙ sym (none_later s n m is high)
 
 none_oldest : (s : State) (n m : ℕ) → m ≡ s.serial → m ≤ n → None ≡ oldest_of s m → refusal s n ≡ cond (s.serial == LAST_SERIAL) (Some Refusal.exhausted) None
 none_oldest s n m is high told =
     none_later s n m is high
     ∙ full_none (nat_le MAX_UNRETIRED (s.serial + 1) && not (has_number (s.serial + 1 - MAX_UNRETIRED) s.retired)) (s.serial + 1 - MAX_UNRETIRED) (cond (s.serial == LAST_SERIAL) (Some Refusal.exhausted) None) (told ∙ ap (oldest_of s) is)
-
-pub by_last : (s : State) (n m : ℕ) → m ≡ s.serial → m ≤ n → None ≡ oldest_of s m → m ≡ LAST_SERIAL → Some Refusal.exhausted ≡ refusal s n
-by_last s n m is high told last = sym (none_oldest s n m is high told ∙ ap (λ (b : Bool). cond b (Some Refusal.exhausted) None) (eq-eqb s.serial LAST_SERIAL (sym is ∙ last)))
 
 pub by_none : (s : State) (n m : ℕ) → m ≡ s.serial → m ≤ n → None ≡ oldest_of s m → m ≢ LAST_SERIAL → refusal s n ≡ None
 by_none s n m is high told more = none_oldest s n m is high told ∙ ap (λ (b : Bool). cond b (Some Refusal.exhausted) None) (ne_eqb s.serial LAST_SERIAL (λ e. more (is ∙ e)))
