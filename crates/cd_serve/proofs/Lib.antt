@@ -13,3 +13,10 @@ pub mod Retirings
 pub mod Haltings
 pub mod Answered
 pub mod Spending
+pub mod Due
+pub mod Conclusions
+pub mod Sends
+pub mod Begun
+pub mod Acts
+pub mod Stepping
+pub mod LaneStepping

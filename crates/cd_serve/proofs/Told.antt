@@ -19,12 +19,12 @@ with_last-same f (x ∷ []) same = ap (λ z. z ∷ []) (same x)
 with_last-same f (x ∷ y ∷ ys) same = ap (λ zs. x ∷ zs) (with_last-same f (y ∷ ys) same)
 
 -- two changes of the connection make one
-changes : (f g h : Connection → Connection) (first old now : Option Past) → old ≡ option_map (with_connection f) first → now ≡ option_map (with_connection g) old → ((c : Connection) → g (f c) ≡ h c) → now ≡ option_map (with_connection h) first
+pub changes : (f g h : Connection → Connection) (first old now : Option Past) → old ≡ option_map (with_connection f) first → now ≡ option_map (with_connection g) old → ((c : Connection) → g (f c) ≡ h c) → now ≡ option_map (with_connection h) first
 changes f g h None old now one two same = two ∙ ap (option_map (with_connection g)) one
 changes f g h (Some p) old now one two same = two ∙ ap (option_map (with_connection g)) one ∙ ap Some (ap (λ (cs : List Connection). record p { connections = cs }) (with_last-twice f g h p.connections same))
 
 -- a change that changes nothing
-no-change : (f : Connection → Connection) (told : Option Past) → ((c : Connection) → f c ≡ c) → told ≡ option_map (with_connection f) told
+pub no-change : (f : Connection → Connection) (told : Option Past) → ((c : Connection) → f c ≡ c) → told ≡ option_map (with_connection f) told
 no-change f None same = refl
 no-change f (Some p) same = ap Some (ap (λ (cs : List Connection). record p { connections = cs }) (sym (with_last-same f p.connections same)))
 

@@ -9,3 +9,5 @@ pub mod Connections
 pub mod Lanes
 pub mod Joining
 pub mod Serving
+pub mod Requests
+pub mod Stepping

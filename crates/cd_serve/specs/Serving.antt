@@ -13,6 +13,8 @@ use Rattle.cd_wire.specs.declared.request.Request.{Request}
 use Rattle.cd_wire.specs.Requests.{Splits}
 use Rattle.cd_legal.specs.declared.entry.Signed.{Signed}
 use Rattle.cd_legal.specs.Placed.{Placed, through}
+use Rattle.cd_serve.specs.declared.cause.Cause.{Cause}
+use Rattle.cd_serve.specs.declared.cause.Cause.TheVariants as cause
 use Rattle.cd_serve.specs.Meanings.{Meaning}
 use Rattle.cd_serve.specs.Episodes.{Outcome}
 use Rattle.cd_serve.specs.Replies.{Reply, AllAgain, IsReply, AreReplies, requests, own_of, owns, puts, logs, answered_of}
@@ -72,23 +74,20 @@ pub record ConnectionServed (m : Meaning) (k : ℕ) (at : Address) (seen_before 
   pub early_is : is_early ending.way ≡ early
   pub answers : answered ≡ min ending.answered count_end
 
--- why a connection was cut short: the faults of the lane rose, or memory was lacking, which is counted
-pub data Cause : Type 0 where
-  whole failed lacking : Cause
-
+-- the connection was cut short
 abbrev pub cuts_short : Cause → Bool
-cuts_short Cause.whole = false
-cuts_short Cause.failed = true
-cuts_short Cause.lacking = true
+cuts_short cause.Whole = false
+cuts_short cause.Failed = true
+cuts_short cause.Lacking = true
 
 -- a fault that is told has risen the count
 abbrev pub HasRisen : Cause → ℕ → ℕ → Type 0
-HasRisen Cause.whole before now = before ≤ now
-HasRisen Cause.failed before now = Rose before now × (before ≤ now)
-HasRisen Cause.lacking before now = before ≤ now
+HasRisen cause.Whole before now = before ≤ now
+HasRisen cause.Failed before now = Rose before now × (before ≤ now)
+HasRisen cause.Lacking before now = before ≤ now
 
 -- the count of those that lacked memory
 abbrev pub cut_by : Cause → ℕ → ℕ
-cut_by Cause.whole cut = cut
-cut_by Cause.failed cut = cut
-cut_by Cause.lacking cut = raised cut
+cut_by cause.Whole cut = cut
+cut_by cause.Failed cut = cut
+cut_by cause.Lacking cut = raised cut

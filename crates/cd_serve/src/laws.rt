@@ -16,13 +16,14 @@ ghost use Rattle.cd_legal.specs.Entry.{entries, mine};
 ghost use Rattle.cd_legal.specs.Legal.{IsLegal, state_at};
 ghost use Rattle.cd_legal.specs.Placed.{Placed, placed, through};
 ghost use Rattle.cd_legal.specs.Fresh.{Fresh};
+ghost use Rattle.cd_serve.specs.declared.cause.Cause.{Cause};
 ghost use Rattle.cd_serve.specs.Meanings.{Meaning};
 ghost use Rattle.cd_serve.specs.Episodes.{Outcome, is_halt, another_halted};
 ghost use Rattle.cd_serve.specs.Replies.{Reply, is_whole};
 ghost use Rattle.cd_serve.specs.Connections.{Way, Ending, AllGoOn, EndsBy};
 ghost use Rattle.cd_serve.specs.Lanes.{IsTold, Told, is_early, early_in, answered_in, LaneSoFar};
 ghost use Rattle.cd_serve.specs.Joining.{Slot, SlotsFrom, LanesTold, lanes_of};
-ghost use Rattle.cd_serve.specs.Serving.{Replied, ConnectionSoFar, ConnectionServed, Cause, cuts_short, HasRisen, cut_by};
+ghost use Rattle.cd_serve.specs.Serving.{Replied, ConnectionSoFar, ConnectionServed, cuts_short, HasRisen, cut_by};
 
 /// What a lane tells of a history stays so in a longer one, whose further entries others have signed.
 pub fn later_entries_of_others_change_nothing()

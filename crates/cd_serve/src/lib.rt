@@ -11,47 +11,45 @@
 //! into them. That no request is answered under an older configuration than its pass has seen is a law of `cd_legal`.
 //! answering.rt has the answers to changes that are not made, and to the halt, and sending.rt what is sent for an answer.
 //!
-//! What changes the configuration stands over the hall of `cd_hall`: attempting.rt attempts the change of a request once, opening.rt
-//! opens its draft, and halting.rt halts the host. specs/Attempts.antt says which entries that makes.
-//!
-//! The calls that serve are not here yet. specs/Serving.antt has what they are to promise. With `k` for the number of the pass,
-//! `m` for the meaning of the set of modules, and `own` for the entries that the pass makes in the call (which stand where `Places`
-//! of `cd_gate` says, so the pass has seen them):
-//!
-//! ```text
-//! serve_request(rt, alloc, hall, pass, lane, at, request) -> How
-//!     requires: the pass is one of this hall and owes nothing; a connection is there
-//!     ensures:  so again; the lane's faults never fall, and
-//!       Answered(close), Unlogged, Broken(cause), Dropped, Halted:   Replied m k at request outcome own old new
-//!       Worn, Unbegun:                                               NotBegun m k at request own old new
-//!       Unlogged, Broken(failed):   the faults rose
-//!       Halted:                     the host has halted in what the pass has seen
-//!       Worn:                       what the pass has seen has MAX_BEGINS requests under its serial
-//!
-//! serve_connection(rt, alloc, hall, pass, lane, at) -> (cause, answered)
-//!     ensures:  ConnectionServed m k at seen_before seen_now own (cuts_short cause) answered old new, and HasRisen cause
-//!
-//! serve_lane(rt, alloc, hall, pass, lane) -> LaneEnd
-//!     requires: the pass is one of this hall and owes nothing; no connection is there
-//!     ensures:  so again; TellsOn (IsServed m k seen_now own faults_before faults_now result) old new
-//!       AcceptFault:   the faults rose
-//!       Halted:        the host has halted in what the pass has seen
-//! ```
+//! Files: lane.rt serves the connections of a lane, connection.rt one connection (session.rt is what it keeps in mind), and request.rt
+//! one request. acting.rt does what the configuration of the request says: responding.rt has the answer of an app, and changing.rt
+//! makes a change that the admin API decides on, by attempting.rt, opening.rt and
+//! halting.rt over the hall (specs/Attempts.antt). replying.rt sends an answer and logs
+//! its lines, and concluding.rt ends the request. Each of these says what it made in the history by `Places` of `cd_gate`, with
+//! specs/Requests.antt for a request and specs/Stepping.antt for a connection and a lane. Only a call of the hall or of the lane
+//! waits.
 #![tactic(auto)]
 
+mod acting;
 mod answering;
 mod attempting;
+mod cause;
+mod changing;
+mod concluding;
+mod connection;
+mod connection_end;
 mod fault;
 mod halting;
+mod how;
+mod lane;
 mod lane_end;
 mod laws;
 mod opening;
+mod replying;
+mod request;
+mod responding;
 mod sending;
+mod session;
 
 pub use answering::halted_answer;
 pub use attempting::{Attempt, attempt_change};
+pub use cause::Cause;
+pub use connection::serve_connection;
+pub use connection_end::ConnectionEnd;
 pub use fault::ChangeFault;
 pub use halting::halt_host;
+pub use how::How;
+pub use lane::serve_lane;
 pub use lane_end::{LaneEnd, LaneHow};
 pub use laws::{
     a_halt_since_then_is_of_another, connections_are_told_together, connections_end,
@@ -59,4 +57,5 @@ pub use laws::{
     later_entries_of_others_change_nothing, what_is_told_stays,
 };
 pub use opening::open_draft;
+pub use request::serve_request;
 pub use sending::{says_close, sent};

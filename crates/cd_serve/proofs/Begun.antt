@@ -1,0 +1,224 @@
+-- A request from its Begin to its block, put together from what each call made.
+use Rattle.std.proofs.Common.{◌≡◌, ◌∙◌, ◌++◌, ℕ, zero, suc, List, [], ◌∷◌, Option, Some, None, option_map, refl, ap, sym, subst}
+use Rattle.std.proofs.lemmas.List.{append_assoc, append-nil}
+use mathlib.Core.List.{IsPrefix}
+use Rattle.cd_text.specs.Steps.{joined}
+use Rattle.cd_outside.specs.declared.address.Address.{Address}
+use Rattle.cd_outside.specs.declared.past.Logged.{Logged}
+use Rattle.cd_outside.specs.declared.past.Past.{Past}
+use Rattle.cd_outside.specs.Past.{with_connection}
+use Rattle.cd_wire.specs.declared.request.Request.{Request}
+use Rattle.cd_legal.specs.declared.entry.Entry.{Entry}
+use Rattle.cd_legal.specs.declared.entry.Entry.TheVariants.{Begin, Finish}
+use Rattle.cd_legal.specs.declared.entry.Signed.{Signed}
+use Rattle.cd_legal.specs.declared.state.State.{State}
+use Rattle.cd_legal.specs.Entry.{signed}
+use Rattle.cd_legal.specs.State.{Conf, conf_of}
+use Rattle.cd_legal.specs.Legal.{after, state_at}
+use Rattle.cd_legal.specs.Placed.{Placed, placed, through, met}
+use Rattle.cd_legal.specs.Owing.{Owes}
+use Rattle.cd_legal.specs.Signing.{IsHistory}
+use Rattle.cd_legal.proofs.Logs.{state-snoc}
+use Rattle.cd_gate.specs.declared.view.View.{View}
+use Rattle.cd_gate.specs.Growing.{Places}
+use Rattle.cd_gate.proofs.Grown.{places_both}
+use Rattle.cd_hall.specs.declared.hall.Ticket.{Ticket}
+use Rattle.cd_hall.specs.Tickets.{IsTicketOf}
+use Rattle.cd_hall.specs.Turned.{Turned}
+use Rattle.cd_serve.specs.declared.how.How.{How}
+use Rattle.cd_serve.specs.declared.how.How.TheVariants as how
+use Rattle.cd_serve.specs.Meanings.{Meaning}
+use Rattle.cd_serve.specs.Blocks.{due, IsDue}
+use Rattle.cd_serve.specs.Episodes.{Outcome, Episode, Ends, IsAgain, conf_met}
+use Rattle.cd_serve.specs.Replies.{Reply, AllAgain, own_of}
+use Rattle.cd_serve.specs.Serving.{Replied, NotBegun}
+use Rattle.cd_serve.specs.Requests.{outcome_of, after_sending, OwesNothing, OwesTicket, IsCurrent, BeganWith, FinishesAfter, EndsWith, ActsBetween, Acted, ActedQuietly, Concluded, RepliedWith, RequestServed, DecidesAgain, ServedOnce, Repeats}
+use Rattle.cd_serve.proofs.Sends.{nothing-sent}
+use Rattle.cd_serve.proofs.Works.{works-none}
+
+-- a Begin keeps all configurations
+conf_begin : (s : State) (k m n : ℕ) → conf_of (after s (Begin k m)) n ≡ conf_of s n
+conf_begin s k m zero = refl
+conf_begin s k m (suc n) = refl
+
+-- what was done without an entry
+pub acted-quietly : {T : Type 0} (m : Meaning) (at : Address) (q : Request) (conf : Conf) (serial : ℕ) (h : How) (v : View T) (old new : Option Past) → IsHistory v.seen → ActedQuietly m at q conf serial h old new → Acted m at q conf serial (Some h) v v old new
+acted-quietly m at q conf serial h v old new is a = record {
+  work = [];
+  put = a.put;
+  lines = a.lines;
+  places = (works-none v is).places;
+  past = a.past;
+  is = a.is v.number v.seen;
+}
+
+module _ {T : Type 0} (m : Meaning) (at : Address) (q : Request) (conf : Conf) (serial : ℕ) (v w x z : View T) (found : List Signed) where
+  abbrev pub first : Placed
+  first = record { before = found; entry = Begin v.number serial }
+
+  -- the Begin met what the ticket has
+  pub began : w.seen ≡ found ++ signed v.number (Begin v.number serial) ∷ [] → serial ≡ (state_at found).serial → conf ≡ conf_of (state_at w.seen) serial → BeganWith conf serial first
+  began ends current is = record {
+    conf_is =
+        ap (λ (n : ℕ). conf_of (state_at found) n) (sym current)
+        ∙ (sym (conf_begin (state_at found) v.number serial serial)
+        ∙ (ap (λ (s : State). conf_of s serial) (sym (state-snoc found (signed v.number (Begin v.number serial))) ∙ ap state_at (sym ends))
+        ∙ sym is));
+    serial_is = sym current;
+  }
+
+  abbrev pub all : List Placed → Concluded x z → List Placed
+  all work c = first ∷ (work ++ c.finish ∷ c.block)
+
+  pub all_placed : (work : List Placed) (c : Concluded x z) → Places v w (first ∷ []) → Places w x work → Places v z (all work c)
+  all_placed work c one two = places_both v w z (first ∷ []) (work ++ c.finish ∷ c.block) one (places_both w x z work (c.finish ∷ c.block) two c.places)
+
+  pub episode : (work : List Placed) (c : Concluded x z) → w.number ≡ v.number → x.number ≡ v.number → BeganWith conf serial first → Episode v.number (all work c)
+  episode work c wk xk b = record {
+    begin = first;
+    work = work;
+    finish = c.finish;
+    block = c.block;
+    whole = refl;
+    begins = ap (Begin v.number) (sym b.serial_is);
+    finishes = c.finishes ∙ ap Finish xk;
+    retires = subst (λ (j : ℕ). IsDue (met c.finish) (due (met c.finish) j) c.block) xk c.retires;
+  }
+
+replied : (m : Meaning) (k : ℕ) (at : Address) (q : Request) (o : Option Outcome) (own : List Placed) (e : Episode k own) (put : List ℕ) (lines : List Logged) (old new : Option Past) → new ≡ option_map (with_connection (after_sending put lines)) old
+    → EndsWith m k at q o e.begin e.work e.finish put lines → RepliedWith m k at q o own old new
+replied m k at q (Some outcome) own e put lines old new past ends = record {
+  reply = record { request = q; again = []; last = own; outcome = outcome; put = put; lines = lines };
+  request = refl;
+  ends = refl;
+  is = record { agains = tt; episode = e; ends = ends };
+  own_is = refl;
+  past = past;
+}
+replied m k at q None own e put lines old new past ends = absurd ends
+
+-- a request that was begun, acted on, and ended, was served, or is to be decided again
+pub served-once : {T : Type 0} (m : Meaning) (at : Address) (q : Request) (conf : Conf) (serial : ℕ) (result : Option How) (v w x z : View T) (found : List Signed) (old new : Option Past)
+    → w.seen ≡ found ++ signed v.number (Begin v.number serial) ∷ [] → serial ≡ (state_at found).serial → Places v w (record { before = found; entry = Begin v.number serial } ∷ []) → conf ≡ conf_of (state_at w.seen) serial
+    → Acted m at q conf serial result w x old new → Concluded x z → ServedOnce m at q result v z old new
+unfolding episode
+served-once m at q conf serial (Some h) v w x z found old new ends current one is a c =
+    let b = began m at q conf serial v w x z found ends current is in
+    let xk : x.number ≡ v.number = a.places.number ∙ one.number in
+    let e = episode m at q conf serial v w x z found a.work c one.number xk b in
+    let here : EndsWith m w.number at q (outcome_of h) e.begin e.work e.finish a.put a.lines = a.is e.begin e.finish b c.stands in
+    record {
+      own = first m at q conf serial v w x z found ∷ (a.work ++ c.finish ∷ c.block);
+      places = all_placed m at q conf serial v w x z found a.work c one a.places;
+      served = replied m v.number at q (outcome_of h) _ e a.put a.lines old new a.past
+          (subst (λ (j : ℕ). EndsWith m j at q (outcome_of h) e.begin e.work e.finish a.put a.lines) one.number here);
+    }
+served-once m at q conf serial None v w x z found old new ends current one is a c =
+    let b = began m at q conf serial v w x z found ends current is in
+    let xk : x.number ≡ v.number = a.places.number ∙ one.number in
+    let e = episode m at q conf serial v w x z found a.work c one.number xk b in
+    let here : IsAgain m w.number at q e.begin e.work e.finish = a.is.0 e.begin e.finish b c.stands in
+    let quiet : new ≡ old =
+    a.past ∙ (ap (λ (p : List ℕ). option_map (with_connection (after_sending p a.lines)) old) a.is.1
+    ∙ (ap (λ (ls : List Logged). option_map (with_connection (after_sending [] ls)) old) a.is.2 ∙ sym (nothing-sent old))) in
+    record {
+      own = first m at q conf serial v w x z found ∷ (a.work ++ c.finish ∷ c.block);
+      places = all_placed m at q conf serial v w x z found a.work c one a.places;
+      episode = e;
+      again = subst (λ (j : ℕ). IsAgain m j at q e.begin e.work e.finish) one.number here;
+      past = quiet;
+    }
+
+-- ---- once more
+
+joined-both : (xs ys : List (List Placed)) → joined (xs ++ ys) ≡ joined xs ++ joined ys
+joined-both [] ys = refl
+joined-both (x ∷ xs) ys = ap (λ (z : List Placed). x ++ z) (joined-both xs ys) ∙ sym (append_assoc x (joined xs) (joined ys))
+
+agains-both : (m : Meaning) (k : ℕ) (at : Address) (q : Request) (xs ys : List (List Placed)) → AllAgain m k at q xs → AllAgain m k at q ys → AllAgain m k at q (xs ++ ys)
+agains-both m k at q [] ys a b = b
+agains-both m k at q (x ∷ xs) ys a b = (a.0, agains-both m k at q xs ys a.1 b)
+
+replied-after : (m : Meaning) (at : Address) (q : Request) (k : ℕ) (again : List (List Placed)) (o : Option Outcome) (own : List Placed) (old new : Option Past) → AllAgain m k at q again → RepliedWith m k at q o own old new → RepliedWith m k at q o (joined again ++ own) old new
+replied-after m at q k again (Some outcome) own old new agains r = record {
+  reply = record { request = r.reply.request; again = again ++ r.reply.again; last = r.reply.last; outcome = r.reply.outcome; put = r.reply.put; lines = r.reply.lines };
+  request = r.request;
+  ends = r.ends;
+  is = record {
+    agains = agains-both m k at r.reply.request again r.reply.again (subst (λ (y : Request). AllAgain m k at y again) (sym r.request) agains) r.is.agains;
+    episode = r.is.episode;
+    ends = r.is.ends;
+  };
+  own_is =
+      ap (λ (z : List Placed). joined again ++ z) r.own_is
+      ∙ (sym (append_assoc (joined again) (joined r.reply.again) r.reply.last) ∙ ap (λ (z : List Placed). z ++ r.reply.last) (sym (joined-both again r.reply.again)));
+  past = r.past;
+}
+replied-after m at q k again None own old new agains r = record {
+  again = again ++ r.again;
+  agains = agains-both m k at q again r.again agains r.agains;
+  own_is = ap (λ (z : List Placed). joined again ++ z) r.own_is ∙ sym (joined-both again r.again);
+  past = r.past;
+}
+
+module _ {T : Type 0} (m : Meaning) (at : Address) (q : Request) where
+  pub repeats-none : (v : View T) (old : Option Past) → Repeats m at q v v old old
+  repeats-none v old = record { again = []; agains = tt; number = refl; goes_on = λ x own p. p; past = refl }
+
+  pub repeats-more : (v w x : View T) (old then new : Option Past) → Repeats m at q v w old then → DecidesAgain m at q w x then new → Repeats m at q v x old new
+  repeats-more v w x old then new r d =
+      let here : (e : Episode v.number d.own) × IsAgain m v.number at q e.begin e.work e.finish = subst (λ (j : ℕ). (e : Episode j d.own) × IsAgain m j at q e.begin e.work e.finish) r.number (d.episode, d.again) in
+      let both : joined (r.again ++ d.own ∷ []) ≡ joined r.again ++ d.own = joined-both r.again (d.own ∷ []) ∙ ap (λ (z : List Placed). joined r.again ++ z) (append-nil d.own) in
+      record {
+        again = r.again ++ d.own ∷ [];
+        agains = agains-both m v.number at q r.again (d.own ∷ []) r.agains (here, tt);
+        number = d.places.number ∙ r.number;
+        goes_on = λ y own p.
+            subst (λ (z : List Placed). Places v y z) (sym (append_assoc (joined r.again) d.own own) ∙ ap (λ (z : List Placed). z ++ own) (sym both))
+            (r.goes_on y (d.own ++ own) (places_both w x y d.own own d.places p));
+        past = d.past ∙ r.past;
+      }
+
+  -- the last time
+  pub served-after : (h : How) (v w x : View T) (old then new : Option Past) → Repeats m at q v w old then → RequestServed m at q h w x then new → RequestServed m at q h v x old new
+  served-after h v w x old then new r s =
+      let here : RepliedWith m v.number at q (outcome_of h) s.own old new =
+      subst (λ (j : ℕ). RepliedWith m j at q (outcome_of h) s.own old new) r.number (subst (λ (p : Option Past). RepliedWith m w.number at q (outcome_of h) s.own p new) r.past s.served) in
+      record {
+        own = joined r.again ++ s.own;
+        places = r.goes_on x s.own s.places;
+        served = replied-after m at q v.number r.again (outcome_of h) s.own old new r.agains here;
+      }
+
+  -- a request that was not begun
+  pub unbegun : (h : How) (v w : View T) (old : Option Past) → outcome_of h ≡ None → Places v w [] → RequestServed m at q h v w old old
+  unbegun h v w old none p = record {
+    own = [];
+    places = p;
+    served = subst (λ (o : Option Outcome). RepliedWith m v.number at q o [] old old) (sym none) (record { again = []; agains = tt; own_is = refl; past = refl });
+  }
+
+-- ---- what a pass owes when a request begins
+
+module _ {T : Type 0} where
+  pub unbegun-owes : (v w : View T) (found : List Signed) → OwesNothing v → Turned v w found [] → w.duties ≡ v.duties → OwesNothing w
+  unbegun-owes v w found free t same = (ap (λ (o : Owes). o.ticket) t.grows.owes ∙ free.0, ap (λ (o : Owes). o.draft) t.grows.owes ∙ free.1, same ∙ free.2)
+
+  pub begun-owes : (v w : View T) (found : List Signed) (n : ℕ) → OwesNothing v → Turned v w found (Begin v.number n ∷ []) → w.duties ≡ v.duties → OwesTicket w n
+  begun-owes v w found n free t same = (ap (λ (o : Owes). o.ticket) t.grows.owes, ap (λ (o : Owes). o.draft) t.grows.owes ∙ free.1, same ∙ free.2)
+
+  pub begun-current : {A B : Type 0} {g : _} (v w : View T) (found : List Signed) (t : Ticket A B g) → IsTicketOf w t → Turned v w found (Begin v.number t.serial ∷ []) → t.serial ≡ (state_at found).serial → IsCurrent w t
+  begun-current v w found t is u current = record {
+    history = u.grows.history;
+    ticket = is;
+    current = current ∙ (sym (ap (λ (s : State). s.serial) (state-snoc found (signed v.number (Begin v.number t.serial)))) ∙ ap (λ (l : List Signed). (state_at l).serial) (sym u.is));
+  }
+
+  -- what was begun was not worn
+  pub not-worn : (m : Meaning) (at : Address) (q : Request) (conf : Conf) (serial : ℕ) (result : Option How) (v w x z : View T) (found : List Signed) (old new : Option Past)
+      → w.seen ≡ found ++ signed v.number (Begin v.number serial) ∷ [] → serial ≡ (state_at found).serial → conf ≡ conf_of (state_at w.seen) serial
+      → Acted m at q conf serial result w x old new → Concluded x z → result ≡ Some how.Worn → ⊥
+  not-worn m at q conf serial result v w x z found old new ends current is a c same =
+      let b = began m at q conf serial v w x z found ends current is in
+      let worn : Acted m at q conf serial (Some how.Worn) w x old new = subst (λ (r : Option How). Acted m at q conf serial r w x old new) same a in
+      worn.is (first m at q conf serial v w x z found) c.finish b c.stands

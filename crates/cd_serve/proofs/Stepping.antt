@@ -1,0 +1,249 @@
+-- A connection goes on by one step, or ends.
+use Rattle.std.proofs.Common.{◌≡◌, ◌≤◌, ◌∙◌, ◌++◌, ◌+◌, ℕ, min, Bool, true, false, cond, List, [], ◌∷◌, Option, Some, None, option_map, refl, ap, sym, subst, arith}
+use Rattle.std.proofs.lemmas.List.{append_assoc, append-nil, map-append}
+use mathlib.Core.List.{IsPrefix}
+use Rattle.cd_text.specs.Steps.{joined}
+use Rattle.cd_outside.specs.declared.address.Address.{Address}
+use Rattle.cd_outside.specs.declared.past.Past.{Past}
+use Rattle.cd_outside.specs.Counts.{count_end}
+use Rattle.cd_outside.specs.Past.{after_put, with_connection}
+use Rattle.cd_wire.specs.declared.fault.WireFault.{WireFault}
+use Rattle.cd_wire.specs.declared.request.Request.{Request}
+use Rattle.cd_wire.specs.Faults.{status_of}
+use Rattle.cd_wire.specs.Render.{refusal_bytes}
+use Rattle.cd_wire.specs.Requests.{BeginsRequest, Tail}
+use Rattle.cd_legal.specs.declared.limits.TheConstants.{MAX_BEGINS}
+use Rattle.cd_legal.specs.declared.entry.Entry.{Entry}
+use Rattle.cd_legal.specs.declared.entry.Signed.{Signed}
+use Rattle.cd_legal.specs.Begins.{begins_now}
+use Rattle.cd_legal.specs.Entry.{signed, entries}
+use Rattle.cd_legal.specs.Placed.{Placed, placed, placed_entries, through}
+use Rattle.cd_legal.specs.Signing.{IsHistory}
+use Rattle.cd_legal.proofs.Begun.{begins-now}
+use Rattle.cd_legal.proofs.Logs.{prefix_trans}
+use Rattle.cd_gate.specs.declared.view.View.{View}
+use Rattle.cd_gate.specs.Growing.{Places, all_signed}
+use Rattle.cd_serve.specs.declared.cause.Cause.{Cause}
+use Rattle.cd_serve.specs.declared.cause.Cause.TheVariants as cause
+use Rattle.cd_serve.specs.declared.connection_end.ConnectionEnd.{ConnectionEnd}
+use Rattle.cd_serve.specs.Meanings.{Meaning, IsCutOff}
+use Rattle.cd_serve.specs.Episodes.{Outcome}
+use Rattle.cd_serve.specs.Replies.{Reply, AllAgain, is_whole, answered_of}
+use Rattle.cd_serve.specs.Connections.{Break, Way, AllGoOn, LastIs, IsTail, HasFurther, IsWorn, EndsBy}
+use Rattle.cd_serve.specs.Lanes.{is_early}
+use Rattle.cd_serve.specs.Serving.{Replied, NotBegun, ConnectionSoFar, ConnectionServed, cuts_short, HasRisen}
+use Rattle.cd_serve.specs.Stepping.{HasPlaced, GoesOn, IsOver}
+use Rattle.cd_serve.proofs.Connecting.{connection-starts, connection-takes, connection-ended, connection-replies, connection-ends, connection-ends-quietly, go-on-more}
+use Rattle.cd_serve.proofs.Told.{nothing-put}
+
+-- the last of all is the last of the last
+through_last : (k : ℕ) (own : List Placed) (q : Placed) (more : List Placed) → through k (own ++ q ∷ more) ≡ through k (q ∷ more)
+through_last k [] q more = refl
+through_last k (p ∷ []) q more = refl
+through_last k (p ∷ r ∷ own) q more = through_last k (r ∷ own) q more
+
+through_both : (k : ℕ) (own more : List Placed) (front whole : List Signed) → IsPrefix (through k own) front → IsPrefix front whole → IsPrefix (through k more) whole → IsPrefix (through k (own ++ more)) whole
+through_both k own [] front whole one goes two = subst (λ (l : List Placed). IsPrefix (through k l) whole) (sym (append-nil own)) (prefix_trans (through k own) front whole one goes)
+through_both k own (q ∷ more) front whole one goes two = subst (λ (l : List Signed). IsPrefix l whole) (sym (through_last k own q more)) two
+
+all_signed-both : (k : ℕ) (es fs : List Entry) → all_signed k (es ++ fs) ≡ all_signed k es ++ all_signed k fs
+all_signed-both k [] fs = refl
+all_signed-both k (e ∷ es) fs = ap (λ (l : List Signed). signed k e ∷ l) (all_signed-both k es fs)
+
+prefix_same : (xs : List Signed) → IsPrefix xs xs
+prefix_same xs = ([], append-nil xs)
+
+module _ {T : Type 0} where
+  pub placed-none : (v : View T) → HasPlaced v v []
+  placed-none v = record { number = refl; seen = prefix_same v.seen; placed_is = sym (append-nil (placed v.number v.seen)); last = (v.seen, refl); adds = sym (append-nil v.mine); same = refl }
+
+  pub has-placed : (v w : View T) (own : List Placed) → Places v w own → HasPlaced v w own
+  has-placed v w own p = record { number = p.number; seen = p.seen; placed_is = p.placed_is; last = p.last; adds = p.adds; same = p.same }
+
+  pub placed-both : (v w x : View T) (one two : List Placed) → HasPlaced v w one → HasPlaced w x two → HasPlaced v x (one ++ two)
+  placed-both v w x one two a b =
+      let k = v.number in
+      record {
+        number = b.number ∙ a.number;
+        seen = prefix_trans v.seen w.seen x.seen a.seen b.seen;
+        placed_is =
+            subst (λ (j : ℕ). placed j x.seen ≡ placed j w.seen ++ two) a.number b.placed_is
+            ∙ (ap (λ (l : List Placed). l ++ two) a.placed_is ∙ append_assoc (placed k v.seen) one two);
+        last = through_both k one two w.seen x.seen a.last b.seen (subst (λ (j : ℕ). IsPrefix (through j two) x.seen) a.number b.last);
+        adds =
+            subst (λ (j : ℕ). x.mine ≡ w.mine ++ all_signed j (placed_entries two)) a.number b.adds
+            ∙ (ap (λ (l : List Signed). l ++ all_signed k (placed_entries two)) a.adds
+            ∙ (append_assoc v.mine (all_signed k (placed_entries one)) (all_signed k (placed_entries two))
+            ∙ (ap (λ (l : List Signed). v.mine ++ l) (sym (all_signed-both k (placed_entries one) (placed_entries two)))
+            ∙ ap (λ (l : List Entry). v.mine ++ all_signed k l) (sym (map-append (λ (p : Placed). p.entry) one two)))));
+        same = b.same ∙ ap (λ (z : View T). record z { seen = x.seen; mine = x.mine; ticket = x.ticket; draft = x.draft; duties = x.duties }) a.same;
+      }
+
+  placed-nil : (v w : View T) (own : List Placed) → HasPlaced v w own → HasPlaced v w (own ++ [])
+  placed-nil v w own p = subst (λ (l : List Placed). HasPlaced v w l) (sym (append-nil own)) p
+
+module _ {T : Type 0} (m : Meaning) (at : Address) where
+  pub goes-new : (v : View T) (told : Option Past) → GoesOn m at [] false 0 v v told told
+  goes-new v told = record { replies = []; own = []; made = placed-none v; so_far = connection-starts m v.number at told; none_closes = tt }
+
+  pub goes-more : (left piece new : List ℕ) (ended : Bool) (n : ℕ) (v w : View T) (first then now : Option Past) → GoesOn m at left ended n v w first then → new ≡ left ++ piece → now ≡ option_map (with_connection (λ c. record c { taken = c.taken ++ piece })) then
+      → GoesOn m at new ended n v w first now
+  goes-more left piece new ended n v w first then now g is step = record {
+    replies = g.replies;
+    own = g.own;
+    made = g.made;
+    so_far = subst (λ (l : List ℕ). ConnectionSoFar m v.number at g.replies g.own l ended n first now) (sym is) (connection-takes m v.number at g.replies g.own left piece ended n first then now g.so_far step);
+    none_closes = g.none_closes;
+  }
+
+  pub goes-ended : (left : List ℕ) (n : ℕ) (v w : View T) (first then now : Option Past) → GoesOn m at left false n v w first then → now ≡ option_map (with_connection (λ c. record c { ended = true })) then → GoesOn m at left true n v w first now
+  goes-ended left n v w first then now g step = record {
+    replies = g.replies;
+    own = g.own;
+    made = g.made;
+    so_far = connection-ended m v.number at g.replies g.own left n first then now g.so_far step;
+    none_closes = g.none_closes;
+  }
+
+  -- nothing was told
+  pub same-past : (left : List ℕ) (ended : Bool) (n : ℕ) (v w : View T) (first then now : Option Past) → GoesOn m at left ended n v w first then → now ≡ option_map (λ p. p) then → GoesOn m at left ended n v w first now
+  same-past left ended n v w first None now g is = subst (λ (z : Option Past). GoesOn m at left ended n v w first z) (sym is) g
+  same-past left ended n v w first (Some p) now g is = subst (λ (z : Option Past). GoesOn m at left ended n v w first z) (sym is) g
+
+  -- it is over with what is handed out
+  pub ends-as : (c : Cause) (n : ℕ) (v w : View T) (first now : Option Past) (e : ConnectionEnd) → e ≡ record { cause = c; answered = n; halted = false } → IsOver m at c n v w first now → IsOver m at e.cause e.answered v w first now
+  ends-as c n v w first now e is over = subst (λ (z : ConnectionEnd). IsOver m at z.cause z.answered v w first now) (sym is) over
+
+  -- it ends, and nothing more was made or sent
+  ends-quietly : (left : List ℕ) (ended : Bool) (n : ℕ) (v w : View T) (first now : Option Past) (c : Cause) (way : Way) (replies : List Reply) (own : List Placed) → HasPlaced v w own → ConnectionSoFar m v.number at replies own left ended n first now
+      → ((before : List Placed) → EndsBy m v.number w.seen (before ++ (own ++ [])) at ended replies left [] [] way) → is_early way ≡ cuts_short c → IsOver m at c n v w first now
+  ends-quietly left ended n v w first now c way replies own made so_far ends same = record {
+    own = own ++ [];
+    made = placed-nil v w own made;
+    served = subst (λ (b : Bool). ConnectionServed m v.number at v.seen w.seen (own ++ []) b n first now) same
+        (connection-ends-quietly m v.number at v.seen w.seen replies own left ended n [] way first now so_far (λ before front. ends before));
+  }
+
+  module _ (left : List ℕ) (ended : Bool) (n : ℕ) (v w : View T) (first now : Option Past) (g : GoesOn m at left ended n v w first now) where
+    pub over-clean : IsTail left ended Tail.clean → IsOver m at cause.Whole n v w first now
+    over-clean tail = ends-quietly left ended n v w first now cause.Whole Way.clean g.replies g.own g.made g.so_far (λ before. (g.none_closes, tail, refl, refl)) refl
+
+    pub over-cut : IsTail left ended Tail.cut → IsOver m at cause.Whole n v w first now
+    over-cut tail = ends-quietly left ended n v w first now cause.Whole Way.cut g.replies g.own g.made g.so_far (λ before. (g.none_closes, tail, refl, refl)) refl
+
+    pub over-reading : (c : Cause) → cuts_short c ≡ true → IsOver m at c n v w first now
+    over-reading c short = ends-quietly left ended n v w first now c (Way.early Break.reading) g.replies g.own g.made g.so_far (λ before. (g.none_closes, refl, refl)) (sym short)
+
+    -- the fixed answer to what is refused follows
+    refused-so : (x : View T) (part : List ℕ) (then : Option Past) (c : Cause) (way : Way) → x ≡ w → then ≡ option_map (after_put part) now
+        → ((before : List Placed) → EndsBy m v.number w.seen (before ++ (g.own ++ [])) at ended g.replies left [] part way) → is_early way ≡ cuts_short c → IsOver m at c n v w first then
+    refused-so x part then c way same put ends early = record {
+      own = g.own ++ [];
+      made = placed-nil v w g.own g.made;
+      served = subst (λ (b : Bool). ConnectionServed m v.number at v.seen w.seen (g.own ++ []) b n first then) early
+          (connection-ends m v.number at v.seen w.seen g.replies g.own left ended n [] part way first now then g.so_far put (λ before front. ends before));
+    }
+
+    pub over-refused : (fault : WireFault) (part : List ℕ) (then : Option Past) → IsTail left ended (Tail.refused fault) → part ≡ refusal_bytes (status_of fault) → then ≡ option_map (after_put part) now → IsOver m at cause.Whole n v w first then
+    over-refused fault part then tail is put = refused-so w part then cause.Whole (Way.refused fault) refl put (λ before. (g.none_closes, tail, refl, is)) refl
+
+    pub over-refusing : (fault : WireFault) (part : List ℕ) (then : Option Past) → IsTail left ended (Tail.refused fault) → IsCutOff part (refusal_bytes (status_of fault)) → then ≡ option_map (after_put part) now → IsOver m at cause.Failed n v w first then
+    over-refusing fault part then tail is put = refused-so w part then cause.Failed (Way.early (Break.refusing fault)) refl put (λ before. (g.none_closes, tail, refl, is)) refl
+
+    -- ---- a request
+
+    module _ (q : Request) (rest : List ℕ) (x : View T) (own : List Placed) (then : Option Past) (begins : BeginsRequest left q rest) (p : Places w x own) where
+      pub made : HasPlaced v x (g.own ++ own)
+      made = placed-both v w x g.own own g.made (has-placed w x own p)
+
+      module _ (o : Outcome) (r' : Replied m w.number at q o own now then) where
+        pub r : Replied m v.number at q o own now then
+        r = subst (λ (j : ℕ). Replied m j at q o own now then) g.made.number r'
+
+        so_far : ConnectionSoFar m v.number at (g.replies ++ r.reply ∷ []) (g.own ++ own) rest ended (min (n + cond (is_whole o) 1 0) count_end) first then
+        so_far = connection-replies m v.number at g.replies g.own own left rest ended n q o first now then g.so_far begins r
+
+        last-is : LastIs o (g.replies ++ r.reply ∷ [])
+        last-is = record { before = g.replies; last = r.reply; are = refl; go_on = g.none_closes; is = r.ends }
+
+        pub over-last : (c : Cause) (way : Way) (l : ℕ) → l ≡ min (n + cond (is_whole o) 1 0) count_end
+            → ((before : List Placed) → LastIs o (g.replies ++ r.reply ∷ []) → EndsBy m v.number x.seen (before ++ ((g.own ++ own) ++ [])) at ended (g.replies ++ r.reply ∷ []) rest [] [] way)
+            → is_early way ≡ cuts_short c → IsOver m at c l v x first then
+        over-last c way l is ends early =
+            subst (λ (z : ℕ). IsOver m at c z v x first then) (sym is)
+            (ends-quietly rest ended (min (n + cond (is_whole o) 1 0) count_end) v x first then c way (g.replies ++ r.reply ∷ []) (g.own ++ own) made so_far (λ before. ends before last-is) early)
+
+        -- the count stays where the answer was not sent whole
+        pub not-whole : is_whole o ≡ false → n ≡ min (n + cond (is_whole o) 1 0) count_end
+        not-whole is =
+            let a = g.so_far.answers in
+            let same : n ≡ min (n + 0) count_end = omega (arith, a) in
+            same ∙ ap (λ (b : Bool). min (n + cond b 1 0) count_end) (sym is)
+
+      pub goes-answered : (l : ℕ) → Replied m w.number at q (Outcome.answered false) own now then → l ≡ min (n + 1) count_end → GoesOn m at rest ended l v x first then
+      goes-answered l r' is = record {
+        replies = g.replies ++ (r (Outcome.answered false) r').reply ∷ [];
+        own = g.own ++ own;
+        made = made;
+        so_far = subst (λ (z : ℕ). ConnectionSoFar m v.number at (g.replies ++ (r (Outcome.answered false) r').reply ∷ []) (g.own ++ own) rest ended z first then) (sym is) (so_far (Outcome.answered false) r');
+        none_closes = go-on-more g.replies (r (Outcome.answered false) r').reply g.none_closes (r (Outcome.answered false) r').ends;
+      }
+
+      pub over-closed : (l : ℕ) → Replied m w.number at q (Outcome.answered true) own now then → l ≡ min (n + 1) count_end → IsOver m at cause.Whole l v x first then
+      over-closed l r' is = over-last (Outcome.answered true) r' cause.Whole Way.closed l is (λ before last. (last, refl, refl)) refl
+
+      pub over-unlogged : (l : ℕ) → Replied m w.number at q Outcome.unlogged own now then → l ≡ min (n + 1) count_end → IsOver m at cause.Failed l v x first then
+      over-unlogged l r' is = over-last Outcome.unlogged r' cause.Failed (Way.early Break.logging) l is (λ before last. (last, refl, refl)) refl
+
+      pub over-broken : (c : Cause) → cuts_short c ≡ true → Replied m w.number at q Outcome.broken own now then → IsOver m at c n v x first then
+      over-broken c short r' = over-last Outcome.broken r' c (Way.early Break.answering) n (not-whole Outcome.broken r' refl) (λ before last. (last, refl, refl)) (sym short)
+
+      pub over-dropped : Replied m w.number at q Outcome.dropped own now then → IsOver m at cause.Whole n v x first then
+      over-dropped r' = over-last Outcome.dropped r' cause.Whole Way.dropped n (not-whole Outcome.dropped r' refl) (λ before last. (last, refl, refl)) refl
+
+      -- ---- a request that was not begun
+
+      module _ (b' : NotBegun m w.number at q own now then) where
+        b : NotBegun m v.number at q own now then
+        b = subst (λ (j : ℕ). NotBegun m j at q own now then) g.made.number b'
+
+        all_made : HasPlaced v x (g.own ++ joined b.again)
+        all_made = subst (λ (l : List Placed). HasPlaced v x (g.own ++ l)) b.own_is made
+
+        further : HasFurther m v.number at left b.again
+        further = record { request = q; after = rest; begins = begins; agains = b.agains }
+
+        worn : MAX_BEGINS ≤ begins_now (entries x.seen) → (before : List Placed) → IsPrefix (through v.number before) v.seen → IsWorn v.number x.seen (before ++ (g.own ++ joined b.again))
+        worn full before front = record {
+          place = x.seen;
+          after = through_both v.number before (g.own ++ joined b.again) v.seen x.seen front all_made.seen all_made.last;
+          within = prefix_same x.seen;
+          full = subst (λ (z : ℕ). MAX_BEGINS ≤ z) (begins-now (entries x.seen) p.history.is_legal) full;
+        }
+
+        so_far-told : ConnectionSoFar m v.number at g.replies g.own left ended n first then
+        so_far-told = subst (λ (z : Option Past). ConnectionSoFar m v.number at g.replies g.own left ended n first z) (sym b.past) g.so_far
+
+        over-so : (part : List ℕ) (put : Option Past) (c : Cause) (way : Way) → put ≡ option_map (after_put part) then
+            → ((before : List Placed) → IsPrefix (through v.number before) v.seen → EndsBy m v.number x.seen (before ++ (g.own ++ joined b.again)) at ended g.replies left b.again part way) → is_early way ≡ cuts_short c → IsOver m at c n v x first put
+        over-so part put c way told ends early = record {
+          own = g.own ++ joined b.again;
+          made = all_made;
+          served = subst (λ (z : Bool). ConnectionServed m v.number at v.seen x.seen (g.own ++ joined b.again) z n first put) early
+              (connection-ends m v.number at v.seen x.seen g.replies g.own left ended n b.again part way first then put so_far-told told ends);
+        }
+
+        pub over-worn : (part : List ℕ) (put : Option Past) → MAX_BEGINS ≤ begins_now (entries x.seen) → part ≡ refusal_bytes 503 → put ≡ option_map (after_put part) then → IsOver m at cause.Whole n v x first put
+        over-worn part put full is told = over-so part put cause.Whole Way.worn told (λ before front. (g.none_closes, further, worn full before front, is)) refl
+
+        pub over-wearing : (part : List ℕ) (put : Option Past) → MAX_BEGINS ≤ begins_now (entries x.seen) → IsCutOff part (refusal_bytes 503) → put ≡ option_map (after_put part) then → IsOver m at cause.Failed n v x first put
+        over-wearing part put full is told = over-so part put cause.Failed (Way.early Break.wearing) told (λ before front. (g.none_closes, further, worn full before front, is)) refl
+
+        pub over-unbegun : IsOver m at cause.Lacking n v x first then
+        over-unbegun = over-so [] then cause.Lacking (Way.early Break.beginning) (nothing-put then) (λ before front. (g.none_closes, further, refl)) refl
+
+-- a fault that rose later has risen since before
+pub risen-later : (c : Cause) (f0 f1 f2 : ℕ) → f0 ≤ f1 → HasRisen c f1 f2 → HasRisen c f0 f2
+risen-later cause.Whole f0 f1 f2 le rose = omega arith
+risen-later cause.Failed f0 f1 f2 le rose = (omega (arith, rose.0, rose.1, le), omega (arith, rose.1, le))
+risen-later cause.Lacking f0 f1 f2 le rose = omega arith

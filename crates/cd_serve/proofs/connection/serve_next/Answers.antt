@@ -1,0 +1,56 @@
+use Rattle.std.proofs.Common.{◌≡◌, List, ℕ, refl, sym, subst}
+use Rattle.cd_gate.specs.Passes.{view}
+use Rattle.cd_legal.specs.Legal.{state_at}
+use Rattle.cd_wire.specs.Requests.{Tail, HasNoRequest, HasTail, refused}
+use Rattle.cd_wire.proofs.TakingLemmas.{nothing_no_request}
+use Rattle.cd_serve.specs.declared.cause.Cause.TheVariants as cause
+use Rattle.cd_serve.specs.Connections.{IsTail}
+use Rattle.cd_serve.specs.Meanings.{Meaning}
+use Rattle.cd_serve.specs.Stepping.{GoesOn}
+use Rattle.cd_serve.proofs.Stepping.{over-clean, over-cut, over-reading, ends-as}
+use Rattle.cd_serve.proofs.connection.serve_next.Goals as goal
+
+pub returns-in-Ok-Request-clause-steps : goal.returns-in-Ok-Request-clause-steps
+returns-in-Ok-Request-clause-steps g c v first going =
+    let begins = rw c.in-Ok-Request.field-0-is at c.in-Ok-Request.ensures.found in
+    c.after_request.ensures.steps (record { acts = g.M.ModuleSet.acts; plan = g.M.ModuleSet.plan }) c.args.at.now c.in-Ok-Request.request v (view c.args.pass.now) (view c.serve_request-how.new.pass) first (g.L.Lane.past c.args.lane.now) c.args.session.now.intake going begins c.serve_request-how.ensures.served c.serve_request-how.ensures.worn
+
+pub returns-in-Ok-End-clause-steps : goal.returns-in-Ok-End-clause-steps
+returns-in-Ok-End-clause-steps g c v first going =
+    let m : Meaning = record { acts = g.M.ModuleSet.acts; plan = g.M.ModuleSet.plan } in
+    let session = c.args.session.now in
+    let past = g.L.Lane.past c.args.lane.now in
+    let found = rw c.in-Ok-End.field-0-is at c.in-Ok-End.ensures.found in
+    let tail : IsTail session.intake session.ended Tail.clean = subst (λ (l : List ℕ). IsTail l session.ended Tail.clean) (sym found.2) (nothing_no_request, (found.1, refl)) in
+    ends-as m c.args.at.now cause.Whole session.answered v (view c.args.pass.now) first past c.end.result c.end.ensures
+    (over-clean m c.args.at.now session.intake session.ended session.answered v (view c.args.pass.now) first past going tail)
+
+pub returns-in-Ok-Cut-clause-steps : goal.returns-in-Ok-Cut-clause-steps
+returns-in-Ok-Cut-clause-steps g c v first going =
+    let m : Meaning = record { acts = g.M.ModuleSet.acts; plan = g.M.ModuleSet.plan } in
+    let session = c.args.session.now in
+    let past = g.L.Lane.past c.args.lane.now in
+    let found = rw c.in-Ok-Cut.field-0-is at c.in-Ok-Cut.ensures.found in
+    ends-as m c.args.at.now cause.Whole session.answered v (view c.args.pass.now) first past c.end-in-Ok-Cut.result c.end-in-Ok-Cut.ensures
+    (over-cut m c.args.at.now session.intake session.ended session.answered v (view c.args.pass.now) first past going (found.2, (found.1, found.3)))
+
+pub returns-in-Ok-Refused-clause-steps : goal.returns-in-Ok-Refused-clause-steps
+returns-in-Ok-Refused-clause-steps g c v first going =
+    let m : Meaning = record { acts = g.M.ModuleSet.acts; plan = g.M.ModuleSet.plan } in
+    let session = c.args.session.now in
+    let found = rw c.in-Ok-Refused.field-0-is at c.in-Ok-Refused.ensures.found in
+    c.refuse.ensures.steps m c.args.at.now v (view c.args.pass.now) first
+    (subst (λ (left : List ℕ). GoesOn m c.args.at.now left session.ended session.answered v (view c.args.pass.now) first (g.L.Lane.past c.args.lane.now)) (sym found.0) going)
+    (subst (λ (left : List ℕ). HasNoRequest left) (sym found.0) found.1)
+    (subst (λ (left : List ℕ). HasTail left session.ended (refused c.in-Ok-Refused.fault)) (sym found.0) found.2)
+
+pub returns-in-Ok-Refused-clause-halted : goal.returns-in-Ok-Refused-clause-halted
+returns-in-Ok-Refused-clause-halted g c = c.refuse.ensures.halted (state_at (view c.args.pass.now).seen).halted
+
+pub returns-in-Err-clause-steps : goal.returns-in-Err-clause-steps
+returns-in-Err-clause-steps g c v first going =
+    let m : Meaning = record { acts = g.M.ModuleSet.acts; plan = g.M.ModuleSet.plan } in
+    let session = c.args.session.now in
+    let past = g.L.Lane.past c.args.lane.now in
+    ends-as m c.args.at.now cause.Lacking session.answered v (view c.args.pass.now) first past c.end-in-Err.result c.end-in-Err.ensures
+    (over-reading m c.args.at.now session.intake session.ended session.answered v (view c.args.pass.now) first past going cause.Lacking refl)

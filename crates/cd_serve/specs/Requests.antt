@@ -1,0 +1,184 @@
+-- What serving one request does, call by call.
+use Rattle.std.specs.Prelude.{◌≡◌, ◌++◌, ◌∷◌, ℕ, Bool, true, false, List, [], Option, Some, None, option_map}
+use mathlib.Core.List.{IsPrefix}
+use Rattle.cd_text.specs.Steps.{joined}
+use Rattle.cd_outside.specs.declared.address.Address.{Address}
+use Rattle.cd_outside.specs.declared.past.Connection.{Connection}
+use Rattle.cd_outside.specs.declared.past.Logged.{Logged}
+use Rattle.cd_outside.specs.declared.past.Past.{Past}
+use Rattle.cd_outside.specs.Past.{with_connection}
+use Rattle.cd_wire.specs.declared.answer.Answer.{Answer}
+use Rattle.cd_wire.specs.declared.request.Request.{Request}
+use Rattle.cd_legal.specs.declared.entry.Entry.TheVariants.{Finish}
+use Rattle.cd_legal.specs.declared.entry.Signed.{Signed}
+use Rattle.cd_legal.specs.State.{Conf}
+use Rattle.cd_legal.specs.Legal.{IsLegal, state_at}
+use Rattle.cd_legal.specs.Placed.{Placed, met}
+use Rattle.cd_legal.specs.Signing.{IsHistory}
+use Rattle.cd_gate.specs.declared.view.View.{View}
+use Rattle.cd_gate.specs.Growing.{Places}
+use Rattle.cd_hall.specs.declared.hall.Ticket.{Ticket}
+use Rattle.cd_hall.specs.Tickets.{IsTicketOf}
+use Rattle.cd_serve.specs.declared.how.How.{How}
+use Rattle.cd_serve.specs.declared.how.How.TheVariants as how
+use Rattle.cd_serve.specs.Meanings.{Meaning, sent, says_close, IsCutOff}
+use Rattle.cd_serve.specs.Blocks.{due, IsDue}
+use Rattle.cd_serve.specs.Episodes.{Outcome, Episode, IsAgain, Ends, conf_met}
+use Rattle.cd_serve.specs.Replies.{AllAgain}
+use Rattle.cd_serve.specs.Serving.{Replied, NotBegun}
+
+-- the outcome of a request that was begun
+abbrev pub outcome_of : How → Option Outcome
+outcome_of (how.Answered close) = Some (Outcome.answered close)
+outcome_of how.Unlogged = Some Outcome.unlogged
+outcome_of how.Failed = Some Outcome.broken
+outcome_of how.NoMemory = Some Outcome.broken
+outcome_of how.Dropped = Some Outcome.dropped
+outcome_of how.Halted = Some Outcome.dropped
+outcome_of how.Worn = None
+outcome_of how.Unbegun = None
+
+-- the lane failed
+abbrev pub is_fault : How → Bool
+is_fault (how.Answered close) = false
+is_fault how.Unlogged = true
+is_fault how.Failed = true
+is_fault how.NoMemory = false
+is_fault how.Dropped = false
+is_fault how.Halted = false
+is_fault how.Worn = false
+is_fault how.Unbegun = false
+
+-- where the request is to be decided again it did not
+abbrev pub is_fault_in : Option How → Bool
+is_fault_in (Some h) = is_fault h
+is_fault_in None = false
+
+-- a pass has no ticket, no draft and no duty
+abbrev pub OwesNothing : {T : Type 0} → View T → Type 0
+OwesNothing v = (v.ticket ≡ None) × (v.draft ≡ None) × (v.duties ≡ [])
+
+-- it has a ticket at this serial, and neither of the others
+abbrev pub OwesTicket : {T : Type 0} → View T → ℕ → Type 0
+OwesTicket v serial = (v.ticket ≡ Some serial) × (v.draft ≡ None) × (v.duties ≡ [])
+
+-- the pass has just begun with the ticket, under the current serial
+pub record IsCurrent {T A B : Type 0} {g : _} (v : View T) (t : Ticket A B g) : Type 0 where
+  pub history : IsHistory v.seen
+  pub ticket : IsTicketOf v t
+  pub current : t.serial ≡ (state_at v.seen).serial
+
+-- ---- sending
+
+-- the connection after this was sent and logged
+abbrev pub after_sending : List ℕ → List Logged → Connection → Connection
+after_sending put lines c = record c { put = c.put ++ put; lines = c.lines ++ lines }
+
+-- what was sent and logged of an answer with these lines
+abbrev pub Sends : How → Request → Answer → List Logged → List ℕ → List Logged → Type 0
+Sends (how.Answered close) q r all put lines = (put ≡ sent q r) × (lines ≡ all) × (close ≡ says_close q r)
+Sends how.Unlogged q r all put lines = (put ≡ sent q r) × IsCutOff lines all
+Sends how.Failed q r all put lines = IsCutOff put (sent q r) × (lines ≡ [])
+Sends how.NoMemory q r all put lines = (put ≡ []) × (lines ≡ [])
+Sends how.Dropped q r all put lines = ⊥
+Sends how.Halted q r all put lines = ⊥
+Sends how.Worn q r all put lines = ⊥
+Sends how.Unbegun q r all put lines = ⊥
+
+pub record IsSent (h : How) (q : Request) (r : Answer) (all : List Logged) (old new : Option Past) : Type 0 where
+  pub put : List ℕ
+  pub lines : List Logged
+  pub past : new ≡ option_map (with_connection (after_sending put lines)) old
+  pub is : Sends h q r all put lines
+
+-- some of these lines were logged, from the first one on: all of them, or fewer
+pub record IsLogged (whole : Bool) (all : List Logged) (old new : Option Past) : Type 0 where
+  pub lines : List Logged
+  pub past : new ≡ option_map (with_connection (after_sending [] lines)) old
+  pub all_are : whole ≡ true → lines ≡ all
+  pub fewer : whole ≡ false → IsCutOff lines all
+
+-- ---- under a ticket
+
+-- a Begin met this configuration under this serial
+pub record BeganWith (conf : Conf) (serial : ℕ) (begin : Placed) : Type 0 where
+  pub conf_is : conf_met begin ≡ conf
+  pub serial_is : (met begin).serial ≡ serial
+
+-- a Finish stands in a legal history, after what was seen
+pub record FinishesAfter (seen : List Signed) (finish : Placed) : Type 0 where
+  pub after : IsPrefix seen finish.before
+  pub legal : IsLegal finish.before
+
+module _ (m : Meaning) (k : ℕ) (at : Address) (q : Request) where
+  -- this work, and what was sent and logged, ends the request with the outcome, where its Begin and its Finish are these
+  abbrev pub EndsWith : Option Outcome → Placed → List Placed → Placed → List ℕ → List Logged → Type 0
+  EndsWith (Some outcome) begin work finish put lines = Ends m k at q outcome begin work finish put lines
+  EndsWith None begin work finish put lines = ⊥
+
+  -- so wherever they stand; where there is no outcome yet, it is to be decided again
+  abbrev pub ActsBetween : Conf → ℕ → List Signed → Option How → List Placed → List ℕ → List Logged → Type 0
+  ActsBetween conf serial seen (Some h) work put lines =
+      (begin finish : Placed) → BeganWith conf serial begin → FinishesAfter seen finish → EndsWith (outcome_of h) begin work finish put lines
+  ActsBetween conf serial seen None work put lines =
+      ((begin finish : Placed) → BeganWith conf serial begin → FinishesAfter seen finish → IsAgain m k at q begin work finish) × (put ≡ []) × (lines ≡ [])
+
+-- what was done for a request under a ticket of this configuration and serial, between two moments with these views
+pub record Acted {T : Type 0} (m : Meaning) (at : Address) (q : Request) (conf : Conf) (serial : ℕ) (result : Option How) (v w : View T) (old new : Option Past) : Type 0 where
+  pub work : List Placed
+  pub put : List ℕ
+  pub lines : List Logged
+  pub places : Places v w work
+  pub past : new ≡ option_map (with_connection (after_sending put lines)) old
+  pub is : ActsBetween m v.number at q conf serial w.seen result work put lines
+
+-- the same of what makes no entry, whatever its pass and whatever that has seen
+pub record ActedQuietly (m : Meaning) (at : Address) (q : Request) (conf : Conf) (serial : ℕ) (h : How) (old new : Option Past) : Type 0 where
+  pub put : List ℕ
+  pub lines : List Logged
+  pub past : new ≡ option_map (with_connection (after_sending put lines)) old
+  pub is : (k : ℕ) (seen : List Signed) → ActsBetween m k at q conf serial seen (Some h) [] put lines
+
+-- the request was ended, and its serial was retired where that was due
+pub record Concluded {T : Type 0} (v w : View T) : Type 0 where
+  pub finish : Placed
+  pub block : List Placed
+  pub places : Places v w (finish ∷ block)
+  pub finishes : finish.entry ≡ Finish v.number
+  pub retires : IsDue (met finish) (due (met finish) v.number) block
+  pub stands : FinishesAfter v.seen finish
+
+-- ---- a request
+
+-- it was replied to, or was not begun
+abbrev pub RepliedWith : Meaning → ℕ → Address → Request → Option Outcome → List Placed → Option Past → Option Past → Type 0
+RepliedWith m k at q (Some outcome) own old new = Replied m k at q outcome own old new
+RepliedWith m k at q None own old new = NotBegun m k at q own old new
+
+-- the request was served so, between two moments with these views of its pass
+pub record RequestServed {T : Type 0} (m : Meaning) (at : Address) (q : Request) (h : How) (v w : View T) (old new : Option Past) : Type 0 where
+  pub own : List Placed
+  pub places : Places v w own
+  pub served : RepliedWith m v.number at q (outcome_of h) own old new
+
+-- by one episode the request is to be decided again, and nothing was sent
+pub record DecidesAgain {T : Type 0} (m : Meaning) (at : Address) (q : Request) (v w : View T) (old new : Option Past) : Type 0 where
+  pub own : List Placed
+  pub places : Places v w own
+  pub episode : Episode v.number own
+  pub again : IsAgain m v.number at q episode.begin episode.work episode.finish
+  pub past : new ≡ old
+
+-- one attempt to serve it: it was served, or is to be decided again
+abbrev pub ServedOnce : {T : Type 0} → Meaning → Address → Request → Option How → View T → View T → Option Past → Option Past → Type 0
+ServedOnce m at q (Some h) v w old new = RequestServed m at q h v w old new
+ServedOnce m at q None v w old new = DecidesAgain m at q v w old new
+
+-- it was decided again and again, and nothing was sent
+pub record Repeats {T : Type 0} (m : Meaning) (at : Address) (q : Request) (v w : View T) (old new : Option Past) : Type 0 where
+  pub again : List (List Placed)
+  pub agains : AllAgain m v.number at q again
+  pub number : w.number ≡ v.number
+  -- what the pass does next stands after these episodes
+  pub goes_on : (x : View T) (own : List Placed) → Places w x own → Places v x (joined again ++ own)
+  pub past : new ≡ old

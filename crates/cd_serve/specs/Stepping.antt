@@ -1,0 +1,75 @@
+-- A connection and a lane while they are served, from call to call.
+use Rattle.std.specs.Prelude.{◌≡◌, ◌≤◌, ◌++◌, ℕ, Bool, true, false, List, [], Option, Some, None}
+use mathlib.Core.List.{IsPrefix}
+use Rattle.cd_outside.specs.declared.accepted.Accepted.TheVariants as accepted
+use Rattle.cd_outside.specs.declared.address.Address.{Address}
+use Rattle.cd_outside.specs.declared.past.Past.{Past}
+use Rattle.cd_outside.specs.Telling.{TellsOn}
+use Rattle.cd_legal.specs.Placed.{Placed, placed, placed_entries, through}
+use Rattle.cd_gate.specs.declared.view.View.{View}
+use Rattle.cd_gate.specs.Growing.{all_signed}
+use Rattle.cd_serve.specs.declared.cause.Cause.{Cause}
+use Rattle.cd_serve.specs.declared.connection_end.ConnectionEnd.{ConnectionEnd}
+use Rattle.cd_serve.specs.declared.lane_end.LaneEnd.{LaneEnd}
+use Rattle.cd_serve.specs.Meanings.{Meaning}
+use Rattle.cd_serve.specs.Replies.{Reply}
+use Rattle.cd_serve.specs.Connections.{AllGoOn}
+use Rattle.cd_serve.specs.Lanes.{LaneSoFar, IsServed}
+use Rattle.cd_serve.specs.Serving.{ConnectionSoFar, ConnectionServed, cuts_short, HasRisen}
+
+module _ {T : Type 0} where
+  -- between two moments a pass made these entries, each where it stands in what the pass has then seen; perhaps none so far
+  pub record HasPlaced (v w : View T) (own : List Placed) : Type 0 where
+    pub number : w.number ≡ v.number
+    pub seen : IsPrefix v.seen w.seen
+    pub placed_is : placed v.number w.seen ≡ placed v.number v.seen ++ own
+    pub last : IsPrefix (through v.number own) w.seen
+    -- what the pass knows of its own entries has grown by these, and all else but what it owes is as it was
+    pub adds : w.mine ≡ v.mine ++ all_signed v.number (placed_entries own)
+    pub same : w ≡ record v { seen = w.seen; mine = w.mine; ticket = w.ticket; draft = w.draft; duties = w.duties }
+
+  -- the connection that had just come to the address goes on: these bytes are left of it, and its end was seen or not
+  pub record GoesOn (m : Meaning) (at : Address) (left : List ℕ) (ended : Bool) (answered : ℕ) (v w : View T) (first now : Option Past) : Type 0 where
+    pub replies : List Reply
+    pub own : List Placed
+    pub made : HasPlaced v w own
+    pub so_far : ConnectionSoFar m v.number at replies own left ended answered first now
+    pub none_closes : AllGoOn replies
+
+  -- it has ended
+  pub record IsOver (m : Meaning) (at : Address) (c : Cause) (answered : ℕ) (v w : View T) (first now : Option Past) : Type 0 where
+    pub own : List Placed
+    pub made : HasPlaced v w own
+    pub served : ConnectionServed m v.number at v.seen w.seen own (cuts_short c) answered first now
+
+  -- after one step of it
+  abbrev pub Steps : Meaning → Address → Option ConnectionEnd → List ℕ → Bool → ℕ → View T → View T → Option Past → Option Past → Type 0
+  Steps m at (Some end) left ended answered v w first now = IsOver m at end.cause end.answered v w first now
+  Steps m at None left ended answered v w first now = GoesOn m at left ended answered v w first now
+
+  -- a lane goes on
+  pub record LaneGoesOn (m : Meaning) (failed_before failed_now answered cut : ℕ) (v w : View T) (old new : Option Past) : Type 0 where
+    pub own : List Placed
+    pub made : HasPlaced v w own
+    pub told : TellsOn (LaneSoFar m v.number w.seen own failed_before failed_now answered cut) old new
+
+  -- it was served to its end
+  pub record LaneServed (m : Meaning) (failed_before failed_now : ℕ) (end : LaneEnd) (v w : View T) (old new : Option Past) : Type 0 where
+    pub own : List Placed
+    pub made : HasPlaced v w own
+    pub told : TellsOn (IsServed m v.number w.seen own failed_before failed_now end) old new
+
+-- the faults of the lane have risen where it ended for that
+abbrev pub RisesBy : Option ConnectionEnd → ℕ → ℕ → Type 0
+RisesBy (Some end) before now = HasRisen end.cause before now
+RisesBy None before now = before ≤ now
+
+-- where it ended since the host has halted, that is so
+abbrev pub HaltedBy : Option ConnectionEnd → Bool → Type 0
+HaltedBy (Some end) halted = end.halted ≡ true → halted ≡ true
+HaltedBy None halted = Unit {0}
+
+-- where a lane tells its past, its last accept gave a connection to the address
+abbrev pub LastCame : Address → Option Past → Type 0
+LastCame at None = Unit {0}
+LastCame at (Some p) = p.last ≡ Some (accepted.Connection at)

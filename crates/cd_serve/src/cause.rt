@@ -1,0 +1,10 @@
+/// Why a connection was cut short, where it was.
+#[derive(Clone, Copy, Debug, PartialEq, Eq)]
+pub enum Cause {
+    /// It was not.
+    Whole,
+    /// The lane has failed.
+    Failed,
+    /// Out of memory.
+    Lacking,
+}

@@ -1,0 +1,126 @@
+//! A change that the admin API decides on is made, and answered.
+ghost use Rattle.std.specs.Prelude.{◌≡◌, ◌≤◌, [], Some, None, true};
+ghost use Rattle.cd_outside.specs.Counts.{Rose};
+ghost use Rattle.cd_legal.specs.declared.entry.Change.TheVariants as by;
+ghost use Rattle.cd_gate.specs.Passes.{view};
+ghost use Rattle.cd_admin.specs.Deciding.{replace as replaces, halt as halts};
+ghost use Rattle.cd_life.specs.Shares.{conf_in};
+ghost use Rattle.cd_hall.specs.Calls.{IsPassOf};
+ghost use Rattle.cd_serve.specs.declared.how.How.TheVariants as how;
+ghost use Rattle.cd_serve.specs.Attempts.{Asks};
+ghost use Rattle.cd_serve.specs.Faults.{fault_answer};
+ghost use Rattle.cd_serve.specs.Meanings.{Decides};
+ghost use Rattle.cd_serve.specs.Requests.{Acted, IsSent, is_fault, is_fault_in, OwesTicket, IsCurrent};
+
+use crate::answering::halted_answer;
+use crate::attempting::{Attempt, attempt_change};
+use crate::fault::ChangeFault;
+use crate::halting::halt_host;
+use crate::how::How;
+use crate::replying::reply_with;
+use cd_admin::{Administered, done};
+use cd_gate::Pass;
+use cd_hall::{Hall, Ticket};
+use cd_legal::Change;
+use cd_life::Board;
+use cd_module_set::Loaded;
+use cd_outside::{Address, Fixtures, Lane};
+use cd_wire::Request;
+use std::alloc::Global;
+use std::sync::Wait;
+
+/// Attempts to publish what the request asks for, and answers whether that was done. None where another change was first.
+pub(crate) fn replace<R: Wait, M: Administered, F: Fixtures, L: Lane>(
+    rt: &R,
+    alloc: Global,
+    hall: &Hall<M, F>,
+    pass: &mut Pass<Board<M, F>>,
+    ticket: &Ticket<M>,
+    lane: &mut L,
+    at: &Address,
+    request: &Request,
+    loaded: Loaded<M>,
+    change: Change,
+) -> Option<How>
+    requires pass { IsPassOf hall.now pass.old }
+    requires ticket { IsCurrent (view pass.old) ticket.now }
+    requires owes { OwesTicket (view pass.old) ticket.now.serial }
+    requires busy { L.busy lane.old ≡ true }
+    requires change { change ≡ by.Request request.now }
+    requires asks { Asks M.change (conf_in ticket.now.share) request.now loaded.tree }
+    requires decides { Decides (record { acts = M.acts; plan = M.plan }) (conf_in ticket.now.share) at.now request.now (replaces loaded.tree) }
+    ensures pass { IsPassOf hall.now pass.new }
+    ensures owes { OwesTicket (view pass.new) ticket.now.serial }
+    ensures busy { L.busy lane.new ≡ true }
+    ensures acted { Acted (record { acts = M.acts; plan = M.plan }) at.now request.now (conf_in ticket.now.share) ticket.now.serial result (view pass.old) (view pass.new) (L.past lane.old) (L.past lane.new) }
+    ensures later { L.faults lane.old ≤ L.faults lane.new }
+    ensures failed { is_fault_in result ≡ true → Rose (L.faults lane.old) (L.faults lane.new) }
+    ensures running { ¬ (result ≡ Some how.Halted) }
+{
+    let _ = at;
+    let asked = request_of(change);
+    match attempt_change(rt, alloc, hall, pass, ticket, loaded, asked) {
+        Attempt::Published => Some(reply_with(alloc, lane, request, &done(alloc), &[])),
+        Attempt::Superseded => None,
+        Attempt::Refused(fault) => Some(refuse(alloc, lane, request, &fault)),
+        Attempt::Lacking => Some(How::NoMemory),
+    }
+}
+
+// The request by which the change is.
+fn request_of(change: Change) -> Request
+    requires { ¬ (change ≡ by.First) }
+    ensures { change ≡ by.Request result }
+{
+    match change {
+        Change::Request(request) => request,
+        Change::First => unreachable!(),
+    }
+}
+
+// Answers why the change was not made.
+fn refuse<L: Lane>(alloc: Global, lane: &mut L, request: &Request, fault: &ChangeFault) -> How
+    requires { L.busy lane.old ≡ true }
+    ensures busy { L.busy lane.new ≡ true }
+    ensures sent { IsSent result request.now (fault_answer fault.now) [] (L.past lane.old) (L.past lane.new) }
+    ensures later { L.faults lane.old ≤ L.faults lane.new }
+    ensures failed { is_fault result ≡ true → Rose (L.faults lane.old) (L.faults lane.new) }
+{
+    match fault.answer(alloc) {
+        Ok(answer) => reply_with(alloc, lane, request, &answer, &[]),
+        Err(_) => How::NoMemory,
+    }
+}
+
+/// Halts the host, and answers that. None where another pass was first.
+pub(crate) fn halt<R: Wait, M: Administered, F: Fixtures, L: Lane>(
+    rt: &R,
+    alloc: Global,
+    hall: &Hall<M, F>,
+    pass: &mut Pass<Board<M, F>>,
+    ticket: &Ticket<M>,
+    lane: &mut L,
+    at: &Address,
+    request: &Request,
+) -> Option<How>
+    requires pass { IsPassOf hall.now pass.old }
+    requires ticket { IsCurrent (view pass.old) ticket.now }
+    requires owes { OwesTicket (view pass.old) ticket.now.serial }
+    requires busy { L.busy lane.old ≡ true }
+    requires decides { Decides (record { acts = M.acts; plan = M.plan }) (conf_in ticket.now.share) at.now request.now halts }
+    ensures pass { IsPassOf hall.now pass.new }
+    ensures owes { OwesTicket (view pass.new) ticket.now.serial }
+    ensures busy { L.busy lane.new ≡ true }
+    ensures acted { Acted (record { acts = M.acts; plan = M.plan }) at.now request.now (conf_in ticket.now.share) ticket.now.serial result (view pass.old) (view pass.new) (L.past lane.old) (L.past lane.new) }
+    ensures later { L.faults lane.old ≤ L.faults lane.new }
+    ensures failed { is_fault_in result ≡ true → Rose (L.faults lane.old) (L.faults lane.new) }
+    ensures running { ¬ (result ≡ Some how.Halted) }
+{
+    let _ = at;
+    let _ = ticket;
+    if halt_host(rt, hall, pass) {
+        Some(reply_with(alloc, lane, request, &halted_answer(alloc), &[]))
+    } else {
+        None
+    }
+}

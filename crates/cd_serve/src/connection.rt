@@ -1,0 +1,115 @@
+//! A connection is served to its end.
+ghost use Rattle.std.specs.Prelude.{◌≡◌, Option, true, false};
+ghost use Rattle.cd_outside.specs.declared.past.Past.{Past};
+ghost use Rattle.cd_legal.specs.Legal.{state_at};
+ghost use Rattle.cd_gate.specs.declared.view.View.{View};
+ghost use Rattle.cd_gate.specs.Passes.{view};
+ghost use Rattle.cd_hall.specs.Calls.{IsPassOf};
+ghost use Rattle.cd_serve.specs.Requests.{OwesNothing};
+ghost use Rattle.cd_serve.specs.Serving.{HasRisen};
+ghost use Rattle.cd_serve.specs.Stepping.{GoesOn, IsOver, Steps, RisesBy, HaltedBy};
+
+use crate::cause::Cause;
+use crate::connection_end::ConnectionEnd;
+use crate::request::serve_request;
+use crate::session::{Session, after_request, read_more, refuse};
+use cd_admin::Administered;
+use cd_gate::Pass;
+use cd_hall::Hall;
+use cd_life::Board;
+use cd_outside::{Address, Fixtures, Lane};
+use cd_text::NoMemory;
+use cd_wire::{Intake, Next};
+use std::alloc::Global;
+use std::sync::Wait;
+
+/// Serves the connection that is there, which came to this address, and ends it. The pass owes nothing, before and after.
+pub fn serve_connection<R: Wait, M: Administered, F: Fixtures, L: Lane>(
+    rt: &R,
+    alloc: Global,
+    hall: &Hall<M, F>,
+    pass: &mut Pass<Board<M, F>>,
+    lane: &mut L,
+    at: &Address,
+) -> ConnectionEnd
+    requires pass { IsPassOf hall.now pass.old }
+    requires free { OwesNothing (view pass.old) }
+    requires busy { L.busy lane.old ≡ true }
+    ensures pass { IsPassOf hall.now pass.new }
+    ensures free { OwesNothing (view pass.new) }
+    ensures busy { L.busy lane.new ≡ false }
+    ensures served { IsOver (record { acts = M.acts; plan = M.plan }) at.now result.cause result.answered (view pass.old) (view pass.new) (L.past lane.old) (L.past lane.new) }
+    ensures cause { HasRisen result.cause (L.faults lane.old) (L.faults lane.new) }
+    ensures halted { result.halted ≡ true → (state_at (view pass.new).seen).halted ≡ true }
+{
+    let end = serve_requests(rt, alloc, hall, pass, lane, at);
+    lane.end();
+    end
+}
+
+fn serve_requests<R: Wait, M: Administered, F: Fixtures, L: Lane>(
+    rt: &R,
+    alloc: Global,
+    hall: &Hall<M, F>,
+    pass: &mut Pass<Board<M, F>>,
+    lane: &mut L,
+    at: &Address,
+) -> ConnectionEnd
+    requires pass { IsPassOf hall.now pass.old }
+    requires free { OwesNothing (view pass.old) }
+    requires busy { L.busy lane.old ≡ true }
+    ensures pass { IsPassOf hall.now pass.new }
+    ensures free { OwesNothing (view pass.new) }
+    ensures busy { L.busy lane.new ≡ true }
+    ensures served { IsOver (record { acts = M.acts; plan = M.plan }) at.now result.cause result.answered (view pass.old) (view pass.new) (L.past lane.old) (L.past lane.new) }
+    ensures cause { HasRisen result.cause (L.faults lane.old) (L.faults lane.new) }
+    ensures halted { result.halted ≡ true → (state_at (view pass.new).seen).halted ≡ true }
+{
+    let mut session = Session {
+        intake: Intake::new(alloc),
+        ended: false,
+        answered: 0,
+    };
+    for _ in rt.forever() {
+        match serve_next(rt, alloc, hall, pass, lane, at, &mut session) {
+            Some(end) => return end,
+            None => {}
+        }
+    }
+    unreachable!()
+}
+
+// Serves the next request, or reads more bytes, or says how the connection ended.
+fn serve_next<R: Wait, M: Administered, F: Fixtures, L: Lane>(
+    rt: &R,
+    alloc: Global,
+    hall: &Hall<M, F>,
+    pass: &mut Pass<Board<M, F>>,
+    lane: &mut L,
+    at: &Address,
+    session: &mut Session,
+) -> Option<ConnectionEnd>
+    requires pass { IsPassOf hall.now pass.old }
+    requires free { OwesNothing (view pass.old) }
+    requires busy { L.busy lane.old ≡ true }
+    ensures pass { IsPassOf hall.now pass.new }
+    ensures free { OwesNothing (view pass.new) }
+    ensures busy { L.busy lane.new ≡ true }
+    ensures steps { (v : View _) (first : Option Past)
+        → GoesOn (record { acts = M.acts; plan = M.plan }) at.now session.old.intake session.old.ended session.old.answered v (view pass.old) first (L.past lane.old)
+        → Steps (record { acts = M.acts; plan = M.plan }) at.now result session.new.intake session.new.ended session.new.answered v (view pass.new) first (L.past lane.new) }
+    ensures cause { RisesBy result (L.faults lane.old) (L.faults lane.new) }
+    ensures halted { HaltedBy result (state_at (view pass.new).seen).halted }
+{
+    match session.intake.next(session.ended) {
+        Ok(Next::Request(request)) => {
+            let how = serve_request(rt, alloc, hall, pass, lane, at, &request);
+            after_request::<Board<M, F>, L>(session, lane, how)
+        }
+        Ok(Next::More) => read_more::<Board<M, F>, L>(session, lane),
+        Ok(Next::End) => Some(session.end(Cause::Whole)),
+        Ok(Next::Cut) => Some(session.end(Cause::Whole)),
+        Ok(Next::Refused(fault)) => Some(refuse::<Board<M, F>, L>(fault, session, lane)),
+        Err(NoMemory) => Some(session.end(Cause::Lacking)),
+    }
+}

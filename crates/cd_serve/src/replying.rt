@@ -1,0 +1,76 @@
+//! An answer is sent on the connection of a lane, and its lines are logged.
+ghost use Rattle.std.specs.Prelude.{◌≡◌, ◌≤◌, List, ℕ, true, false, option_map, map};
+ghost use Rattle.cd_outside.specs.declared.given.Given.TheVariants as given;
+ghost use Rattle.cd_outside.specs.Counts.{Rose};
+ghost use Rattle.cd_outside.specs.Given.{IsGivenOf};
+ghost use Rattle.cd_outside.specs.Past.{after_put};
+ghost use Rattle.cd_serve.specs.Meanings.{logged};
+ghost use Rattle.cd_serve.specs.Requests.{is_fault, IsSent, IsLogged};
+
+use crate::how::How;
+use crate::sending::{says_close, sent};
+use cd_module_set::Line;
+use cd_outside::{Given, Lane};
+use cd_wire::{Answer, Request};
+use std::alloc::Global;
+
+/// Sends an answer to the request, and logs these lines.
+pub(crate) fn reply_with<L: Lane>(
+    alloc: Global,
+    lane: &mut L,
+    request: &Request,
+    answer: &Answer,
+    lines: &[Line],
+) -> How
+    requires { L.busy lane.old ≡ true }
+    ensures busy { L.busy lane.new ≡ true }
+    ensures sent { IsSent result request.now answer.now (map logged lines.now) (L.past lane.old) (L.past lane.new) }
+    ensures later { L.faults lane.old ≤ L.faults lane.new }
+    ensures failed { is_fault result ≡ true → Rose (L.faults lane.old) (L.faults lane.new) }
+{
+    let Ok(bytes) = sent(alloc, request, answer) else {
+        return How::NoMemory;
+    };
+    match put(lane, bytes.as_slice()) {
+        Given::Failed => return How::Failed,
+        Given::All => {}
+    }
+    if !log_all(lane, lines) {
+        return How::Unlogged;
+    }
+    How::Answered(says_close(request, answer))
+}
+
+/// Puts these bytes, which may be none.
+pub(crate) fn put<L: Lane>(lane: &mut L, bytes: &[u8]) -> Given
+    requires { L.busy lane.old ≡ true }
+    ensures busy { L.busy lane.new ≡ true }
+    ensures past { (part : List ℕ) × IsGivenOf result part bytes.now × (L.past lane.new ≡ option_map (after_put part) (L.past lane.old)) }
+    ensures later { L.faults lane.old ≤ L.faults lane.new }
+    ensures failed { result ≡ given.Failed → Rose (L.faults lane.old) (L.faults lane.new) }
+{
+    if bytes.is_empty() {
+        return Given::All;
+    }
+    lane.write(bytes)
+}
+
+// Gives each line to its writer, until one fails. Says whether all were given.
+fn log_all<L: Lane>(lane: &mut L, lines: &[Line]) -> bool
+    requires { L.busy lane.old ≡ true }
+    ensures busy { L.busy lane.new ≡ true }
+    ensures logged { IsLogged result (map logged lines.now) (L.past lane.old) (L.past lane.new) }
+    ensures later { L.faults lane.old ≤ L.faults lane.new }
+    ensures failed { result ≡ false → Rose (L.faults lane.old) (L.faults lane.new) }
+{
+    let mut next = 0;
+    'logging: while next < lines.len() {
+        let line = &lines[next];
+        match lane.log(&line.key, &line.text) {
+            Given::Failed => return false,
+            Given::All => {}
+        }
+        next += 1;
+    }
+    true
+}

@@ -1,0 +1,90 @@
+//! One request is served.
+ghost use Rattle.std.specs.Prelude.{◌≡◌, ◌≤◌, [], Some, None, true};
+ghost use Rattle.cd_outside.specs.Counts.{Rose};
+ghost use Rattle.cd_legal.specs.declared.limits.TheConstants.{MAX_BEGINS};
+ghost use Rattle.cd_legal.specs.Begins.{begins_now};
+ghost use Rattle.cd_legal.specs.Entry.{entries};
+ghost use Rattle.cd_legal.specs.Legal.{state_at};
+ghost use Rattle.cd_gate.specs.Passes.{view};
+ghost use Rattle.cd_hall.specs.Calls.{IsPassOf};
+ghost use Rattle.cd_serve.specs.declared.how.How.TheVariants as how;
+ghost use Rattle.cd_serve.specs.Requests.{RequestServed, ServedOnce, OwesNothing, is_fault_in};
+
+use crate::acting::act;
+use crate::concluding::conclude;
+use crate::how::How;
+use cd_admin::Administered;
+use cd_gate::Pass;
+use cd_hall::{BeginFault, Hall, turns_place_their_entries};
+use cd_life::Board;
+use cd_outside::{Address, Fixtures, Lane};
+use cd_wire::Request;
+use std::alloc::Global;
+use std::sync::Wait;
+
+/// Serves a request that came to the address of the connection that is there. The pass owes nothing, before and after.
+///
+/// It begins, is answered under the configuration that is current then, and finishes; where another pass was first with a change,
+/// it does so again. What it made in the history, what was sent and what was logged belong together.
+pub fn serve_request<R: Wait, M: Administered, F: Fixtures, L: Lane>(
+    rt: &R,
+    alloc: Global,
+    hall: &Hall<M, F>,
+    pass: &mut Pass<Board<M, F>>,
+    lane: &mut L,
+    at: &Address,
+    request: &Request,
+) -> How
+    requires pass { IsPassOf hall.now pass.old }
+    requires free { OwesNothing (view pass.old) }
+    requires busy { L.busy lane.old ≡ true }
+    ensures pass { IsPassOf hall.now pass.new }
+    ensures free { OwesNothing (view pass.new) }
+    ensures busy { L.busy lane.new ≡ true }
+    ensures served { RequestServed (record { acts = M.acts; plan = M.plan }) at.now request.now result (view pass.old) (view pass.new) (L.past lane.old) (L.past lane.new) }
+    ensures later { L.faults lane.old ≤ L.faults lane.new }
+    ensures failed { is_fault_in (Some result) ≡ true → Rose (L.faults lane.old) (L.faults lane.new) }
+    ensures halted { result ≡ how.Halted → (state_at (view pass.new).seen).halted ≡ true }
+    ensures worn { result ≡ how.Worn → MAX_BEGINS ≤ begins_now (entries (view pass.new).seen) }
+{
+    for _ in rt.forever() {
+        match serve_once(rt, alloc, hall, pass, lane, at, request) {
+            Some(how) => return how,
+            None => {}
+        }
+    }
+    unreachable!()
+}
+
+// None where it is to be decided again.
+fn serve_once<R: Wait, M: Administered, F: Fixtures, L: Lane>(
+    rt: &R,
+    alloc: Global,
+    hall: &Hall<M, F>,
+    pass: &mut Pass<Board<M, F>>,
+    lane: &mut L,
+    at: &Address,
+    request: &Request,
+) -> Option<How>
+    requires pass { IsPassOf hall.now pass.old }
+    requires free { OwesNothing (view pass.old) }
+    requires busy { L.busy lane.old ≡ true }
+    ensures pass { IsPassOf hall.now pass.new }
+    ensures free { OwesNothing (view pass.new) }
+    ensures busy { L.busy lane.new ≡ true }
+    ensures served { ServedOnce (record { acts = M.acts; plan = M.plan }) at.now request.now result (view pass.old) (view pass.new) (L.past lane.old) (L.past lane.new) }
+    ensures later { L.faults lane.old ≤ L.faults lane.new }
+    ensures failed { is_fault_in result ≡ true → Rose (L.faults lane.old) (L.faults lane.new) }
+    ensures halted { result ≡ Some how.Halted → (state_at (view pass.new).seen).halted ≡ true }
+    ensures worn { result ≡ Some how.Worn → MAX_BEGINS ≤ begins_now (entries (view pass.new).seen) }
+{
+    turns_place_their_entries::<Board<M, F>>();
+    let ticket = match hall.begin(rt, pass) {
+        Ok(ticket) => ticket,
+        Err(BeginFault::Worn) => return Some(How::Worn),
+        Err(BeginFault::NoMemory) => return Some(How::Unbegun),
+    };
+    let how = act(rt, alloc, hall, pass, &ticket, lane, at, request);
+    conclude(rt, hall, ticket, pass);
+    how
+}

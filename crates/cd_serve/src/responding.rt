@@ -1,0 +1,50 @@
+//! What an app answers to a request, and what is logged of it.
+ghost use Rattle.std.specs.Prelude.{◌≡◌, IfOk, map};
+ghost use Rattle.cd_module_set.specs.Acts.{conf_acts};
+ghost use Rattle.cd_module_set.specs.declared.target.Target.TheVariants.{App};
+ghost use Rattle.cd_life.specs.Shares.{conf_in};
+ghost use Rattle.cd_serve.specs.Meanings.{AppAnswers, logged};
+
+use cd_hall::Ticket;
+use cd_module_set::{Line, ModuleSet};
+use cd_outside::Address;
+use cd_text::{List, NoMemory};
+use cd_wire::{Answer, Request};
+use std::alloc::Global;
+
+/// An answer, and its lines.
+#[derive(Drop)]
+pub(crate) struct Response {
+    pub answer: Answer,
+    pub lines: List<Line>,
+}
+
+/// The answer of the app at the address, under the configuration of the ticket.
+pub(crate) fn respond<M: ModuleSet>(
+    alloc: Global,
+    ticket: &Ticket<M>,
+    at: &Address,
+    request: &Request,
+) -> Result<Response, NoMemory>
+    requires { (conf_acts M.acts (conf_in ticket.now.share)).target at.now ≡ App }
+    ensures { IfOk result (λ r. AppAnswers (record { acts = M.acts; plan = M.plan }) (conf_in ticket.now.share) at.now request.now r.answer (map logged r.lines)) }
+{
+    let answer = answer_of(alloc, ticket, at, request)?;
+    let lines = M::lines(alloc, ticket.compiled(), at, request, &answer)?;
+    Ok(Response { answer, lines })
+}
+
+fn answer_of<M: ModuleSet>(
+    alloc: Global,
+    ticket: &Ticket<M>,
+    at: &Address,
+    request: &Request,
+) -> Result<Answer, NoMemory>
+    requires { (conf_acts M.acts (conf_in ticket.now.share)).target at.now ≡ App }
+    ensures { IfOk result (λ answer. answer ≡ (conf_acts M.acts (conf_in ticket.now.share)).answer at.now request.now) }
+{
+    match M::answer(alloc, ticket.compiled(), at, request)? {
+        Some(answer) => Ok(answer),
+        None => unreachable!(),
+    }
+}
