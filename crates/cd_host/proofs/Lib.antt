@@ -10,3 +10,6 @@ mod Beginning
 mod Ending
 mod Going
 mod Joined
+mod Turning
+mod Started
+mod Drafting

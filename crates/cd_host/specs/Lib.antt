@@ -4,3 +4,4 @@ pub mod Firsts
 pub mod Lanes
 pub mod Joining
 pub mod Runs
+pub mod Starting

@@ -5,12 +5,15 @@
 //! of all passes, legal and ended in order, of which each lane tells its part; and what the program itself does in it stands in
 //! specs/Program.antt and specs/Parts.antt. specs/Lanes.antt has what is known of each lane when all passes have come together.
 //!
-//! The functions of `laws` do nothing: their contracts say that the promise follows from what the calls of the hall and the serving
-//! of each lane tell.
+//! `start_first` (starting.rt) is the program's start, by its own pass: specs/Starting.antt says what it has made. The functions of
+//! `laws` do nothing: their contracts say that the promise follows from what the calls of the hall and the serving of each lane
+//! tell. The call that serves all lanes is not here yet.
 #![tactic(auto)]
 
 mod host_end;
 mod laws;
+mod start_how;
+mod starting;
 
 pub use host_end::{HostEnd, HostHow};
 pub use laws::{
@@ -18,3 +21,5 @@ pub use laws::{
     lanes_come_together, the_first_configuration_is_that_of_the_start, the_program_signs_its_parts,
     untouched_lanes_tell_nothing,
 };
+pub use start_how::StartHow;
+pub use starting::start_first;
