@@ -1,5 +1,5 @@
 -- What is done under a ticket, by who answers.
-use Rattle.std.proofs.Common.{◌≡◌, ◌∙◌, ◌++◌, ◌||◌, ◌&&◌, ◌==◌, not, ℕ, Bool, true, false, List, [], ◌∷◌, length, Option, Some, None, option_map, inl, inr, refl, ap, sym, subst}
+use Rattle.std.proofs.Common.{◌≡◌, ◌∙◌, ◌++◌, ◌||◌, ◌&&◌, ◌==◌, not, ℕ, Bool, true, false, List, [], ◌∷◌, Option, Some, None, inl, inr, refl, ap, sym, subst}
 use Rattle.std.specs.List.{list_any}
 use Rattle.std.specs.Result.{IsOk}
 use Rattle.std.specs.Arc.{arc_value}
@@ -14,19 +14,18 @@ use Rattle.cd_tree.proofs.Inside.{null_sound}
 use Rattle.cd_wire.specs.declared.answer.Answer.{Answer}
 use Rattle.cd_wire.specs.declared.request.Request.{Request}
 use Rattle.cd_legal.specs.declared.entry.Entry.{Entry}
-use Rattle.cd_legal.specs.declared.entry.Entry.TheVariants.{Begin, Halt}
+use Rattle.cd_legal.specs.declared.entry.Entry.TheVariants.{Halt}
 use Rattle.cd_legal.specs.declared.entry.Change.{Change}
 use Rattle.cd_legal.specs.declared.entry.Change.TheVariants as by
 use Rattle.cd_legal.specs.declared.entry.Signed.{Signed}
 use Rattle.cd_legal.specs.declared.state.State.{State}
-use Rattle.cd_legal.specs.Entry.{signed, entries, mine}
+use Rattle.cd_legal.specs.Entry.{entries, mine}
 use Rattle.cd_legal.specs.State.{Conf, conf_of}
 use Rattle.cd_legal.specs.Legal.{after, state_at, state_from}
-use Rattle.cd_legal.specs.Placed.{Placed, placed, placed_entries, met}
+use Rattle.cd_legal.specs.Placed.{Placed, placed, placed_entries}
 use Rattle.cd_legal.specs.Serials.{is_halted}
-use Rattle.cd_legal.specs.Signing.{IsHistory}
 use Rattle.cd_legal.proofs.Confs.{conf-halted}
-use Rattle.cd_legal.proofs.Logs.{entries-append, mine-append, state-append, state-snoc}
+use Rattle.cd_legal.proofs.Logs.{entries-append, mine-append, state-append}
 use Rattle.cd_legal.proofs.Placed.{placed-entries}
 use Rattle.cd_module_set.specs.Acts.{conf_acts}
 use Rattle.cd_module_set.specs.declared.set.ModuleSet.{Ghosts}
@@ -37,9 +36,8 @@ use Rattle.cd_life.specs.declared.shares.Share.{Share}
 use Rattle.cd_life.specs.declared.shares.Share.TheVariants as share
 use Rattle.cd_life.specs.Shares.{conf_in, tree_in}
 use Rattle.cd_hall.specs.declared.hall.Ticket.{Ticket}
-use Rattle.cd_hall.specs.Tickets.{IsTicketOf}
 use Rattle.cd_admin.specs.Answers.{done}
-use Rattle.cd_admin.specs.Deciding.{Outcome as Decision, replace, halt}
+use Rattle.cd_admin.specs.Deciding.{replace, halt}
 use Rattle.cd_admin.specs.Decisions.{IsServed}
 use Rattle.cd_serve.specs.declared.attempting.Attempt.TheVariants as attempt
 use Rattle.cd_serve.specs.declared.fault.ChangeFault.{ChangeFault}
@@ -49,7 +47,7 @@ use Rattle.cd_serve.specs.Attempts.{Attempted, Works}
 use Rattle.cd_serve.specs.Changes.{IsHalted}
 use Rattle.cd_serve.specs.Meanings.{Meaning, IsForNobody, IsAnswer, Decides}
 use Rattle.cd_serve.specs.Faults.{fault_answer, halted_answer}
-use Rattle.cd_serve.specs.Episodes.{Kind, Outcome, Answers, Replaces, Halts, IsAgain, conf_met, is_halt, another_halted}
+use Rattle.cd_serve.specs.Episodes.{Kind, Outcome, Answers, Replaces, Halts, is_halt, another_halted}
 use Rattle.cd_serve.specs.Requests.{outcome_of, IsSent, BeganWith, FinishesAfter, EndsWith, Acted, ActedQuietly, IsCurrent}
 use Rattle.cd_serve.proofs.Answered.{kind_of, answers-made, answers-refused, again-superseded}
 use Rattle.cd_serve.proofs.Halts.{halted-by-another}
@@ -208,11 +206,6 @@ module _ (m : Meaning) (at : Address) (q : Request) (conf : Conf) (serial : ℕ)
           past = nothing-sent told;
           is = (λ begin finish b f. inr (halts begin d b, refl, ap (λ (l : List Signed). another_halted v.number l) (sym f.after.1) ∙ another-stays v.number w.seen f.after.0 another), refl, refl);
         }
-
--- ---- the beginning
-
-pub began-current : (w : List Signed) (k serial : ℕ) (found : List Signed) → w ≡ found ++ signed k (Begin k serial) ∷ [] → serial ≡ (state_at found).serial → serial ≡ (state_at w).serial
-began-current w k serial found is current = current ∙ (sym (ap (λ (s : State). s.serial) (state-snoc found (signed k (Begin k serial)))) ∙ ap (λ (l : List Signed). (state_at l).serial) (sym is))
 
 -- the request of a change
 request_in : Change → Request → Request

@@ -1,21 +1,19 @@
 -- A request from its Begin to its block, put together from what each call made.
 use Rattle.std.proofs.Common.{◌≡◌, ◌∙◌, ◌++◌, ℕ, zero, suc, List, [], ◌∷◌, Option, Some, None, option_map, refl, ap, sym, subst}
 use Rattle.std.proofs.lemmas.List.{append_assoc, append-nil}
-use mathlib.Core.List.{IsPrefix}
 use Rattle.cd_text.specs.Steps.{joined}
 use Rattle.cd_outside.specs.declared.address.Address.{Address}
 use Rattle.cd_outside.specs.declared.past.Logged.{Logged}
 use Rattle.cd_outside.specs.declared.past.Past.{Past}
 use Rattle.cd_outside.specs.Past.{with_connection}
 use Rattle.cd_wire.specs.declared.request.Request.{Request}
-use Rattle.cd_legal.specs.declared.entry.Entry.{Entry}
 use Rattle.cd_legal.specs.declared.entry.Entry.TheVariants.{Begin, Finish}
 use Rattle.cd_legal.specs.declared.entry.Signed.{Signed}
 use Rattle.cd_legal.specs.declared.state.State.{State}
 use Rattle.cd_legal.specs.Entry.{signed}
 use Rattle.cd_legal.specs.State.{Conf, conf_of}
 use Rattle.cd_legal.specs.Legal.{after, state_at}
-use Rattle.cd_legal.specs.Placed.{Placed, placed, through, met}
+use Rattle.cd_legal.specs.Placed.{Placed, met}
 use Rattle.cd_legal.specs.Owing.{Owes}
 use Rattle.cd_legal.specs.Signing.{IsHistory}
 use Rattle.cd_legal.proofs.Logs.{state-snoc}
@@ -29,10 +27,9 @@ use Rattle.cd_serve.specs.declared.how.How.{How}
 use Rattle.cd_serve.specs.declared.how.How.TheVariants as how
 use Rattle.cd_serve.specs.Meanings.{Meaning}
 use Rattle.cd_serve.specs.Blocks.{due, IsDue}
-use Rattle.cd_serve.specs.Episodes.{Outcome, Episode, Ends, IsAgain, conf_met}
-use Rattle.cd_serve.specs.Replies.{Reply, AllAgain, own_of}
-use Rattle.cd_serve.specs.Serving.{Replied, NotBegun}
-use Rattle.cd_serve.specs.Requests.{outcome_of, after_sending, OwesNothing, OwesTicket, IsCurrent, BeganWith, FinishesAfter, EndsWith, ActsBetween, Acted, ActedQuietly, Concluded, RepliedWith, RequestServed, DecidesAgain, ServedOnce, Repeats}
+use Rattle.cd_serve.specs.Episodes.{Outcome, Episode, IsAgain}
+use Rattle.cd_serve.specs.Replies.{AllAgain}
+use Rattle.cd_serve.specs.Requests.{outcome_of, after_sending, OwesNothing, OwesTicket, IsCurrent, BeganWith, EndsWith, Acted, ActedQuietly, Concluded, RepliedWith, RequestServed, DecidesAgain, ServedOnce, Repeats}
 use Rattle.cd_serve.proofs.Sends.{nothing-sent}
 use Rattle.cd_serve.proofs.Works.{works-none}
 

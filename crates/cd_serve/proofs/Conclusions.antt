@@ -1,34 +1,30 @@
 -- A request is ended: what its turn has found, and what follows.
 use Rattle.std.proofs.Common.{◌≡◌, ◌<◌, ◌≤◌, ◌+◌, ◌∙◌, ◌++◌, ℕ, zero, suc, Bool, true, false, cond, ◌==◌, nat_lt, List, [], ◌∷◌, length, Option, Some, None, refl, ap, sym, subst, eq-eqb, arith}
 use Rattle.std.specs.Prelude.{◌&&◌, ◌||◌}
-use Rattle.std.proofs.lemmas.List.{append-nil, append_assoc}
+use Rattle.std.proofs.lemmas.List.{append_assoc}
 use mathlib.Core.List.{IsPrefix}
-use Rattle.cd_legal.specs.declared.entry.Entry.{Entry}
-use Rattle.cd_legal.specs.declared.entry.Entry.TheVariants.{Finish, Retire}
+use Rattle.cd_legal.specs.declared.entry.Entry.TheVariants.{Finish}
 use Rattle.cd_legal.specs.declared.entry.Signed.{Signed}
 use Rattle.cd_legal.specs.declared.state.State.{State}
 use Rattle.cd_legal.specs.Entry.{signed, entries}
 use Rattle.cd_legal.specs.State.{has_number, ticket_of, open_at}
-use Rattle.cd_legal.specs.Legal.{after, state_at, may_retire}
+use Rattle.cd_legal.specs.Legal.{state_at, may_retire}
 use Rattle.cd_legal.specs.Owing.{Owes}
-use Rattle.cd_legal.specs.Placed.{Placed, placed_entries, met}
-use Rattle.cd_legal.specs.Runs.{entries_for, cleaned_all, cleaned_of, made_in, block_of}
+use Rattle.cd_legal.specs.Placed.{Placed, placed_entries}
+use Rattle.cd_legal.specs.Runs.{entries_for, cleaned_all, made_in, block_of}
 use Rattle.cd_legal.specs.Signing.{IsHistory}
 use Rattle.cd_legal.specs.Whole.{nothing_left}
 use Rattle.cd_legal.proofs.Histories.{first}
 use Rattle.cd_legal.proofs.Facts.{is-less}
-use Rattle.cd_legal.proofs.Logs.{state-snoc, history-front}
+use Rattle.cd_legal.proofs.Logs.{history-front}
 use Rattle.cd_legal.proofs.Serials.{published-count}
 use Rattle.cd_gate.specs.declared.view.View.{View}
 use Rattle.cd_gate.specs.Growing.{Places, owes_after, all_signed}
 use Rattle.cd_gate.specs.Knowing.{due_at as serial_due}
 use Rattle.cd_gate.specs.Words.{owed}
 use Rattle.cd_gate.proofs.Grown.{places_both}
-use Rattle.cd_hall.specs.declared.duty.Duty.{Duty}
-use Rattle.cd_hall.specs.Calls.{duties_in}
 use Rattle.cd_hall.specs.Turned.{Turned, placed_behind}
 use Rattle.cd_hall.specs.Publishing.{without_number}
-use Rattle.cd_serve.specs.Blocks.{due, IsDue}
 use Rattle.cd_serve.specs.Requests.{FinishesAfter, Concluded}
 use Rattle.cd_serve.proofs.Due.{retirable-is, due-is, duty-none, duty-some}
 use Rattle.cd_serve.proofs.Retirings.{block-stays}

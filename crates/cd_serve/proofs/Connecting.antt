@@ -1,6 +1,6 @@
 -- A connection goes on from nothing, and ends in one of the ways.
 use Rattle.std.proofs.Common.{◌≡◌, ◌∙◌, ◌++◌, ◌+◌, ℕ, min, Bool, true, false, cond, List, [], ◌∷◌, Option, option_map, refl, ap, sym, subst, arith}
-use Rattle.std.specs.Prelude.{map, flat_map, sum_by, count_by}
+use Rattle.std.specs.Prelude.{flat_map, sum_by}
 use Rattle.std.proofs.lemmas.List.{append-nil, map-append}
 use Rattle.std.proofs.lemmas.List.Sums.{sum_by-append}
 use Rattle.std.proofs.lemmas.Grind.{flat_map-append}
@@ -19,9 +19,9 @@ use Rattle.cd_legal.specs.Placed.{Placed, through}
 use Rattle.cd_serve.specs.Meanings.{Meaning}
 use Rattle.cd_serve.specs.Episodes.{Outcome}
 use Rattle.cd_serve.specs.Replies.{Reply, IsReply, AreReplies, requests, own_of, owns, puts, logs, is_whole, answered_of}
-use Rattle.cd_serve.specs.Connections.{Way, Ending, AllGoOn, EndsBy}
+use Rattle.cd_serve.specs.Connections.{Way, AllGoOn, EndsBy}
 use Rattle.cd_serve.specs.Lanes.{is_early}
-use Rattle.cd_serve.specs.Serving.{Replied, ConnectionSoFar, ConnectionServed, after_all, after_reply}
+use Rattle.cd_serve.specs.Serving.{Replied, ConnectionSoFar, ConnectionServed, after_all}
 use Rattle.cd_serve.proofs.Told.{nothing-yet, nothing-put, taking, ending, putting, fixing}
 
 -- ---- one reply more

@@ -1,14 +1,12 @@
 -- What follows a Finish, by what its turn has found.
-use Rattle.std.proofs.Common.{◌≡◌, ◌<◌, ◌≤◌, ◌+◌, ◌⊎◌, inl, inr, ℕ, zero, suc, ◌==◌, Bool, true, false, nat_lt, cond, if◌then◌else◌, List, [], ◌∷◌, ◌++◌, Option, Some, None, refl, sym, ap, subst, ◌∙◌, eq-eqb, arith}
+use Rattle.std.proofs.Common.{◌≡◌, ◌+◌, inr, ℕ, ◌==◌, Bool, true, false, nat_lt, cond, if◌then◌else◌, List, [], ◌∷◌, ◌++◌, Option, Some, refl, sym, ap, subst, ◌∙◌, eq-eqb, arith}
 use Rattle.std.specs.Prelude.{◌&&◌}
 use Rattle.std.proofs.lemmas.Bool.{eqb-true}
-use mathlib.Core.List.{IsPrefix}
-use Rattle.cd_legal.specs.declared.entry.Entry.{Entry}
 use Rattle.cd_legal.specs.declared.entry.Entry.TheVariants.{Finish}
 use Rattle.cd_legal.specs.declared.entry.Signed.{Signed}
 use Rattle.cd_legal.specs.declared.state.State.{State}
 use Rattle.cd_legal.specs.Entry.{signed, entries}
-use Rattle.cd_legal.specs.State.{has_number, ticket_of, open_at, without_ticket}
+use Rattle.cd_legal.specs.State.{ticket_of, open_at, without_ticket}
 use Rattle.cd_legal.specs.Legal.{after, state_at, may_retire}
 use Rattle.cd_legal.specs.Placed.{Placed, placed_entries}
 use Rattle.cd_legal.specs.Runs.{block_of}
@@ -16,11 +14,7 @@ use Rattle.cd_legal.specs.Signing.{IsHistory}
 use Rattle.cd_legal.specs.Whole.{nothing_left}
 use Rattle.cd_legal.proofs.Logs.{state-snoc, history-front}
 use Rattle.cd_legal.proofs.Callers.{one_ticket, open_at-closed}
-use Rattle.cd_gate.specs.Knowing.{due_at as serial_due}
 use Rattle.cd_gate.proofs.Calm.{unretired_here, told_due}
-use Rattle.cd_gate.proofs.Retiring.{retirable-low}
-use Rattle.cd_hall.specs.declared.duty.Duty.{Duty}
-use Rattle.cd_hall.specs.Calls.{duties_in}
 use Rattle.cd_serve.specs.Blocks.{Due, due, due_of, due_at, IsDue}
 
 agree_on : (a b : Bool) → (a ≡ true → b ≡ true) → (b ≡ true → a ≡ true) → a ≡ b

@@ -1,5 +1,5 @@
 -- Each definition where it holds and where it does not, computed: whole histories, their episodes, and near misses.
-use Rattle.std.proofs.Common.{◌≡◌, ℕ, ◌+◌, ◌++◌, Bool, true, false, List, [], ◌∷◌, length, map, refl, ap, sym, subst, ◌∙◌, Option, Some, None, Ok, IsTrue, inl, inr, arith}
+use Rattle.std.proofs.Common.{◌≡◌, ℕ, ◌++◌, true, false, List, [], ◌∷◌, length, map, refl, ap, sym, ◌∙◌, Some, None, Ok, inl, inr, arith}
 use Rattle.std.specs.Prelude.{codes}
 use Rattle.std.proofs.lemmas.List.{length-append, length-map, append-nil}
 use Rattle.cd_outside.specs.declared.address.Address.{Address}
@@ -23,14 +23,13 @@ use Rattle.cd_legal.specs.Runs.{Failure, opened, stopped_of}
 use Rattle.cd_legal.specs.Signing.{are_signed}
 use Rattle.cd_admin.specs.Answers.{done}
 use Rattle.cd_admin.specs.Deciding.{decided, reply, replace, halt}
-use Rattle.cd_module_set.specs.Acts.{Acts, conf_acts}
 use Rattle.cd_module_set.specs.declared.target.Target.TheVariants as who
 use Rattle.cd_serve.specs.declared.fault.ChangeFault.{ChangeFault}
 use Rattle.cd_serve.specs.declared.fault.ChangeFault.TheVariants as fault
-use Rattle.cd_serve.specs.Meanings.{Meaning, is_head, says_close, sent, IsCutOff, IsForNobody, AppAnswers, Decides, IsAnswer, logged}
+use Rattle.cd_serve.specs.Meanings.{Meaning, Decides, IsAnswer, logged}
 use Rattle.cd_serve.specs.Faults.{words, status, fault_answer, halted_answer}
-use Rattle.cd_serve.specs.Blocks.{Due, due, IsDue}
-use Rattle.cd_serve.specs.Changes.{no_room, IsPublished, IsGivenUp, IsUndone, IsKept, IsSuperseded, IsHalted}
+use Rattle.cd_serve.specs.Blocks.{Due, due}
+use Rattle.cd_serve.specs.Changes.{no_room, IsPublished, IsUndone, IsKept, IsHalted}
 use Rattle.cd_serve.specs.Episodes.{Episode, Kind, Outcome, Answers, IsAgain, Ends, conf_met, is_halt, another_halted}
 use Rattle.cd_serve.specs.Replies.{is_whole}
 use Rattle.cd_serve.specs.Connections.{Way, Break}

@@ -1,5 +1,5 @@
 -- A lane goes on: it begins, one more connection is served, and its last accept says that no more comes or fails.
-use Rattle.std.proofs.Common.{◌≡◌, ◌≤◌, ◌<◌, ◌∙◌, ◌++◌, ◌+◌, ◌-◌, ◌^◌, ℕ, min, Bool, true, false, cond, List, [], ◌∷◌, Option, Some, None, option_map, refl, ap, sym, subst, arith}
+use Rattle.std.proofs.Common.{◌≡◌, ◌≤◌, ◌<◌, ◌∙◌, ◌++◌, ◌+◌, ◌-◌, ℕ, min, Bool, cond, List, [], ◌∷◌, Some, option_map, refl, ap, sym, subst, arith}
 use Rattle.std.specs.Prelude.{sum_by}
 use Rattle.std.proofs.lemmas.List.{append_assoc, append-nil}
 use Rattle.std.proofs.lemmas.List.Sums.{sum_by-append}
@@ -8,7 +8,7 @@ use Rattle.cd_outside.specs.declared.accepted.Accepted.TheVariants as accepted
 use Rattle.cd_outside.specs.declared.address.Address.{Address}
 use Rattle.cd_outside.specs.declared.past.Connection.{Connection}
 use Rattle.cd_outside.specs.declared.past.Past.{Past}
-use Rattle.cd_outside.specs.Counts.{count_end, raised, Rose, Covers}
+use Rattle.cd_outside.specs.Counts.{count_end, Rose, Covers}
 use Rattle.cd_outside.specs.Past.{with_last, with_connection, after_accept, fresh}
 use Rattle.cd_legal.specs.declared.entry.Signed.{Signed}
 use Rattle.cd_legal.specs.Placed.{Placed, through}
@@ -16,7 +16,7 @@ use Rattle.cd_serve.specs.declared.cause.Cause.{Cause}
 use Rattle.cd_serve.specs.declared.cause.Cause.TheVariants as cause
 use Rattle.cd_serve.specs.Meanings.{Meaning}
 use Rattle.cd_serve.specs.Connections.{Ending}
-use Rattle.cd_serve.specs.Lanes.{IsTold, Told, is_early, early_in, answered_in, LaneSoFar}
+use Rattle.cd_serve.specs.Lanes.{Told, is_early, early_in, answered_in, LaneSoFar}
 use Rattle.cd_serve.specs.Serving.{ConnectionServed, after_all, cuts_short, HasRisen, cut_by}
 use Rattle.cd_serve.proofs.Longer.{told-longer}
 use Rattle.cd_serve.proofs.Together.{told-together}

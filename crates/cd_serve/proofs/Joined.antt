@@ -1,5 +1,5 @@
 -- From what each lane tells to what all tell together.
-use Rattle.std.proofs.Common.{◌≡◌, ◌≤◌, ◌<◌, ◌∙◌, ◌++◌, ◌+◌, ◌-◌, ◌^◌, ℕ, min, List, [], ◌∷◌, Option, Some, None, refl, ap, sym, subst, arith}
+use Rattle.std.proofs.Common.{◌≡◌, ◌≤◌, ◌<◌, ◌∙◌, ◌++◌, ◌+◌, ◌-◌, ℕ, min, List, [], ◌∷◌, Option, Some, None, refl, ap, sym, subst, arith}
 use Rattle.std.specs.Prelude.{sum_by}
 use Rattle.std.proofs.lemmas.List.Sums.{sum_by-cons}
 use mathlib.Core.List.{IsPrefix}
@@ -15,7 +15,7 @@ use Rattle.cd_legal.proofs.Placed.{placed-stays}
 use Rattle.cd_serve.specs.declared.lane_end.LaneEnd.{LaneEnd}
 use Rattle.cd_serve.specs.Meanings.{Meaning}
 use Rattle.cd_serve.specs.Lanes.{Told, IsServed, early_in, answered_in}
-use Rattle.cd_serve.specs.Joining.{Span, Tale, IsTale, TaleOf, TalesFrom, of_tale, mishaps, all_of, AllTell, of_those, EachCovered, NoneAtEnd, AllCovered, LanesTold, Slot, IsSlot, SlotsFrom, lanes_of}
+use Rattle.cd_serve.specs.Joining.{Span, Tale, TaleOf, TalesFrom, of_tale, mishaps, all_of, AllTell, of_those, EachCovered, NoneAtEnd, LanesTold, Slot, IsSlot, SlotsFrom, lanes_of}
 use Rattle.cd_serve.proofs.Longer.{placed-stays-in, told-longer}
 
 -- the entries of a pass that had none are those that it made since

@@ -1,7 +1,6 @@
 -- A lane goes on by one connection, or ends.
-use Rattle.std.proofs.Common.{◌≡◌, ◌≤◌, ◌∙◌, ◌++◌, ◌+◌, ℕ, min, List, [], Option, Some, None, option_map, refl, ap, sym, subst, arith}
+use Rattle.std.proofs.Common.{◌≡◌, ◌≤◌, ◌∙◌, ◌++◌, ◌+◌, ℕ, min, List, [], Option, Some, None, option_map, refl, ap, sym, subst}
 use mathlib.Core.List.{IsPrefix}
-use Rattle.cd_outside.specs.declared.accepted.Accepted.{Accepted}
 use Rattle.cd_outside.specs.declared.accepted.Accepted.TheVariants as accepted
 use Rattle.cd_outside.specs.declared.address.Address.{Address}
 use Rattle.cd_outside.specs.declared.past.Past.{Past}
@@ -17,8 +16,8 @@ use Rattle.cd_serve.specs.declared.lane_end.LaneHow.TheVariants as how
 use Rattle.cd_serve.specs.Meanings.{Meaning}
 use Rattle.cd_serve.specs.Lanes.{LaneSoFar, IsServed}
 use Rattle.cd_serve.specs.Serving.{ConnectionServed, after_all, cuts_short, HasRisen, cut_by}
-use Rattle.cd_serve.specs.Stepping.{HasPlaced, IsOver, LaneGoesOn, LaneServed, LastCame}
-use Rattle.cd_serve.proofs.Going.{lane-starts, lane-goes, lane-ends, lane-fails, past_is}
+use Rattle.cd_serve.specs.Stepping.{IsOver, LaneGoesOn, LaneServed, LastCame}
+use Rattle.cd_serve.proofs.Going.{lane-starts, lane-goes, lane-ends, lane-fails}
 use Rattle.cd_serve.proofs.Stepping.{placed-none, placed-both}
 
 tells-new : (m : Meaning) (k : ℕ) (seen : List Signed) (faults : ℕ) (told : Option Past) → TellsOn (LaneSoFar m k seen [] faults faults 0 0) told told

@@ -1,9 +1,8 @@
 -- What is sent and logged for an answer, and the outcome that it gives.
-use Rattle.std.proofs.Common.{◌≡◌, ◌<◌, ◌≤◌, ◌∙◌, ◌++◌, ℕ, zero, suc, Bool, true, false, List, [], ◌∷◌, length, take, Option, Some, None, option_map, inl, inr, refl, ap, sym, subst, arith}
+use Rattle.std.proofs.Common.{◌≡◌, ◌<◌, ◌≤◌, ◌∙◌, ◌++◌, ℕ, Bool, true, false, List, [], ◌∷◌, length, take, Option, Some, None, option_map, inl, refl, ap, sym, subst, arith}
 use Rattle.std.specs.Prelude.{map}
 use Rattle.std.proofs.lemmas.List.{append_assoc, append-nil, take_all, take-map, length-map}
 use Rattle.cd_outside.specs.declared.address.Address.{Address}
-use Rattle.cd_outside.specs.declared.past.Connection.{Connection}
 use Rattle.cd_outside.specs.declared.past.Logged.{Logged}
 use Rattle.cd_outside.specs.declared.past.Past.{Past}
 use Rattle.cd_outside.specs.Past.{with_connection, after_put}
@@ -15,14 +14,11 @@ use Rattle.cd_serve.specs.declared.how.How.{How}
 use Rattle.cd_serve.specs.declared.how.How.TheVariants as how
 use Rattle.cd_module_set.specs.declared.target.Line.{Line}
 use Rattle.cd_serve.specs.Meanings.{Meaning, logged, is_head, sent, says_close, IsCutOff}
-use Rattle.cd_serve.specs.Episodes.{Kind, Outcome, Answers}
+use Rattle.cd_serve.specs.Episodes.{Kind, Answers}
 use Rattle.cd_serve.specs.Requests.{outcome_of, after_sending, Sends, IsSent, IsLogged, EndsWith}
 use Rattle.cd_serve.proofs.Told.{changes, no-change}
 
 -- ---- what is told
-
-same-change : (f h : Connection → Connection) (old new : Option Past) → new ≡ option_map (with_connection f) old → ((c : Connection) → f c ≡ h c) → new ≡ option_map (with_connection h) old
-same-change f h old new is same = changes (λ c. c) f h old old new (no-change (λ c. c) old (λ c. refl)) is same
 
 pub nothing-sent : (told : Option Past) → told ≡ option_map (with_connection (after_sending [] [])) told
 nothing-sent told =
@@ -31,12 +27,6 @@ nothing-sent told =
 
 pub no-bytes : (told : Option Past) → told ≡ option_map (after_put []) told
 no-bytes told = no-change (λ c. record c { put = c.put ++ [] }) told (λ c. ap (λ (b : List ℕ). record c { put = b }) (append-nil c.put))
-
--- bytes alone
-bytes-sent : (part : List ℕ) (old new : Option Past) → new ≡ option_map (after_put part) old → new ≡ option_map (with_connection (after_sending part [])) old
-bytes-sent part old new is =
-    same-change (λ c. record c { put = c.put ++ part }) (after_sending part []) old new is
-    (λ c. ap (λ (ls : List Logged). record c { put = c.put ++ part; lines = ls }) (sym (append-nil c.lines)))
 
 -- bytes, and then lines
 bytes-logged : (part : List ℕ) (lines : List Logged) (old then new : Option Past) → then ≡ option_map (after_put part) old → new ≡ option_map (with_connection (after_sending [] lines)) then → new ≡ option_map (with_connection (after_sending part lines)) old
@@ -78,14 +68,6 @@ logged-all n lines old new all past = record {
 
 pub sent-lacking : (q : Request) (r : Answer) (all : List Logged) (old : Option Past) → IsSent how.NoMemory q r all old old
 sent-lacking q r all old = record { put = []; lines = []; past = nothing-sent old; is = (refl, refl) }
-
-pub sent-failed : (q : Request) (r : Answer) (all : List Logged) (part bytes : List ℕ) (old new : Option Past) → bytes ≡ sent q r → IsCutOff part bytes → new ≡ option_map (after_put part) old → IsSent how.Failed q r all old new
-sent-failed q r all part bytes old new is cut told = record {
-  put = part;
-  lines = [];
-  past = bytes-sent part old new told;
-  is = (subst (λ (z : List ℕ). IsCutOff part z) is cut, refl);
-}
 
 pub sent-unlogged : (q : Request) (r : Answer) (all : List Logged) (part bytes : List ℕ) (old then new : Option Past) → bytes ≡ sent q r → part ≡ bytes → then ≡ option_map (after_put part) old → IsLogged false all then new → IsSent how.Unlogged q r all old new
 sent-unlogged q r all part bytes old then new is whole told logs = record {

@@ -18,7 +18,6 @@ use Rattle.cd_legal.specs.declared.entry.Signed.{Signed}
 use Rattle.cd_legal.specs.Begins.{begins_now}
 use Rattle.cd_legal.specs.Entry.{signed, entries}
 use Rattle.cd_legal.specs.Placed.{Placed, placed, placed_entries, through}
-use Rattle.cd_legal.specs.Signing.{IsHistory}
 use Rattle.cd_legal.proofs.Begun.{begins-now}
 use Rattle.cd_legal.proofs.Logs.{prefix_trans}
 use Rattle.cd_gate.specs.declared.view.View.{View}
@@ -28,8 +27,8 @@ use Rattle.cd_serve.specs.declared.cause.Cause.TheVariants as cause
 use Rattle.cd_serve.specs.declared.connection_end.ConnectionEnd.{ConnectionEnd}
 use Rattle.cd_serve.specs.Meanings.{Meaning, IsCutOff}
 use Rattle.cd_serve.specs.Episodes.{Outcome}
-use Rattle.cd_serve.specs.Replies.{Reply, AllAgain, is_whole, answered_of}
-use Rattle.cd_serve.specs.Connections.{Break, Way, AllGoOn, LastIs, IsTail, HasFurther, IsWorn, EndsBy}
+use Rattle.cd_serve.specs.Replies.{Reply, is_whole}
+use Rattle.cd_serve.specs.Connections.{Break, Way, LastIs, IsTail, HasFurther, IsWorn, EndsBy}
 use Rattle.cd_serve.specs.Lanes.{is_early}
 use Rattle.cd_serve.specs.Serving.{Replied, NotBegun, ConnectionSoFar, ConnectionServed, cuts_short, HasRisen}
 use Rattle.cd_serve.specs.Stepping.{HasPlaced, GoesOn, IsOver}

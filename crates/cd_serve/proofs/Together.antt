@@ -1,5 +1,5 @@
 -- Connections that were served one after another are told together.
-use Rattle.std.proofs.Common.{◌≡◌, ℕ, ◌+◌, List, [], ◌∷◌, ◌++◌, refl, ap, sym, subst, ◌∙◌}
+use Rattle.std.proofs.Common.{ℕ, List, [], ◌∷◌, ◌++◌, ap, sym, subst, ◌∙◌}
 use Rattle.std.specs.Prelude.{flat_map}
 use Rattle.std.proofs.lemmas.List.{append_assoc, append-nil}
 use Rattle.std.proofs.lemmas.Grind.{flat_map-append}
@@ -7,7 +7,7 @@ use Rattle.cd_outside.specs.declared.past.Connection.{Connection}
 use Rattle.cd_legal.specs.declared.entry.Signed.{Signed}
 use Rattle.cd_legal.specs.Placed.{Placed}
 use Rattle.cd_serve.specs.Meanings.{Meaning}
-use Rattle.cd_serve.specs.Connections.{Ending, Serves, ServesEach}
+use Rattle.cd_serve.specs.Connections.{Ending, ServesEach}
 use Rattle.cd_serve.specs.Lanes.{IsTold}
 
 each-together : (m : Meaning) (k : ℕ) (history : List Signed) (before : List Placed) (cs ds : List Connection) (es fs : List Ending)

@@ -19,7 +19,7 @@ use Rattle.cd_serve.specs.declared.fault.ChangeFault.TheVariants.{CannotOpen, No
 use Rattle.cd_serve.specs.Meanings.{Meaning, sent, says_close, IsCutOff, IsForNobody, Decides, IsAnswer}
 use Rattle.cd_serve.specs.Faults.{fault_answer, halted_answer}
 use Rattle.cd_serve.specs.Blocks.{due, IsDue}
-use Rattle.cd_serve.specs.Changes.{IsPublished, IsGivenUp, IsUndone, IsKept, IsSuperseded, IsHalted}
+use Rattle.cd_serve.specs.Changes.{IsPublished, IsUndone, IsKept, IsSuperseded, IsHalted}
 
 -- pass k begins a request under the current serial, does this work, finishes it, and makes the block that follows
 pub record Episode (k : ℕ) (own : List Placed) : Type 0 where

@@ -1,6 +1,6 @@
 -- What is done by the calls that serve: for one request, for one connection, and for the connections of a lane so far. Each is
 -- said of the entries that the pass has made in the call, where they stand in what it has then seen.
-use Rattle.std.specs.Prelude.{◌≡◌, ◌++◌, ◌||◌, ◌≤◌, ℕ, Bool, true, false, min, List, [], Option, option_map}
+use Rattle.std.specs.Prelude.{◌≡◌, ◌++◌, ◌||◌, ◌≤◌, ℕ, Bool, true, false, min, List, Option, option_map}
 use mathlib.Core.List.{IsPrefix}
 use Rattle.cd_text.specs.Steps.{joined}
 use Rattle.cd_outside.specs.declared.address.Address.{Address}

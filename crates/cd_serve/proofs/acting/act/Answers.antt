@@ -1,4 +1,4 @@
-use Rattle.std.proofs.Common.{◌≡◌, ◌∙◌, sym}
+use Rattle.std.proofs.Common.{◌∙◌, sym}
 use Rattle.cd_gate.specs.Passes.{view}
 use Rattle.cd_life.specs.Shares.{conf_in}
 use Rattle.cd_serve.specs.Meanings.{Meaning}

@@ -1,9 +1,8 @@
-use Rattle.std.proofs.Common.{◌≡◌, ◌∙◌, [], refl, sym, ap, inr}
+use Rattle.std.proofs.Common.{◌∙◌, [], refl, sym, ap, inr}
 use Rattle.cd_gate.specs.Passes.{view}
 use Rattle.cd_life.specs.Shares.{conf_in, tree_in}
 use Rattle.cd_tree.specs.declared.tree.Tree.{Tree}
-use Rattle.cd_admin.specs.Deciding.{Outcome as Decision, reply, decided}
-use Rattle.cd_admin.specs.Decisions.{said}
+use Rattle.cd_admin.specs.Deciding.{reply, decided}
 use Rattle.cd_serve.specs.Meanings.{Meaning, Decides}
 use Rattle.cd_serve.proofs.Acts.{quiet-answer, quiet-lacking}
 use Rattle.cd_serve.proofs.Answered.{runs-tree}

@@ -1,4 +1,4 @@
-use Rattle.std.proofs.Common.{◌≡◌, List, subst, inl, ap}
+use Rattle.std.proofs.Common.{List, subst, inl, ap}
 use Rattle.std.specs.Prelude.{map}
 use Rattle.cd_outside.specs.declared.past.Logged.{Logged}
 use Rattle.cd_life.specs.Shares.{conf_in}

@@ -1,4 +1,4 @@
-use Rattle.std.proofs.Common.{◌≡◌, [], List, subst}
+use Rattle.std.proofs.Common.{[], subst}
 use Rattle.cd_wire.specs.declared.answer.Answer.{Answer}
 use Rattle.cd_gate.specs.Passes.{view}
 use Rattle.cd_life.specs.Shares.{conf_in}

@@ -1,10 +1,6 @@
-use Rattle.std.proofs.Common.{◌≡◌, ◌∙◌, ◌++◌, ◌∷◌, [], ℕ, List, refl, ap, sym}
-use Rattle.cd_gate.specs.declared.view.View.{View}
+use Rattle.std.proofs.Common.{◌∙◌, ◌++◌, ◌∷◌, [], ℕ, List, ap}
 use Rattle.cd_gate.specs.Passes.{view}
 use Rattle.cd_legal.specs.Legal.{state_at}
-use Rattle.cd_legal.specs.Runs.{block_of}
-use Rattle.cd_hall.specs.Turned.{placed_behind}
-use Rattle.cd_hall.specs.Publishing.{without_number}
 use Rattle.cd_serve.proofs.Conclusions.{concluded_none, concluded_duty, ended_ticket, ended_draft, retired_ticket, retired_draft, only_duty, none_left}
 use Rattle.cd_serve.proofs.concluding.conclude.Goals as goal
 

@@ -1,4 +1,4 @@
-use Rattle.std.proofs.Common.{◌≡◌, List, ℕ, refl, sym, subst}
+use Rattle.std.proofs.Common.{List, ℕ, refl, sym, subst}
 use Rattle.cd_gate.specs.Passes.{view}
 use Rattle.cd_legal.specs.Legal.{state_at}
 use Rattle.cd_wire.specs.Requests.{Tail, HasNoRequest, HasTail, refused}

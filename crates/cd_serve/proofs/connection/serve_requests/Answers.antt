@@ -1,4 +1,4 @@
-use Rattle.std.proofs.Common.{◌≡◌, ◌≤◌, ◌+◌, ℕ, List, false, subst, sym, arith}
+use Rattle.std.proofs.Common.{ℕ, List, false, subst, sym, arith}
 use Rattle.cd_gate.specs.Passes.{view}
 use Rattle.cd_serve.specs.Stepping.{GoesOn}
 use Rattle.cd_serve.proofs.Stepping.{goes-new, risen-later}

@@ -1,7 +1,6 @@
 use Rattle.std.proofs.Common.{◌≡◌, ◌+◌, ℕ, min, sym, subst, arith}
 use Rattle.cd_outside.specs.Counts.{count_end}
 use Rattle.cd_gate.specs.Passes.{view}
-use Rattle.cd_serve.specs.Serving.{cut_by}
 use Rattle.cd_serve.specs.Stepping.{LaneGoesOn}
 use Rattle.cd_serve.proofs.LaneStepping.{lane-more, connection-last}
 use Rattle.cd_serve.proofs.lane.serve_accepted.Goals as goal

@@ -1,4 +1,4 @@
-use Rattle.std.proofs.Common.{◌≡◌, ◌≤◌, ◌+◌, arith}
+use Rattle.std.proofs.Common.{arith}
 use Rattle.cd_gate.specs.Passes.{view}
 use Rattle.cd_serve.proofs.LaneStepping.{lane-new, lane-halted}
 use Rattle.cd_serve.proofs.lane.serve_lane.Goals as goal

@@ -1,8 +1,7 @@
-use Rattle.std.proofs.Common.{◌≡◌, ◌∙◌, ◌++◌, ◌∷◌, ◌+◌, ◌<◌, ◌≤◌, [], List, take, drop, length, refl, ap, sym, arith}
+use Rattle.std.proofs.Common.{◌∙◌, ◌++◌, ◌∷◌, ◌+◌, [], take, ap, sym, arith}
 use Rattle.std.specs.Prelude.{map}
-use Rattle.std.proofs.lemmas.List.{take_more, take-append-drop, take_all, append_assoc, map-append}
+use Rattle.std.proofs.lemmas.List.{take_more, map-append}
 use Rattle.cd_module_set.specs.declared.target.Line.{Line}
-use Rattle.cd_outside.specs.declared.past.Logged.{Logged}
 use Rattle.cd_serve.specs.Meanings.{logged}
 use Rattle.cd_serve.proofs.Sends.{nothing-sent, line-logged, logged-some, logged-all}
 use Rattle.cd_serve.proofs.replying.log_all.Goals as goal

@@ -1,6 +1,6 @@
-use Rattle.std.proofs.Common.{◌≡◌, ◌∙◌, sym}
+use Rattle.std.proofs.Common.{◌∙◌}
 use Rattle.std.specs.Prelude.{map}
-use Rattle.cd_serve.specs.Meanings.{logged, sent}
+use Rattle.cd_serve.specs.Meanings.{logged}
 use Rattle.cd_serve.proofs.Sends.{sent-lacking, sent-unlogged, sent-whole}
 use Rattle.cd_serve.proofs.replying.reply_with.Goals as goal
 

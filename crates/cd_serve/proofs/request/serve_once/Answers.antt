@@ -1,13 +1,10 @@
-use Rattle.std.proofs.Common.{◌≡◌, ◌∙◌, ◌++◌, ◌∷◌, [], List, ℕ, Option, Some, None, refl, ap, sym, subst}
-use mathlib.Core.List.{IsPrefix}
+use Rattle.std.proofs.Common.{◌∙◌, [], refl, sym}
 use Rattle.cd_legal.proofs.Logs.{prefix_trans}
-use Rattle.cd_gate.specs.declared.view.View.{View}
 use Rattle.cd_gate.specs.Passes.{view}
 use Rattle.cd_life.specs.Shares.{conf_in}
 use Rattle.cd_serve.specs.declared.how.How.TheVariants as how
-use Rattle.cd_serve.specs.Meanings.{Meaning}
 use Rattle.cd_serve.proofs.Acts.{current-halted, halt-stays}
-use Rattle.cd_serve.proofs.Begun.{unbegun, unbegun-owes, begun-owes, begun-current, served-once, not-worn}
+use Rattle.cd_serve.proofs.Begun.{unbegun, unbegun-owes, begun-current, served-once, not-worn}
 use Rattle.cd_serve.proofs.request.serve_once.Goals as goal
 
 pub act-how-requires-clause-ticket : goal.act-how-requires-clause-ticket

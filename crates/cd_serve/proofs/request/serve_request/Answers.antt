@@ -1,6 +1,5 @@
-use Rattle.std.proofs.Common.{◌≡◌, ◌≤◌, ◌+◌, arith}
+use Rattle.std.proofs.Common.{arith}
 use Rattle.cd_gate.specs.Passes.{view}
-use Rattle.cd_serve.specs.Meanings.{Meaning}
 use Rattle.cd_serve.proofs.Begun.{repeats-none, repeats-more, served-after}
 use Rattle.cd_serve.proofs.request.serve_request.Goals as goal
 

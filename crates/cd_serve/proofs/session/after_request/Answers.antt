@@ -1,11 +1,11 @@
-use Rattle.std.proofs.Common.{◌≡◌, ◌∙◌, ◌+◌, ◌++◌, List, ℕ, Bool, true, false, [], min, refl, ap, sym, subst, arith, inr, inl}
+use Rattle.std.proofs.Common.{◌≡◌, ◌∙◌, ◌+◌, List, ℕ, Bool, true, false, min, refl, subst, arith}
 use Rattle.cd_outside.specs.Counts.{count_end}
 use Rattle.cd_serve.specs.declared.cause.Cause.TheVariants as cause
 use Rattle.cd_serve.specs.declared.how.How.{How}
 use Rattle.cd_serve.specs.declared.how.How.TheVariants as how
 use Rattle.cd_serve.specs.Meanings.{IsCutOff}
 use Rattle.cd_serve.specs.Episodes.{Outcome}
-use Rattle.cd_serve.specs.Serving.{Replied, NotBegun}
+use Rattle.cd_serve.specs.Serving.{Replied}
 use Rattle.cd_serve.specs.Requests.{RequestServed}
 use Rattle.cd_serve.proofs.Stepping.{goes-answered, over-closed, over-unlogged, over-broken, over-dropped, over-worn, over-wearing, over-unbegun, ends-as}
 use Rattle.cd_serve.proofs.session.after_request.Goals as goal

@@ -1,7 +1,6 @@
-use Rattle.std.proofs.Common.{◌≡◌, ◌++◌, List, ℕ, Bool, true, take, refl, ap, sym, subst}
+use Rattle.std.proofs.Common.{◌≡◌, ◌++◌, List, ℕ, Bool, take, refl, subst}
 use Rattle.cd_serve.specs.declared.cause.Cause.TheVariants as cause
-use Rattle.cd_serve.specs.declared.connection_end.ConnectionEnd.{ConnectionEnd}
-use Rattle.cd_serve.specs.Stepping.{GoesOn, IsOver}
+use Rattle.cd_serve.specs.Stepping.{GoesOn}
 use Rattle.cd_serve.proofs.Stepping.{goes-more, goes-ended, over-reading, ends-as, same-past}
 use Rattle.cd_serve.proofs.session.take_more.Goals as goal
 
