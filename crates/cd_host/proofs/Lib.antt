@@ -13,3 +13,6 @@ mod Joined
 mod Turning
 mod Started
 mod Drafting
+pub mod Rows
+pub mod Told
+pub mod Seating

@@ -5,3 +5,5 @@ pub mod Lanes
 pub mod Joining
 pub mod Runs
 pub mod Starting
+pub mod Seats
+pub mod Seated

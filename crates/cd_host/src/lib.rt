@@ -10,16 +10,22 @@
 //! tell. The call that serves all lanes is not here yet.
 #![tactic(auto)]
 
+mod counts;
 mod host_end;
 mod laws;
+mod seats;
+mod slot;
 mod start_how;
 mod starting;
 
+pub use counts::Counts;
 pub use host_end::{HostEnd, HostHow};
 pub use laws::{
     a_refused_start_has_a_failed_key, alike_changes_fit_alike, joined_passes_give_the_parts,
     lanes_come_together, the_first_configuration_is_that_of_the_start, the_program_signs_its_parts,
     untouched_lanes_tell_nothing,
 };
+pub use seats::{seat, unseat};
+pub use slot::Slot;
 pub use start_how::StartHow;
 pub use starting::start_first;
