@@ -1,0 +1,105 @@
+-- What a pass has after a call in a turn of its own.
+use Rattle.std.proofs.Common.{◌≡◌, ℕ, zero, suc, Bool, true, false, List, [], ◌∷◌, ◌++◌, Option, Some, None, cond, eq-eqb, refl, sym, ap, ◌∙◌}
+use Rattle.std.specs.Prelude.{◌||◌}
+use mathlib.Core.List.{IsPrefix}
+use Rattle.cd_legal.specs.declared.entry.Entry.{Entry}
+use Rattle.cd_legal.specs.declared.entry.Entry.TheVariants.{Halt}
+use Rattle.cd_legal.specs.declared.entry.Signed.{Signed}
+use Rattle.cd_legal.specs.declared.state.State.{State}
+use Rattle.cd_legal.specs.Entry.{entries}
+use Rattle.cd_legal.specs.Legal.{state_at, state_from, after}
+use Rattle.cd_legal.specs.Owing.{Owes}
+use Rattle.cd_legal.specs.Runs.{stopped_all, cleaned_all, ended_all, stopped_of, block_of, entries_for, made_in, started_in}
+use Rattle.cd_legal.specs.State.{draft_of, has_number}
+use Rattle.cd_legal.proofs.Logs.{state-append}
+use Rattle.cd_gate.specs.declared.pass.Pass.{Pass}
+use Rattle.cd_gate.specs.declared.view.View.{View}
+use Rattle.cd_gate.specs.Growing.{owes_after}
+use Rattle.cd_gate.specs.Passes.{view}
+use Rattle.cd_life.specs.declared.board.Board.{Board}
+use Rattle.cd_hall.specs.declared.hall.Hall.{Hall}
+use Rattle.cd_hall.specs.Calls.{IsPassOf}
+use Rattle.cd_hall.specs.Publishing.{without_number}
+use Rattle.cd_hall.specs.Turned.{Turned}
+use Rattle.cd_hall_cases.specs.Passes.{Has}
+
+abbrev pub owes : Option ℕ → Option ℕ → Owes
+owes ticket draft = record { ticket = ticket; draft = draft }
+
+-- ---- what a pass owes after these entries
+
+stops-owe : (o : Owes) (d n : ℕ) → owes_after o (stopped_all d n) ≡ o
+stops-owe o d zero = refl
+stops-owe o d (suc n) = stops-owe o d n
+
+cleans-owe : (o : Owes) (d n : ℕ) → owes_after o (cleaned_all d n) ≡ o
+cleans-owe o d zero = refl
+cleans-owe o d (suc n) = cleans-owe o d n
+
+owes-append : (o : Owes) (es fs : List Entry) → owes_after o (es ++ fs) ≡ owes_after (owes_after o es) fs
+owes-append o [] fs = refl
+owes-append o (e ∷ es) fs = owes-append _ es fs
+
+pub ends-owe : (o : Owes) (d made started : ℕ) → owes_after o (ended_all d made started) ≡ o
+ends-owe o d made started = owes-append o (stopped_all d started) (cleaned_all d made) ∙ (ap (λ (p : Owes). owes_after p (cleaned_all d made)) (stops-owe o d started) ∙ cleans-owe o d made)
+
+stopped-for : (o : Owes) (s : State) (d : Option ℕ) → owes_after o (entries_for (λ d. stopped_all d (started_in s d)) d) ≡ o
+stopped-for o s None = refl
+stopped-for o s (Some d) = stops-owe o d (started_in s d)
+
+pub stopped-owe : (o : Owes) (s : State) (n : ℕ) → owes_after o (stopped_of s n) ≡ o
+stopped-owe o s n = stopped-for o s (draft_of n s.published)
+
+cleaned-for : (o : Owes) (s : State) (d : Option ℕ) → owes_after o (entries_for (λ d. cleaned_all d (made_in s d)) d) ≡ o
+cleaned-for o s None = refl
+cleaned-for o s (Some d) = cleans-owe o d (made_in s d)
+
+pub block-owes : (o : Owes) (s : State) (n : ℕ) → owes_after o (block_of s n) ≡ o
+block-owes o s n = cleaned-for o s (draft_of n s.published)
+
+-- ---- the pass
+
+pub goes : {A F B : Type 0} {g : _} (h : Hall A F B g) (p q : Pass (Board A F B g)) (k : ℕ) (a b c d : Option ℕ) (ds es : List ℕ) (found : List Signed) (made : List Entry)
+    → Has h p k a b ds → IsPassOf h q → Turned (view p) (view q) found made → owes_after (owes a b) made ≡ owes c d → (view q).duties ≡ es → Has h q k c d es
+goes {A} {F} {B} {g} h p q k a b c d ds es found made was pass t leaves duties = record {
+  pass = pass;
+  number = ap (λ (z : View (Board A F B g)). z.number) t.grows.same ∙ was.number;
+  owes = t.grows.owes ∙ (ap (λ (o : Owes). owes_after o made) was.owes ∙ leaves);
+  duties = duties;
+  root = λ first. (ap (λ (z : View (Board A F B g)). z.made) t.grows.same ∙ (was.root first).0, ap (λ (z : View (Board A F B g)). z.joined) t.grows.same ∙ (was.root first).1);
+}
+
+-- it has the ticket and the draft that it owes the end of
+pub ticket-of : {A F B : Type 0} {g : _} (h : Hall A F B g) (p : Pass (Board A F B g)) (k : ℕ) (a b : Option ℕ) (ds : List ℕ) → Has h p k a b ds → (view p).ticket ≡ a
+ticket-of h p k a b ds has = ap (λ (o : Owes). o.ticket) has.owes
+
+pub draft-of : {A F B : Type 0} {g : _} (h : Hall A F B g) (p : Pass (Board A F B g)) (k : ℕ) (a b : Option ℕ) (ds : List ℕ) → Has h p k a b ds → (view p).draft ≡ b
+draft-of h p k a b ds has = ap (λ (o : Owes). o.draft) has.owes
+
+-- ---- the halt
+
+halted-by : (s : State) (e : Entry) → s.halted ≡ true → (after s e).halted ≡ true
+halted-by s (Halt n) had = refl
+halted-by s e had = had
+
+halted-from : (s : State) (es : List Entry) → s.halted ≡ true → (state_from s es).halted ≡ true
+halted-from s [] had = had
+halted-from s (e ∷ es) had = halted-from (after s e) es (halted-by s e had)
+
+-- a host that was halted is halted for good
+pub halted-stays : (xs ys : List Signed) → IsPrefix xs ys → (state_at xs).halted ≡ true → (state_at ys).halted ≡ true
+halted-stays xs ys p had =
+    ap (λ (l : List Signed). (state_at l).halted) (sym p.1) ∙ (ap (λ (s : State). s.halted) (state-append xs p.0) ∙ halted-from (state_at xs) (entries p.0) had)
+
+-- it is halted after a Halt and what follows in the same turn
+pub halted-after : (found : List Signed) (k n : ℕ) (back : List Signed) → (state_at (found ++ record { by = k; entry = Halt n } ∷ back)).halted ≡ true
+halted-after found k n back =
+    ap (λ (s : State). s.halted) (state-append found (record { by = k; entry = Halt n } ∷ back)) ∙ halted-from (after (state_at found) (Halt n)) (entries back) refl
+
+-- ---- a duty alone
+
+pub has-own : (n : ℕ) → has_number n (n ∷ []) ≡ true
+has-own n = ap (λ (b : Bool). b || false) (eq-eqb n n refl)
+
+pub without-own : (n : ℕ) → without_number n (n ∷ []) ≡ []
+without-own n = ap (λ (b : Bool). cond b [] (n ∷ [])) (eq-eqb n n refl)

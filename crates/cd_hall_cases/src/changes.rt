@@ -1,0 +1,298 @@
+// Configurations follow one another.
+ghost use Rattle.std.specs.Prelude.{◌≡◌, [], Some, None, IfOk, IfSome, OnErr, IsTrue, false};
+ghost use Rattle.cd_tree.specs.declared.tree.Tree.TheVariants.{Null};
+ghost use Rattle.cd_gate.specs.Passes.{view};
+ghost use Rattle.cd_life.specs.Fits.{Suits};
+ghost use Rattle.cd_life.specs.Shares.{conf_in};
+ghost use Rattle.cd_hall.specs.Drafts.{IsDraftOf};
+ghost use Rattle.cd_hall.specs.Publishing.{draft_in};
+ghost use Rattle.cd_hall.specs.Tickets.{IsTicketOf};
+ghost use Rattle.cd_hall_cases.specs.Fixed.{fixed_change};
+ghost use Rattle.cd_hall_cases.specs.Passes.{Has, HasCome};
+
+use crate::fixed::{Fixed, load_fixed};
+use crate::requests::{begin, end};
+use cd_gate::Pass;
+use cd_hall::{Hall, Kept, Ticket, tickets_keep_their_configurations};
+use cd_legal::Change;
+use cd_life::{Board, Draft};
+use cd_outside::MemoryFixtures;
+use cd_text::{List, NoMemory, Octets, Text};
+use cd_wire::Request;
+use std::alloc::Global;
+use std::sync::Wait;
+
+/// Why a configuration did not follow.
+#[derive(Clone, Copy, Debug, PartialEq, Eq)]
+pub enum Refused {
+    /// A later one is there, with this serial.
+    Superseded(u32),
+    /// This serial is still in use.
+    Full(u32),
+    Exhausted,
+    NoMemory,
+    Halted,
+    /// A key could not be opened.
+    Closed,
+}
+
+/// The pass lets so many configurations follow, each by a request of its own.
+pub fn reload_times<R: Wait>(
+    rt: &R,
+    alloc: Global,
+    hall: &Hall<Fixed, MemoryFixtures>,
+    pass: &mut Pass<Board<Fixed, MemoryFixtures>>,
+    number: u32,
+    times: u32,
+) -> Result<(), Refused>
+    requires { Has hall.now pass.old number None None [] }
+    ensures { Has hall.now pass.new number None None [] }
+{
+    for _ in 0..times {
+        reload(rt, alloc, hall, pass, number)?;
+    }
+    Ok(())
+}
+
+/// The pass lets a configuration follow, by a request of its own.
+pub fn reload<R: Wait>(
+    rt: &R,
+    alloc: Global,
+    hall: &Hall<Fixed, MemoryFixtures>,
+    pass: &mut Pass<Board<Fixed, MemoryFixtures>>,
+    number: u32,
+) -> Result<(), Refused>
+    requires { Has hall.now pass.old number None None [] }
+    ensures { Has hall.now pass.new number None None [] }
+{
+    let ticket = begin(rt, hall, pass, number)?;
+    let published = publish(rt, alloc, hall, pass, &ticket, number);
+    end(rt, hall, pass, ticket, number);
+    published
+}
+
+/// A configuration follows that of the request.
+pub fn publish<R: Wait>(
+    rt: &R,
+    alloc: Global,
+    hall: &Hall<Fixed, MemoryFixtures>,
+    pass: &mut Pass<Board<Fixed, MemoryFixtures>>,
+    ticket: &Ticket<Fixed>,
+    number: u32,
+) -> Result<(), Refused>
+    requires has { Has hall.now pass.old number (Some ticket.now.serial) None [] }
+    requires ticket { IsTicketOf (view pass.old) ticket.now }
+    ensures { Has hall.now pass.new number (Some ticket.now.serial) None [] }
+{
+    let Ok(change) = change_after(alloc, ticket) else {
+        return Err(Refused::NoMemory);
+    };
+    let Some(change) = change else {
+        return Err(Refused::Halted);
+    };
+    let Ok(draft) = draft(rt, alloc, hall, pass, ticket, number) else {
+        return Err(Refused::NoMemory);
+    };
+    publish_draft(rt, hall, pass, ticket, draft, change, number)
+}
+
+// A draft of the configuration.
+fn draft<R: Wait>(
+    rt: &R,
+    alloc: Global,
+    hall: &Hall<Fixed, MemoryFixtures>,
+    pass: &mut Pass<Board<Fixed, MemoryFixtures>>,
+    ticket: &Ticket<Fixed>,
+    number: u32,
+) -> Result<Draft<Fixed>, NoMemory>
+    requires has { Has hall.now pass.old number (Some ticket.now.serial) None [] }
+    requires ticket { IsTicketOf (view pass.old) ticket.now }
+    ensures has { IfOk result (λ draft. Has hall.now pass.new number (Some ticket.now.serial) (Some draft.left.number) []) }
+    ensures ticket { IsTicketOf (view pass.new) ticket.now }
+    ensures draft { IfOk result (λ draft. IsDraftOf (view pass.new) draft) }
+    ensures new { IfOk result (λ draft. HasCome draft 0 0 false) }
+    ensures err { OnErr result (Has hall.now pass.new number (Some ticket.now.serial) None []) }
+{
+    let _ = number;
+    tickets_keep_their_configurations::<Board<Fixed, MemoryFixtures>, Fixed>(ticket);
+    let Ok(loaded) = load_fixed(alloc) else {
+        return Err(NoMemory);
+    };
+    match hall.draft(rt, alloc, pass, loaded) {
+        Ok(draft) => Ok(draft),
+        Err(_) => Err(NoMemory),
+    }
+}
+
+// The draft is opened, and published where all its keys could be.
+fn publish_draft<R: Wait>(
+    rt: &R,
+    hall: &Hall<Fixed, MemoryFixtures>,
+    pass: &mut Pass<Board<Fixed, MemoryFixtures>>,
+    ticket: &Ticket<Fixed>,
+    draft: Draft<Fixed>,
+    change: Change,
+    number: u32,
+) -> Result<(), Refused>
+    requires has { Has hall.now pass.old number (Some ticket.now.serial) (Some draft.left.number) [] }
+    requires ticket { IsTicketOf (view pass.old) ticket.now }
+    requires draft { IsDraftOf (view pass.old) draft }
+    requires new { HasCome draft 0 0 false }
+    requires change { Suits fixed_change (conf_in ticket.now.share) change Null }
+    ensures { Has hall.now pass.new number (Some ticket.now.serial) None [] }
+{
+    let mut draft = draft;
+    if !make(rt, hall, pass, ticket, &mut draft, number) {
+        give_up(rt, hall, pass, ticket, draft, number);
+        return Err(Refused::Closed);
+    }
+    if !start(rt, hall, pass, ticket, &mut draft, number) {
+        give_up(rt, hall, pass, ticket, draft, number);
+        return Err(Refused::Closed);
+    }
+    publish_whole(rt, hall, pass, ticket, draft, change, number)
+}
+
+// Makes the one instance of the draft, and answers whether its key could be opened.
+fn make<R: Wait>(
+    rt: &R,
+    hall: &Hall<Fixed, MemoryFixtures>,
+    pass: &mut Pass<Board<Fixed, MemoryFixtures>>,
+    ticket: &Ticket<Fixed>,
+    draft: &mut Draft<Fixed>,
+    number: u32,
+) -> bool
+    requires has { Has hall.now pass.old number (Some ticket.now.serial) (Some draft.old.left.number) [] }
+    requires ticket { IsTicketOf (view pass.old) ticket.now }
+    requires draft { IsDraftOf (view pass.old) draft.old }
+    requires new { HasCome draft.old 0 0 false }
+    ensures has { Has hall.now pass.new number (Some ticket.now.serial) (Some draft.new.left.number) [] }
+    ensures ticket { IsTicketOf (view pass.new) ticket.now }
+    ensures draft { IsDraftOf (view pass.new) draft.new }
+    ensures come { IsTrue result → HasCome draft.new 1 0 false }
+{
+    let _ = number;
+    tickets_keep_their_configurations::<Board<Fixed, MemoryFixtures>, Fixed>(ticket);
+    hall.provision(rt, draft, pass).is_ok()
+}
+
+// Starts the one app of the draft, in the same way.
+fn start<R: Wait>(
+    rt: &R,
+    hall: &Hall<Fixed, MemoryFixtures>,
+    pass: &mut Pass<Board<Fixed, MemoryFixtures>>,
+    ticket: &Ticket<Fixed>,
+    draft: &mut Draft<Fixed>,
+    number: u32,
+) -> bool
+    requires has { Has hall.now pass.old number (Some ticket.now.serial) (Some draft.old.left.number) [] }
+    requires ticket { IsTicketOf (view pass.old) ticket.now }
+    requires draft { IsDraftOf (view pass.old) draft.old }
+    requires made { HasCome draft.old 1 0 false }
+    ensures has { Has hall.now pass.new number (Some ticket.now.serial) (Some draft.new.left.number) [] }
+    ensures ticket { IsTicketOf (view pass.new) ticket.now }
+    ensures draft { IsDraftOf (view pass.new) draft.new }
+    ensures come { IsTrue result → HasCome draft.new 1 1 false }
+{
+    let _ = number;
+    tickets_keep_their_configurations::<Board<Fixed, MemoryFixtures>, Fixed>(ticket);
+    hall.start(rt, draft, pass).is_ok()
+}
+
+// Publishes the draft, all of which is there.
+fn publish_whole<R: Wait>(
+    rt: &R,
+    hall: &Hall<Fixed, MemoryFixtures>,
+    pass: &mut Pass<Board<Fixed, MemoryFixtures>>,
+    ticket: &Ticket<Fixed>,
+    draft: Draft<Fixed>,
+    change: Change,
+    number: u32,
+) -> Result<(), Refused>
+    requires has { Has hall.now pass.old number (Some ticket.now.serial) (Some draft.left.number) [] }
+    requires ticket { IsTicketOf (view pass.old) ticket.now }
+    requires draft { IsDraftOf (view pass.old) draft }
+    requires whole { HasCome draft 1 1 false }
+    requires change { Suits fixed_change (conf_in ticket.now.share) change Null }
+    ensures { Has hall.now pass.new number (Some ticket.now.serial) None [] }
+{
+    match hall.publish(rt, draft, ticket, change, pass) {
+        Ok(()) => Ok(()),
+        Err(kept) => give_back(rt, hall, pass, ticket, kept, number),
+    }
+}
+
+// Gives up the draft that was not published, and says why it was not.
+fn give_back<R: Wait>(
+    rt: &R,
+    hall: &Hall<Fixed, MemoryFixtures>,
+    pass: &mut Pass<Board<Fixed, MemoryFixtures>>,
+    ticket: &Ticket<Fixed>,
+    kept: Kept<Fixed>,
+    number: u32,
+) -> Result<(), Refused>
+    requires has { Has hall.now pass.old number (Some ticket.now.serial) (Some (draft_in kept).left.number) [] }
+    requires draft { IsDraftOf (view pass.old) (draft_in kept) }
+    ensures { Has hall.now pass.new number (Some ticket.now.serial) None [] }
+{
+    let (draft, refused) = taken_back(kept);
+    give_up(rt, hall, pass, ticket, draft, number);
+    Err(refused)
+}
+
+// The draft that is handed back, and why.
+fn taken_back(kept: Kept<Fixed>) -> (Draft<Fixed>, Refused)
+    ensures { result.0 ≡ draft_in kept }
+{
+    match kept {
+        Kept::Superseded(serial, draft) => (draft, Refused::Superseded(serial)),
+        Kept::Full(serial, draft) => (draft, Refused::Full(serial)),
+        Kept::Exhausted(draft) => (draft, Refused::Exhausted),
+    }
+}
+
+// Gives the draft up.
+fn give_up<R: Wait>(
+    rt: &R,
+    hall: &Hall<Fixed, MemoryFixtures>,
+    pass: &mut Pass<Board<Fixed, MemoryFixtures>>,
+    ticket: &Ticket<Fixed>,
+    draft: Draft<Fixed>,
+    number: u32,
+)
+    requires has { Has hall.now pass.old number (Some ticket.now.serial) (Some draft.left.number) [] }
+    requires draft { IsDraftOf (view pass.old) draft }
+    ensures { Has hall.now pass.new number (Some ticket.now.serial) None [] }
+{
+    let _ = ticket;
+    let _ = number;
+    hall.abandon(rt, draft, pass);
+}
+
+// By which change a configuration may follow that of the ticket: by none after the halt.
+fn change_after(alloc: Global, ticket: &Ticket<Fixed>) -> Result<Option<Change>, NoMemory>
+    ensures { IfOk result (λ change. IfSome change (λ change. Suits fixed_change (conf_in ticket.now.share) change Null)) }
+{
+    if ticket.compiled().running {
+        return Ok(Some(Change::Request(request(alloc)?)));
+    }
+    if ticket.halted() {
+        return Ok(None);
+    }
+    Ok(Some(Change::First))
+}
+
+// A request for another configuration.
+fn request(alloc: Global) -> Result<Request, NoMemory> {
+    Ok(Request {
+        method: Text::from_str(alloc, "POST")?,
+        target: Octets::from_slice(alloc, b"/load")?,
+        path: Octets::from_slice(alloc, b"/load")?,
+        query: None,
+        host: Octets::new(alloc),
+        minor: 1,
+        fields: List::new(alloc),
+        body: Octets::new(alloc),
+        close: false,
+    })
+}
