@@ -7,6 +7,7 @@ pub enum StartHow {
     Published,
     /// This key of it could not be opened. What had been opened is closed again.
     FirstRefused(Key),
-    /// There was no memory, and nothing was drafted.
+    /// Nothing was published, and nothing is left of what was drafted: there was no memory, or another pass has made entries before,
+    /// or as many requests were begun or drafts made as may be.
     NoMemory,
 }
