@@ -1,5 +1,6 @@
 -- From what is known when all passes have come together to the parts of the history.
 use Rattle.std.proofs.Common.{◌≡◌, ◌≤◌, ℕ, true, false, List, [], ◌∷◌, ◌++◌, refl, ap, sym, ◌∙◌, subst, ⊎_elim}
+use Rattle.std.specs.List.{list_any}
 use Rattle.std.proofs.lemmas.List.{append-nil, append_assoc, append_cancel_left, map-append}
 use mathlib.Core.List.{IsPrefix}
 use Rattle.cd_tree.specs.declared.tree.Tree.{Tree}
@@ -14,12 +15,14 @@ use Rattle.cd_legal.proofs.Placed.{placed-entries}
 use Rattle.cd_gate.specs.declared.view.View.{View}
 use Rattle.cd_gate.specs.Growing.{all_signed, Places}
 use Rattle.cd_serve.specs.Changes.{IsHalted}
+use Rattle.cd_serve.specs.Episodes.{is_halt, another_halted}
 use Rattle.cd_host.specs.Joining.{HasSigned, HasHalted, IsJoined, AreBetween}
 use Rattle.cd_host.specs.Parts.{HasParts, IsAlone}
-use Rattle.cd_host.specs.Program.{Start, start_entries}
+use Rattle.cd_host.specs.Program.{Start, start_entries, halt_entries}
 use Rattle.cd_host.proofs.Ending.{program-halts}
 use Rattle.cd_host.proofs.Gathered.{first-empty, last-empty}
-use Rattle.cd_host.proofs.Halts.{halted-stays}
+use Rattle.cd_host.proofs.Halts.{halted-stays, another-halted}
+use Rattle.cd_host.proofs.PartEntries.{no-halt-at-start}
 use Rattle.cd_host.proofs.Parted.{parted-by-halt, parted-by-lane}
 use Rattle.cd_host.proofs.Signing.{mine-all, entries-all, entries-none}
 use Rattle.cd_host.proofs.Going.{seen-alone}
@@ -78,11 +81,15 @@ module _ {T : Type 0} (first : Tree) (plan : Plan) (start : Start) (v w y z : Vi
     others : (k : ℕ) → 1 ≤ k → mine k log ≡ mine k y.seen
     others k pos = (between k pos).1
 
+    -- it halted a host that ran, and its entries end the history
+    halts-then : (work : List Placed) → Places y z work → IsHalted work → ((state_at y.seen).halted ≡ false) × (mine 0 log ≡ mine 0 y.seen ++ all_signed 0 (halt_entries (state_at y.seen)))
+    halts-then work p h =
+        program-halts y z work log y-number p h j.legal j.seen (log-own work p ∙ ap (λ (l : List Signed). l ++ all_signed 0 (placed_entries work)) (sym (y-own work p))) others j.retired
+
     halts-itself : (work : List Placed) → Places y z work → IsHalted work → HasParts first plan start log
     halts-itself work p h =
-        let before : mine 0 y.seen ≡ begun = y-own work p in
-        let end = program-halts y z work log y-number p h j.legal j.seen (log-own work p ∙ ap (λ (l : List Signed). l ++ all_signed 0 (placed_entries work)) (sym before)) others j.retired in
-        parted-by-halt first plan start y.seen log y-begun (prefix_trans y.seen z.seen log p.seen j.seen) end.0 before end.1 others
+        let end = halts-then work p h in
+        parted-by-halt first plan start y.seen log y-begun (prefix_trans y.seen z.seen log p.seen j.seen) end.0 (y-own work p) end.1 others
 
     finds-it : Places y z [] → (state_at z.seen).halted ≡ true → HasParts first plan start log
     finds-it p halted =
@@ -90,3 +97,14 @@ module _ {T : Type 0} (first : Tree) (plan : Plan) (start : Start) (v w y z : Vi
 
     pub joined-parts : HasParts first plan start log
     joined-parts = ⊎_elim (λ own. halts-itself own.0 own.1 own.2) (λ other. finds-it other.0 other.1) j.halts
+
+    -- where no lane has halted, the host ran until the program's own halt
+    pub joined-running : another_halted 0 log ≡ false → (state_at y.seen).halted ≡ false
+    joined-running nobody = ⊎_elim (λ own. runs own.0 own.1 own.2) (λ other. absurd (let f : true ≡ false = sym (by-lane other.0 other.1) ∙ nobody in cc)) j.halts
+      where
+        runs : (work : List Placed) → Places y z work → IsHalted work → (state_at y.seen).halted ≡ false
+        runs work p h = (halts-then work p h).0
+
+        by-lane : Places y z [] → (state_at z.seen).halted ≡ true → another_halted 0 log ≡ true
+        by-lane p halted = another-halted 0 log (halted-stays z.seen log j.seen halted)
+            (ap (λ (l : List Signed). list_any is_halt (entries l)) (log-own [] p ∙ append-nil begun) ∙ ap (list_any is_halt) (entries-all 0 (start_entries first plan start)) ∙ no-halt-at-start first plan start)

@@ -13,6 +13,11 @@ mod Joined
 mod Turning
 mod Started
 mod Drafting
+mod Closed
 pub mod Rows
 pub mod Told
 pub mod Seating
+mod Gone
+mod FirstPass
+mod Promised
+mod Crossing

@@ -1,5 +1,5 @@
 -- From slots that were served to what is known of their lanes.
-use Rattle.std.proofs.Common.{◌≡◌, ◌≤◌, ◌<◌, ℕ, zero, suc, ◌+◌, ◌++◌, min, Bool, false, List, [], ◌∷◌, length, map, get_or, sum_by, Option, refl, ap, sym, ◌∙◌, subst, arith}
+use Rattle.std.proofs.Common.{◌≡◌, ◌<◌, ℕ, zero, suc, ◌+◌, ◌++◌, min, Bool, false, List, [], ◌∷◌, length, map, get_or, sum_by, Option, refl, ap, sym, ◌∙◌, subst, arith}
 use Rattle.std.specs.Prelude.{All}
 use Rattle.std.proofs.lemmas.List.{length-map}
 use Rattle.std.proofs.lemmas.List.Sums.{sum_by-cons}
@@ -9,23 +9,56 @@ use Rattle.cd_outside.specs.Counts.{count_end}
 use Rattle.cd_outside.specs.Telling.{TellsOn}
 use Rattle.cd_legal.specs.declared.entry.Signed.{Signed}
 use Rattle.cd_legal.specs.Entry.{mine}
-use Rattle.cd_legal.specs.Placed.{Placed, placed, placed_entries}
+use Rattle.cd_legal.specs.Placed.{placed, placed_entries}
 use Rattle.cd_gate.specs.declared.pass.Pass.{Pass}
+use Rattle.cd_gate.specs.Ends.{IsFree}
 use Rattle.cd_gate.specs.Growing.{all_signed}
 use Rattle.cd_gate.specs.Passes.{view}
 use Rattle.cd_life.specs.declared.board.Board.{Board}
 use Rattle.cd_hall.specs.declared.hall.Hall.{Hall}
+use Rattle.cd_hall.specs.Calls.{IsPassOf}
 use Rattle.cd_serve.specs.Meanings.{Meaning}
 use Rattle.cd_serve.specs.Lanes.{IsServed}
 use Rattle.cd_serve.specs.Joining.{Span, Slot as Served, lanes_of}
 use Rattle.cd_host.specs.declared.slot.Slot.{Slot}
 use Rattle.cd_host.specs.Lanes.{IsLane, LanesFrom}
-use Rattle.cd_host.specs.Seats.{AllFrom, IsIdleAt, IsUnused, IsReady, IsWithin}
+use Rattle.cd_host.specs.Seats.{AllFrom, IsIdleAt, IsReady, IsWithin}
 use Rattle.cd_host.specs.Seated.{span_of, spans, IsServedSlot, HaveTheirs, AreServed}
+
+-- what follows for each element from what holds of it at its place
+all-of-from : {A : Type 0} (P : ℕ → A → Type 0) (Q : A → Type 0) → ((k : ℕ) (x : A) → P k x → Q x) → (k : ℕ) (xs : List A) → AllFrom P k xs → All Q xs
+all-of-from P Q leads k [] all j d lt = absurd (omega (arith, lt))
+all-of-from P Q leads k (x ∷ xs) all zero d lt = leads k x all.0
+all-of-from P Q leads k (x ∷ xs) all (suc j) d lt = all-of-from P Q leads (k + 1) xs all.1 j d (omega (arith, lt))
+
+-- what holds of what each element has
+pub from-map : {A B : Type 0} (f : A → B) (P : B → Type 0) (xs : List A) → All P (map f xs) → All (λ x. P (f x)) xs
+from-map f P [] all j d lt = absurd (omega (arith, lt))
+from-map f P (x ∷ xs) all zero d lt = all zero (f d) (omega arith)
+from-map f P (x ∷ xs) all (suc j) d lt = from-map f P xs (λ k e lower. all (suc k) e (omega (arith, lower))) j d (omega (arith, lt))
+
+pub from-to-map : {A B : Type 0} (f : A → B) (P : ℕ → B → Type 0) (k : ℕ) (xs : List A) → AllFrom (λ j x. P j (f x)) k xs → AllFrom P k (map f xs)
+from-to-map f P k [] all = tt
+from-to-map f P k (x ∷ xs) all = (all.0, from-to-map f P (k + 1) xs all.1)
+
+-- ---- slots that are ready
+
+module _ {A F B : Type 0} {g : _} (h : Hall A F B g) {L : Type 0} (seen : List Signed) where
+  pub ready-are : (ss : List (Slot A F L B g)) → AllFrom (IsReady h {L = L} seen) 1 ss → All (λ slot. IsPassOf h slot.pass) ss
+  ready-are ss ready = all-of-from (IsReady h {L = L} seen) (λ slot. IsPassOf h slot.pass) (λ k s r. r.unused.idle.is) 1 ss ready
+
+  pub ready-free : (ss : List (Slot A F L B g)) → AllFrom (IsReady h {L = L} seen) 1 ss → All (λ slot. IsFree slot.pass) ss
+  ready-free ss ready = all-of-from (IsReady h {L = L} seen) (λ slot. IsFree slot.pass) (λ k s r. r.unused.idle.free) 1 ss ready
+
+-- ---- slots that were served
 
 module _ {A F B : Type 0} {g : _} (h : Hall A F B g) {L : Type 0} (m : Meaning) (busy : L → Bool) (faults : L → ℕ) (past : L → Option Past) where
   abbrev S : Type 0
   S = Slot A F L B g
+
+  -- a served slot by other names
+  pub served-as : (s t u v : S) → s ≡ u → t ≡ v → IsServedSlot h m busy faults past s t → IsServedSlot h m busy faults past u v
+  served-as s t u v before after served = subst (λ (x : S). IsServedSlot h m busy faults past x v) before (subst (λ (x : S). IsServedSlot h m busy faults past s x) after served)
 
   -- each slot with the one that it has become
   abbrev pub AllServed : List S → List S → Type 0

@@ -1,7 +1,6 @@
 -- Passes that were told what others have seen.
-use Rattle.std.proofs.Common.{◌≡◌, ℕ, List, ap, ◌∙◌}
+use Rattle.std.proofs.Common.{◌≡◌, ℕ, ap, ◌∙◌}
 use Rattle.cd_gate.specs.declared.pass.Pass.{Pass}
-use Rattle.cd_gate.specs.Ends.{IsFree}
 use Rattle.cd_gate.specs.Passes.{view}
 use Rattle.cd_gate.specs.Words.{owed}
 use Rattle.cd_life.specs.declared.board.Board.{Board}

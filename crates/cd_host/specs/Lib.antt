@@ -7,3 +7,5 @@ pub mod Runs
 pub mod Starting
 pub mod Seats
 pub mod Seated
+pub mod Hosting
+pub mod Gone

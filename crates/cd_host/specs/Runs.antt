@@ -25,7 +25,7 @@ use Rattle.cd_host.specs.declared.host_end.HostHow.{HostHow}
 use Rattle.cd_host.specs.declared.host_end.HostHow.TheVariants as how
 use Rattle.cd_host.specs.Firsts.{BeginsWith}
 use Rattle.cd_host.specs.Lanes.{AreAtEnd, AreUntouched}
-use Rattle.cd_host.specs.Parts.{HasParts, IsSignedByLanes}
+use Rattle.cd_host.specs.Parts.{HasParts, IsSignedByLanes, IsAlone}
 use Rattle.cd_host.specs.Program.{Start}
 
 -- What is seen of a run from outside: what the fixtures told and tell of their calls, and how often they had failed and have; the
@@ -48,6 +48,8 @@ pub record Ran (m : Meaning) (first : Tree) (start : Start) (served : Bool) (giv
   -- each of its entries is allowed where it stands, and signed by a pass that may sign it: the program's own, or that of a lane
   pub is : IsHistory history
   pub signed : IsSignedByLanes (length given.lanes) history
+  -- where the lanes were not served, nobody but the program signs anything
+  pub alone : served ≡ false → IsAlone history
   -- each configuration has no fault and comes by its change: the first is that of the tree, and each other one is what its request
   -- makes of the one before
   pub fits : AllFit m.plan (change_of m.plan) (entries history)

@@ -1,5 +1,5 @@
 -- What is known of lanes that were served side by side, each by a pass of its own.
-use Rattle.std.specs.Prelude.{◌≡◌, ◌≤◌, ◌+◌, ◌++◌, ℕ, min, Bool, true, false, List, [], ◌∷◌, length, sum_by, Option}
+use Rattle.std.specs.Prelude.{◌≡◌, ◌≤◌, ◌++◌, ℕ, min, Bool, true, false, List, [], ◌∷◌, length, sum_by, Option}
 use mathlib.Core.List.{IsPrefix}
 use Rattle.cd_outside.specs.declared.past.Past.{Past}
 use Rattle.cd_outside.specs.Counts.{count_end}
@@ -9,14 +9,11 @@ use Rattle.cd_legal.specs.Entry.{mine}
 use Rattle.cd_legal.specs.Legal.{state_at}
 use Rattle.cd_legal.specs.Placed.{Placed, placed, placed_entries}
 use Rattle.cd_gate.specs.declared.pass.Pass.{Pass}
-use Rattle.cd_gate.specs.declared.view.View.{View}
 use Rattle.cd_gate.specs.Ends.{IsFree}
 use Rattle.cd_gate.specs.Growing.{all_signed}
 use Rattle.cd_gate.specs.Passes.{view}
-use Rattle.cd_life.specs.declared.board.Board.{Board}
 use Rattle.cd_hall.specs.declared.hall.Hall.{Hall}
 use Rattle.cd_hall.specs.Calls.{IsPassOf}
-use Rattle.cd_serve.specs.declared.lane_end.LaneEnd.{LaneEnd}
 use Rattle.cd_serve.specs.declared.lane_end.LaneHow.TheVariants as how
 use Rattle.cd_serve.specs.Meanings.{Meaning}
 use Rattle.cd_serve.specs.Lanes.{IsServed}

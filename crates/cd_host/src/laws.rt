@@ -16,6 +16,7 @@ ghost use Rattle.cd_legal.specs.Runs.{Failure};
 ghost use Rattle.cd_life.specs.Fits.{AllFit};
 ghost use Rattle.cd_gate.specs.declared.view.View.{View};
 ghost use Rattle.cd_gate.specs.Growing.{all_signed};
+ghost use Rattle.cd_serve.specs.Episodes.{another_halted};
 ghost use Rattle.cd_serve.specs.Joining.{Span, Slot, SlotsFrom, LanesTold, lanes_of};
 ghost use Rattle.cd_serve.specs.Meanings.{Meaning};
 ghost use Rattle.cd_host.specs.Firsts.{BeginsWith};
@@ -27,12 +28,15 @@ ghost use Rattle.cd_host.specs.Program.{Start, start_entries};
 use cd_legal::Stands;
 
 /// When all passes have come together, nobody but the program has signed what it had seen after its start; and where its entries
-/// then were those of its start, the history has its parts.
+/// then were those of its start, the history has its parts, and the host ran before the program's halt unless a lane has halted.
 pub fn joined_passes_give_the_parts<T: Stands>()
     ensures alone { (v w y z : View T) (made : List Entry) (log : List Signed)
         → IsJoined v w y z made log → AreBetween w.seen y.seen log → IsAlone w.seen }
     ensures parts { (first : Tree) (plan : Plan) (start : Start) (v w y z : View T) (made : List Entry) (log : List Signed)
         → IsJoined v w y z made log → AreBetween w.seen y.seen log → made ≡ start_entries first plan start → HasParts first plan start log }
+    ensures running { (first : Tree) (plan : Plan) (start : Start) (v w y z : View T) (made : List Entry) (log : List Signed)
+        → IsJoined v w y z made log → AreBetween w.seen y.seen log → made ≡ start_entries first plan start → another_halted 0 log ≡ false
+        → (state_at y.seen).halted ≡ false }
 {}
 
 /// The program's own entries in a history with its parts are those of its start and of its end.

@@ -5,27 +5,35 @@
 //! of all passes, legal and ended in order, of which each lane tells its part; and what the program itself does in it stands in
 //! specs/Program.antt and specs/Parts.antt. specs/Lanes.antt has what is known of each lane when all passes have come together.
 //!
-//! `start_first` (starting.rt) is the program's start, by its own pass: specs/Starting.antt says what it has made. The functions of
-//! `laws` do nothing: their contracts say that the promise follows from what the calls of the hall and the serving of each lane
-//! tell. The call that serves all lanes is not here yet.
+//! `run_host` (hosting.rt) is such a run. It calls `start_first` (starting.rt), the program's start by its own pass, of which
+//! specs/Starting.antt says what it has made; `serve_all` (serving.rt), which serves all lanes side by side, each in a slot with a
+//! pass of its own (slot.rt, seats.rt, specs/Seated.antt); and `end_run` (closing.rt), after which there is one history of all passes
+//! (specs/Hosting.antt). specs/Gone.antt says what is known of the lanes between the latter two, whether they were served or not. The
+//! functions of `laws` do nothing: their contracts say that the promise follows from what these calls tell.
 #![tactic(auto)]
 
+mod closing;
 mod counts;
 mod host_end;
+mod hosting;
 mod laws;
 mod seats;
+mod serving;
 mod slot;
 mod start_how;
 mod starting;
 
+pub use closing::end_run;
 pub use counts::Counts;
 pub use host_end::{HostEnd, HostHow};
+pub use hosting::{run_host, say};
 pub use laws::{
     a_refused_start_has_a_failed_key, alike_changes_fit_alike, joined_passes_give_the_parts,
     lanes_come_together, the_first_configuration_is_that_of_the_start, the_program_signs_its_parts,
     untouched_lanes_tell_nothing,
 };
 pub use seats::{seat, unseat};
+pub use serving::serve_all;
 pub use slot::Slot;
 pub use start_how::StartHow;
 pub use starting::start_first;

@@ -1,4 +1,4 @@
-use Rattle.std.proofs.Common.{rules, ◌≡◌, ◌<◌, ◌++◌, ◌∷◌, [], length, ℕ, ◌+◌, List, sym, ap, ◌∙◌, refl, subst, arith, length-append}
+use Rattle.std.proofs.Common.{rules, ◌<◌, length, sym, ap, ◌∙◌, subst, arith}
 use Rattle.cd_gate.specs.Passes.{view}
 use Rattle.cd_host.specs.Seats.{AllFrom, IsUnused, IsReady}
 use Rattle.cd_host.proofs.Rows.{all-more, first-and-rest, first-of, next-from, moved-in, moved-length}

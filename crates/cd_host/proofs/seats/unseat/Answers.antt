@@ -1,4 +1,4 @@
-use Rattle.std.proofs.Common.{rules, ◌≡◌, ◌<◌, ◌++◌, ◌∷◌, [], length, ℕ, ◌+◌, List, sym, ap, ◌∙◌, refl, subst, arith}
+use Rattle.std.proofs.Common.{rules, ◌<◌, length, List, sym, ap, ◌∙◌, refl, subst, arith}
 use Rattle.cd_legal.specs.declared.entry.Signed.{Signed}
 use Rattle.cd_legal.proofs.Logs.{prefix_trans}
 use Rattle.cd_gate.proofs.Longer.{prefix_self}

@@ -1,0 +1,39 @@
+use Rattle.std.proofs.Common.{◌≡◌, false, sym, subst}
+use Rattle.std.specs.Prelude.{All}
+use Rattle.cd_gate.specs.Passes.{view}
+use Rattle.cd_host.specs.Seats.{AllFrom, IsIdleAt}
+use Rattle.cd_host.proofs.Seating.{all-served, are-served, from-map, from-to-map, lanes-idle, passes-idle, ready-are, ready-free}
+use Rattle.cd_host.proofs.serving.serve_all.Goals as goal
+
+pub serve_seated-requires-clause-is : goal.serve_seated-requires-clause-is
+serve_seated-requires-clause-is g c κs within = ready-are c.args.hall.now (view c.args.root.now).seen c.seat.new.slots.items c.seat.ensures.ready
+
+pub serve_seated-requires-clause-free : goal.serve_seated-requires-clause-free
+serve_seated-requires-clause-free g c κs within = ready-free c.args.hall.now (view c.args.root.now).seen c.seat.new.slots.items c.seat.ensures.ready
+
+pub serve_seated-requires-clause-idle : goal.serve_seated-requires-clause-idle
+serve_seated-requires-clause-idle g c κs within =
+    from-map (λ slot. slot.lane) (λ lane. g.L.Lane.busy lane ≡ false) c.seat.new.slots.items
+    (subst (λ lanes. All (λ lane. g.L.Lane.busy lane ≡ false) lanes) (sym c.seat.ensures.lanes) c.requires.idle)
+
+pub unseat-requires-clause-slots : goal.unseat-requires-clause-slots
+unseat-requires-clause-slots g c κs within =
+    passes-idle c.args.hall.now (record { acts = g.M.ModuleSet.acts; plan = g.M.ModuleSet.plan }) g.L.Lane.busy g.L.Lane.faults g.L.Lane.past 1 c.seat.new.slots.items c.serve_seated.new.slots.items (view c.args.root.now).seen
+    c.seat.ensures.ready (all-served c.args.hall.now (record { acts = g.M.ModuleSet.acts; plan = g.M.ModuleSet.plan }) g.L.Lane.busy g.L.Lane.faults g.L.Lane.past c.seat.new.slots.items c.serve_seated.new.slots.items c.serve_seated.ensures.length c.serve_seated.ensures.served)
+
+pub returns-clause-passes : goal.returns-clause-passes
+returns-clause-passes g c =
+    let idle = passes-idle c.args.hall.now (record { acts = g.M.ModuleSet.acts; plan = g.M.ModuleSet.plan }) g.L.Lane.busy g.L.Lane.faults g.L.Lane.past 1 c.seat.new.slots.items c.serve_seated.new.slots.items (view c.args.root.now).seen
+    c.seat.ensures.ready (all-served c.args.hall.now (record { acts = g.M.ModuleSet.acts; plan = g.M.ModuleSet.plan }) g.L.Lane.busy g.L.Lane.faults g.L.Lane.past c.seat.new.slots.items c.serve_seated.new.slots.items c.serve_seated.ensures.length c.serve_seated.ensures.served) in
+    subst (λ passes. AllFrom (IsIdleAt c.args.hall.now) 1 passes) (sym c.unseat.ensures.passes) (from-to-map (λ slot. slot.pass) (IsIdleAt c.args.hall.now) 1 c.serve_seated.new.slots.items idle)
+
+pub returns-clause-idle : goal.returns-clause-idle
+returns-clause-idle g c =
+    subst (λ lanes. All (λ lane. g.L.Lane.busy lane ≡ false) lanes) (sym c.unseat.ensures.lanes)
+    (lanes-idle c.args.hall.now (record { acts = g.M.ModuleSet.acts; plan = g.M.ModuleSet.plan }) g.L.Lane.busy g.L.Lane.faults g.L.Lane.past c.seat.new.slots.items c.serve_seated.new.slots.items (all-served c.args.hall.now (record { acts = g.M.ModuleSet.acts; plan = g.M.ModuleSet.plan }) g.L.Lane.busy g.L.Lane.faults g.L.Lane.past c.seat.new.slots.items c.serve_seated.new.slots.items c.serve_seated.ensures.length c.serve_seated.ensures.served))
+
+pub returns-clause-served : goal.returns-clause-served
+returns-clause-served g c =
+    are-served c.args.hall.now (record { acts = g.M.ModuleSet.acts; plan = g.M.ModuleSet.plan }) g.L.Lane.busy g.L.Lane.faults g.L.Lane.past (view c.args.root.now).seen (view c.unseat.new.root).seen c.seat.new.slots.items c.serve_seated.new.slots.items c.args.lanes.now.items c.unseat.new.lanes.items
+    c.unseat.new.passes.items c.unseat.result.answered c.unseat.result.cut c.seat.ensures.ready (all-served c.args.hall.now (record { acts = g.M.ModuleSet.acts; plan = g.M.ModuleSet.plan }) g.L.Lane.busy g.L.Lane.faults g.L.Lane.past c.seat.new.slots.items c.serve_seated.new.slots.items c.serve_seated.ensures.length c.serve_seated.ensures.served)
+    c.seat.ensures.lanes c.unseat.ensures.lanes c.unseat.ensures.passes c.unseat.ensures.within c.unseat.ensures.answered c.unseat.ensures.cut
