@@ -1,12 +1,8 @@
-mod Told
-mod Going
-mod Serving
-mod Adding
-mod Causes
 mod Said
 mod Statuses
 mod Numbers
 mod Loading
-mod Turns
-mod Keys
-mod HandedBack
+mod Unpublished
+mod RunEnds
+mod Clauses
+mod Storms

@@ -1,18 +1,16 @@
 -- What the bytes that a source gave up come to.
-use Rattle.std.proofs.Common.{◌≡◌, ◌<◌, ◌≤◌, ◌+◌, ◌∙◌, ◌++◌, ◌⊎◌, ℕ, true, List, [], length, Option, Some, None, Result, Ok, Err, length-append, inl, inr, refl, rules, ap, sym, subst, arith}
+use Rattle.std.proofs.Common.{◌≡◌, ◌<◌, ◌∙◌, ◌++◌, ◌⊎◌, ℕ, true, List, [], length, Option, Some, None, Result, Ok, Err, length-append, inl, inr, refl, rules, ap, sym, arith}
 use Rattle.std.specs.Prelude.{nat_lt}
 use Rattle.std.specs.Result.{result_map_both}
 use Rattle.std.proofs.lemmas.Bool.Decides.{nat_tests}
 use Rattle.std.proofs.lemmas.List.{append-nil}
 use Rattle.cd_tree.specs.Reading.{tree_of}
-use Rattle.cd_tree.specs.declared.fault.TreeFault.{TreeFault}
 use Rattle.cd_tree.specs.declared.fault.TreeFault.TheVariants.{TooLong}
 use Rattle.cd_tree.specs.declared.limits.TheConstants.{MAX_TEXT_BYTES}
 use Rattle.cd_tree.specs.declared.tree.Tree.{Tree, the_lemmas}
 use Rattle.cd_tree.specs.declared.tree.Tree.TheVariants as tree
 use Rattle.cd_legal.specs.declared.plan.Plan.{Plan}
 use Rattle.cd_module.specs.declared.fault.LoadFault.{LoadFault}
-use Rattle.cd_program.specs.Config.{Gave}
 use Rattle.cd_standard.specs.Acting.{plan_of_tree}
 use Rattle.cd_standard.specs.Loading.{loaded, nothing_said, planned}
 use Rattle.cd_standard.specs.Plans.{plan_of}

@@ -1,5 +1,5 @@
--- Which texts are the decimal of a number.
-use Rattle.std.proofs.Common.{◌≡◌, ◌≢◌, ◌∙◌, ℕ, ◌<◌, ◌^◌, List, Bool, true, false, Option, Some, None, IfSome, IfNone, is_some, sym, ap, refl, arith, decimal}
+-- Which texts are the decimal of a number, and so name a storm.
+use Rattle.std.proofs.Common.{◌≡◌, ◌≢◌, ◌∙◌, ℕ, ◌<◌, ◌^◌, List, Bool, true, false, sym, ap, refl, arith, decimal}
 use Rattle.std.specs.Prelude.{◌&&◌, nat_lt}
 use Rattle.std.specs.Str.{bytes_eq}
 use Rattle.std.specs.Str.Parse.{AllDigits, digits_value}
@@ -7,7 +7,8 @@ use Rattle.std.proofs.lemmas.Bool.Decides.{nat_tests}
 use Rattle.std.proofs.lemmas.Fmt.{digits_value-decimal}
 use Rattle.std.proofs.lemmas.Slice.Eq.{bytes_eq-Decides}
 use Rattle.std.proofs.lemmas.Str.Parse.{IsNumeralModel, numerals_by_value, tells_digits}
-use Rattle.cd_program.specs.Words.{is_number}
+use Rattle.cd_program.specs.declared.command.Command.TheVariants.{Storm, Unknown}
+use Rattle.cd_program.specs.Words.{is_number, storm_of}
 
 own : IsNumeralModel (AllDigits 10) (digits_value 10)
 own = numerals_by_value (AllDigits 10) tells_digits
@@ -25,8 +26,8 @@ bytes_eq-same xs = (bytes_eq-Decides xs xs).1 refl
 is_decimal : (n : ℕ) → n < 2 ^ 64 → is_number (decimal n) ≡ true
 is_decimal n small = rw (digits_value-decimal own n small, is_lt n (2 ^ 64) small, bytes_eq-same (decimal n)) refl
 
-pub number : (text : List ℕ) (n : ℕ) → n < 2 ^ 64 → text ≡ decimal n → true ≡ is_number text
-number text n small is = sym (ap is_number is ∙ is_decimal n small)
+pub storm : (text : List ℕ) (n : ℕ) → n < 2 ^ 64 → text ≡ decimal n → Storm n ≡ storm_of text
+storm text n small is = sym (ap storm_of is ∙ rw (is_decimal n small, digits_value-decimal own n small) refl)
 
 second : (text : List ℕ) (v : ℕ) (b : Bool) → nat_lt v (2 ^ 64) ≡ b → text ≡ decimal v → ((n : ℕ) → n < 2 ^ 64 → text ≢ decimal n) → false ≡ b
 second text v true e is other = absurd (other v (lt_is v (2 ^ 64) e) is)
@@ -37,5 +38,8 @@ first text v true e other = second text v (nat_lt v (2 ^ 64)) refl ((bytes_eq-De
 first text v false e other = refl
 
 -- any other text
-pub no_number : (text : List ℕ) → ((n : ℕ) → n < 2 ^ 64 → text ≢ decimal n) → false ≡ is_number text
+no_number : (text : List ℕ) → ((n : ℕ) → n < 2 ^ 64 → text ≢ decimal n) → false ≡ is_number text
 no_number text other = first text (digits_value 10 text) (bytes_eq text (decimal (digits_value 10 text))) refl other
+
+pub no_storm : (text : List ℕ) → ((n : ℕ) → n < 2 ^ 64 → text ≢ decimal n) → Unknown ≡ storm_of text
+no_storm text other = rw (sym (no_number text other)) refl

@@ -1,16 +1,15 @@
 -- Lines that were written, in whole or in part.
 use Rattle.std.proofs.Common.{◌≡◌, ◌∙◌, ◌++◌, ℕ, List, [], length, take, drop, Option, Some, None, option_map, length-append, refl, ap, sym, arith}
 use Rattle.std.proofs.lemmas.List.{take-append-drop, append_assoc, append-nil}
-use Rattle.cd_outside.specs.declared.past.Past.{Past}
 use Rattle.cd_outside.specs.declared.given.Given.{Given}
 use Rattle.cd_outside.specs.declared.given.Given.TheVariants as given
 use Rattle.cd_outside.specs.Given.{IsGivenOf}
-use Rattle.cd_outside.specs.Telling.{TellsOn}
-use Rattle.cd_module_set.specs.Acts.{Acts}
-use Rattle.cd_program.specs.Connections.{Added, IsOver}
 use Rattle.cd_program.specs.Output.{Wrote, FellShort}
-use Rattle.cd_program.proofs.Told.{both_steps}
-use Rattle.cd_program.proofs.Adding.{tells_none}
+
+-- two writes after one another
+both_steps : {A : Type 0} (f g h : A → A) (first then now : Option A) → then ≡ option_map f first → now ≡ option_map g then → ((x : A) → g (f x) ≡ h x) → now ≡ option_map h first
+both_steps f g h None then now one two same = two ∙ ap (option_map g) one
+both_steps f g h (Some x) then now one two same = two ∙ ap (option_map g) one ∙ ap Some (same x)
 
 -- a value by what is said of it
 Some-injective : {x y : List ℕ} → Some x ≡ Some y → x ≡ y
@@ -58,7 +57,19 @@ not_short line part more old then new is first second fell =
     let count : length ((fell.held ++ part) ++ more) ≡ length (fell.held ++ fell.text) = ap length same in
     absurd (omega (arith, count, ap length is, length-append (fell.held ++ part) more, length-append fell.held part, length-append fell.held fell.text, fell.short))
 
--- no lane was served, and nobody claims that it is over
-pub tells_unserved : (acts : Acts) (told : Option Past) (before : ℕ) (complete : Type 0) → (complete → ⊥) → TellsOn (λ p q. Added acts p q before before 0 0 × (complete → IsOver q.last)) told told
-tells_unserved acts None before complete no_claim = tt
-tells_unserved acts (Some p) before complete no_claim = (tells_none acts (Some p) before, λ claim. absurd (no_claim claim))
+-- what is complete in more cases
+pub wrote_as : (line : List ℕ) (complete other : Type 0) (old new : Option (List ℕ)) → (other → complete) → Wrote line complete old new → Wrote line other old new
+wrote_as line complete other old new more wrote = record { text = wrote.text; held = wrote.held; front = wrote.front; all = λ claim. wrote.all (more claim) }
+
+nothing_added : (old : Option (List ℕ)) → old ≡ option_map (λ held. held ++ []) old
+nothing_added None = refl
+nothing_added (Some held) = ap Some (sym (append-nil held))
+
+-- nothing was written
+pub wrote_none : (line : List ℕ) (complete : Type 0) (old new : Option (List ℕ)) → (complete → ⊥) → new ≡ old → Wrote line complete old new
+wrote_none line complete old new no_claim same = record {
+  text = [];
+  held = same ∙ nothing_added old;
+  front = (line, refl);
+  all = λ claim. absurd (no_claim claim);
+}

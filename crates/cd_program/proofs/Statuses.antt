@@ -1,44 +1,45 @@
--- What a status says of a run, and the lanes that come back.
-use Rattle.std.proofs.Common.{◌≡◌, ◌≢◌, ℕ, Bool, true, false, if◌then◌else◌, refl, arith}
+-- The status of an exit status.
+use Rattle.std.proofs.Common.{◌≡◌, ◌⊎◌, inl, inr, refl, arith}
 use Rattle.cd_program.specs.declared.status.Status.{Status}
 use Rattle.cd_program.specs.declared.status.Status.TheVariants as status
 use Rattle.cd_program.specs.Top.{code_of}
 
--- where no run was begun nothing is published
-pub unpublished : (begun : Bool) → begun ≡ false → ◌≡◌ {A = ℕ} (if begun then 1 else 0) 0
-unpublished begun none = rw none refl
+-- the run has ended, or the configuration is valid
+pub of_0 : (s : Status) → code_of s ≡ 0 → s ≡ status.Done
+of_0 status.Done e = refl
+of_0 status.Refused e = absurd (omega (arith, e))
+of_0 status.Unopened e = absurd (omega (arith, e))
+of_0 status.Usage e = absurd (omega (arith, e))
+of_0 status.ReadFault e = absurd (omega (arith, e))
+of_0 status.WriteFault e = absurd (omega (arith, e))
+of_0 status.NoMemory e = absurd (omega (arith, e))
 
--- a run that was begun published one configuration
-pub one_published : (begun : Bool) → begun ≡ true → ◌≡◌ {A = ℕ} (if begun then 1 else 0) 1
-one_published begun some = rw some refl
+-- the configuration is refused, or a key could not be opened
+pub of_1 : (s : Status) → code_of s ≡ 1 → (s ≡ status.Refused) ⊎ (s ≡ status.Unopened)
+of_1 status.Done e = absurd (omega (arith, e))
+of_1 status.Refused e = inl refl
+of_1 status.Unopened e = inr refl
+of_1 status.Usage e = absurd (omega (arith, e))
+of_1 status.ReadFault e = absurd (omega (arith, e))
+of_1 status.WriteFault e = absurd (omega (arith, e))
+of_1 status.NoMemory e = absurd (omega (arith, e))
 
--- the status of an exit status
-pub out_of_memory : (how : Status) → code_of how ≡ 5 → how ≡ status.NoMemory
-out_of_memory status.Done e = absurd (omega (arith, e))
-out_of_memory status.Refused e = absurd (omega (arith, e))
-out_of_memory status.Unopened e = absurd (omega (arith, e))
-out_of_memory status.Usage e = absurd (omega (arith, e))
-out_of_memory status.ReadFault e = absurd (omega (arith, e))
-out_of_memory status.WriteFault e = absurd (omega (arith, e))
-out_of_memory status.NoMemory e = refl
+-- a line could not be written
+pub of_4 : (s : Status) → code_of s ≡ 4 → s ≡ status.WriteFault
+of_4 status.Done e = absurd (omega (arith, e))
+of_4 status.Refused e = absurd (omega (arith, e))
+of_4 status.Unopened e = absurd (omega (arith, e))
+of_4 status.Usage e = absurd (omega (arith, e))
+of_4 status.ReadFault e = absurd (omega (arith, e))
+of_4 status.WriteFault e = refl
+of_4 status.NoMemory e = absurd (omega (arith, e))
 
--- there was a refusal, or a key could not be opened
-pub by_refusal : {A : Type 0} (how : Status) → code_of how ≡ 1 → (how ≡ status.Refused → A) → (how ≡ status.Unopened → A) → A
-by_refusal status.Done e refused unopened = absurd (omega (arith, e))
-by_refusal status.Refused e refused unopened = refused refl
-by_refusal status.Unopened e refused unopened = unopened refl
-by_refusal status.Usage e refused unopened = absurd (omega (arith, e))
-by_refusal status.ReadFault e refused unopened = absurd (omega (arith, e))
-by_refusal status.WriteFault e refused unopened = absurd (omega (arith, e))
-by_refusal status.NoMemory e refused unopened = absurd (omega (arith, e))
-
-pub not_unopened : (how : Status) → how ≡ status.NoMemory → how ≢ status.Unopened
-not_unopened how is other = cc
-
-pub refused_not_unopened : (how : Status) → how ≡ status.Refused → how ≢ status.Unopened
-refused_not_unopened how is other = cc
-
--- a run was begun or not
-pub by_begun : {A : Type 0} (begun : Bool) → (begun ≡ false → A) → (begun ≡ true → A) → A
-by_begun true unbegun some = some refl
-by_begun false unbegun some = unbegun refl
+-- out of memory
+pub of_5 : (s : Status) → code_of s ≡ 5 → s ≡ status.NoMemory
+of_5 status.Done e = absurd (omega (arith, e))
+of_5 status.Refused e = absurd (omega (arith, e))
+of_5 status.Unopened e = absurd (omega (arith, e))
+of_5 status.Usage e = absurd (omega (arith, e))
+of_5 status.ReadFault e = absurd (omega (arith, e))
+of_5 status.WriteFault e = absurd (omega (arith, e))
+of_5 status.NoMemory e = refl

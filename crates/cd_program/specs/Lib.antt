@@ -1,10 +1,7 @@
 pub mod Words
 pub mod Configuration
-pub mod Replies
-pub mod Connections
-pub mod Going
-pub mod Counted
 pub mod Config
-pub mod Lanes
 pub mod Output
 pub mod Top
+pub mod Endings
+pub mod Storm

@@ -2,15 +2,16 @@
 use Rattle.std.specs.Prelude.{◌≡◌, ◌<◌, ◌++◌, ℕ, List, length, codes, decimal, Option, Some, option_map}
 use Rattle.cd_outside.specs.declared.key.Key.{Key}
 use Rattle.cd_outside.specs.declared.key.Key.TheVariants.{Listen, Writer}
+use Rattle.cd_outside.specs.declared.given.Given.TheVariants as given
+use Rattle.cd_outside.specs.Given.{IsGivenOf}
 use Rattle.cd_addr.specs.Addresses.{written}
-
-abbrev pub serving_line : List ℕ
-serving_line = codes "serving initial configuration\n"
+use Rattle.cd_host.specs.Hosting.{serving_line}
 
 -- so many requests were answered under so many configurations
 unfoldable pub served_line : ℕ → ℕ → List ℕ
 served_line answered published = codes "served " ++ decimal answered ++ codes " requests under " ++ decimal published ++ codes " configurations\n"
 
+-- both lines of a run
 abbrev pub run_text : ℕ → ℕ → List ℕ
 run_text answered published = serving_line ++ served_line answered published
 
@@ -40,6 +41,10 @@ pub record FellShort (line : List ℕ) (old new : Option (List ℕ)) : Type 0 wh
   pub before : old ≡ Some held
   pub after : new ≡ Some (held ++ text)
   pub short : length text < length line
+
+-- a sink was given a prefix of the line, and not all of it
+abbrev pub WroteLess : List ℕ → Option (List ℕ) → Option (List ℕ) → Type 0
+WroteLess line old new = (part : List ℕ) × IsGivenOf given.Failed part line × (new ≡ option_map (λ held. held ++ part) old)
 
 -- the whole begins so
 abbrev pub IsFrontOf : List ℕ → List ℕ → Type 0

@@ -1,14 +1,16 @@
 -- How the program ended, and why.
-use Rattle.std.specs.Prelude.{◌≡◌, ◌⊎◌, ◌++◌, ℕ, Bool, true, false, List, ◌∷◌, Option, Result, Ok, Err}
+use Rattle.std.specs.Prelude.{◌≡◌, ◌⊎◌, ℕ, Bool, true, false, List, Option, Result, Ok, Err}
 use Rattle.cd_outside.specs.declared.key.Key.{Key}
-use Rattle.cd_outside.specs.declared.fixtures.FixtureCall.{FixtureCall}
 use Rattle.cd_tree.specs.declared.tree.Tree.{Tree}
 use Rattle.cd_tree.specs.declared.tree.Tree.TheVariants as tree
 use Rattle.cd_legal.specs.declared.plan.Plan.{Plan}
+use Rattle.cd_legal.specs.Runs.{Failure}
+use Rattle.cd_legal.specs.State.{Conf}
 use Rattle.cd_module.specs.declared.fault.LoadFault.{LoadFault}
-use Rattle.cd_opening.specs.Calls.{run_calls, unopened_calls}
-use Rattle.cd_opening.specs.Keys.{plan_keys}
-use Rattle.cd_module_set.specs.Acts.{Acts}
+use Rattle.cd_standard.specs.Acting.{acts_of_tree, plan_of_tree}
+use Rattle.cd_serve.specs.Meanings.{Meaning}
+use Rattle.cd_host.specs.Program.{Start}
+use Rattle.cd_host.specs.Runs.{Given, Ran}
 use Rattle.cd_program.specs.declared.command.Command.{Command}
 use Rattle.cd_program.specs.declared.command.Command.TheVariants.{Serve}
 use Rattle.cd_program.specs.declared.initial.Initial.{Initial}
@@ -34,19 +36,9 @@ code_of status.NoMemory = 5
 abbrev pub IsAccepted : ℕ → Type 0
 IsAccepted code = (code ≡ 0) ⊎ (code ≡ 4)
 
--- the exit status where no run was begun
+-- the exit status where no lane was served
 abbrev pub IsStopped : ℕ → Type 0
 IsStopped code = (code ≡ 1) ⊎ (code ≡ 2) ⊎ (code ≡ 3)
-
--- a run may have ended so
-abbrev pub is_begun : Status → Bool
-is_begun status.Done = true
-is_begun status.Refused = false
-is_begun status.Unopened = false
-is_begun status.Usage = false
-is_begun status.ReadFault = false
-is_begun status.WriteFault = true
-is_begun status.NoMemory = true
 
 -- so ends a call that has no configuration
 abbrev pub is_declined : Status → Bool
@@ -74,37 +66,44 @@ abbrev pub Begins : (Tree → Result Plan LoadFault) → Initial → Option (Lis
 Begins plan OfFile old new found = Loads plan old new found
 Begins plan Null old new found = if_planned tree.Null (plan tree.Null) ≡ found
 
--- the words ask for a run, and it begins with a configuration that may run: this is its tree, and its plan
+-- the words ask for a run, and it begins with a configuration that may run: this is its tree
 pub record Begun (command : Command) (plan : Tree → Result Plan LoadFault) (old new : Option (List ℕ)) : Type 0 where
   pub initial : Initial
   pub asked : command ≡ Serve initial
   pub tree : Tree
   pub fine : Begins plan initial old new (Ok tree)
-  pub found : Plan
-  pub planned : plan tree ≡ Ok found
 
--- A run: its configuration, the calls that the fixtures were asked for, and how the lanes were served by what the configuration
--- does. `calls` and `served` say how these were and are.
-pub record Ran (command : Command) (plan : Tree → Result Plan LoadFault) (acts : Tree → Acts) (old new : Option (List ℕ)) (calls : List FixtureCall → Type 0) (served : Acts → Type 0) : Type 0 where
-  pub begun : Begun command plan old new
-  pub opens : calls (run_calls (plan_keys begun.found))
-  pub serves : served (acts begun.tree)
+-- what the standard modules mean
+abbrev pub standard : Meaning
+standard = record { acts = acts_of_tree; plan = plan_of_tree }
 
--- One of these keys could not be opened, since the fixtures failed: those before it were closed again, the fixtures were shut,
--- and the line tells which key it is.
-pub record KeyFailed (keys : List Key) (failed : Type 0) (calls : List FixtureCall → Type 0) (told : List ℕ → Type 0) : Type 0 where
-  pub before : List Key
+-- A run of the words, which began with the tree of a configuration that may run. `start` says how the first configuration was
+-- published, or why not, and `served` whether the lanes were served to their ends. What is seen of the run from outside is `given`,
+-- for a configuration that was published last. Of it and of the one history of all passes, `Ran` says all that is promised.
+pub record HasRun (command : Command) (m : Meaning) (old new : Option (List ℕ)) (start : Start) (served : Bool) (given : Option Conf → Given) : Type 0 where
+  pub begun : Begun command m.plan old new
+  pub last : Option Conf
+  pub ran : Ran m begun.tree start served (given last)
+
+-- a run whose first configuration was published, with its lanes served or not; where they were not, this holds
+pub record HasStarted (command : Command) (m : Meaning) (old new : Option (List ℕ)) (given : Option Conf → Given) (unserved : Type 0) : Type 0 where
+  pub served : Bool
+  pub run : HasRun command m old new Start.published served given
+  pub short : served ≡ false → unserved
+
+-- a run that may have started in any way, with its lanes served or not
+pub record HasEnded (command : Command) (m : Meaning) (old new : Option (List ℕ)) (given : Option Conf → Given) : Type 0 where
+  pub start : Start
+  pub served : Bool
+  pub run : HasRun command m old new start served given
+
+-- a run that started with a key that could not be opened, since the fixtures failed; the line tells which key it is
+pub record FailedToOpen (command : Command) (m : Meaning) (old new : Option (List ℕ)) (given : Option Conf → Given) (failed : Type 0) (told : List ℕ → Type 0) : Type 0 where
   pub key : Key
-  pub after : List Key
-  pub are : keys ≡ before ++ key ∷ after
+  pub failure : Failure
+  pub run : HasRun command m old new (Start.refused failure key) false given
   pub cause : failed
-  pub opens : calls (unopened_calls before key)
   pub tells : told (unopened_line key)
-
--- a key of the configuration of a run could not be opened
-pub record FailedToOpen (command : Command) (plan : Tree → Result Plan LoadFault) (old new : Option (List ℕ)) (failed : Type 0) (calls : List FixtureCall → Type 0) (told : List ℕ → Type 0) : Type 0 where
-  pub begun : Begun command plan old new
-  pub fails : KeyFailed (plan_keys begun.found) failed calls told
 
 -- they are refused, and the line tells why
 pub record WasRefused (plan : Tree → Result Plan LoadFault) (old new : Option (List ℕ)) (told : List ℕ → Type 0) : Type 0 where

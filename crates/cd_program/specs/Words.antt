@@ -2,7 +2,7 @@
 use Rattle.std.specs.Prelude.{ℕ, ◌&&◌, Bool, true, false, List, [], ◌∷◌, codes, bytes_eq, decimal, ◌^◌, nat_lt, if◌then◌else◌}
 use Rattle.std.specs.Str.Parse.{digits_value}
 use Rattle.cd_program.specs.declared.command.Command.{Command}
-use Rattle.cd_program.specs.declared.command.Command.TheVariants.{Serve, Validate, Unbuilt, Unknown}
+use Rattle.cd_program.specs.declared.command.Command.TheVariants.{Serve, Validate, Storm, Unknown}
 use Rattle.cd_program.specs.declared.initial.Initial.{Initial}
 use Rattle.cd_program.specs.declared.initial.Initial.TheVariants.{OfFile, Null}
 
@@ -18,27 +18,23 @@ with_file word =
     else if bytes_eq word (codes "validate") then Validate
     else Unknown
 
--- what the words ask for: `stdio --config FILE`, `run --config FILE`, `run`, `validate --config FILE`, or `storm N`, which is
--- not built yet
+-- what a word asks for that follows `storm`
+abbrev pub storm_of : List ℕ → Command
+storm_of text = if is_number text then Storm (digits_value 10 text) else Unknown
+
+-- what the words ask for: `stdio --config FILE`, `run --config FILE`, `run`, `validate --config FILE`, or `storm N`
 abbrev pub command : List (List ℕ) → Command
 command [] = Unknown
 command (word ∷ []) = if bytes_eq word (codes "run") then Serve Null else Unknown
-command (word ∷ number ∷ []) = if bytes_eq word (codes "storm") && is_number number then Unbuilt else Unknown
+command (word ∷ number ∷ []) = if bytes_eq word (codes "storm") then storm_of number else Unknown
 command (word ∷ option ∷ file ∷ []) = if bytes_eq option (codes "--config") then with_file word else Unknown
 command (word ∷ option ∷ file ∷ other ∷ more) = Unknown
-
--- it is built
-abbrev pub is_built : Command → Bool
-is_built (Serve initial) = true
-is_built Validate = true
-is_built Unbuilt = false
-is_built Unknown = false
 
 -- it is a run
 abbrev pub is_run : Command → Bool
 is_run (Serve initial) = true
 is_run Validate = false
-is_run Unbuilt = false
+is_run (Storm number) = false
 is_run Unknown = false
 
 -- a run begins with the configuration of a file
@@ -50,18 +46,9 @@ is_of_file Null = false
 abbrev pub has_file : Command → Bool
 has_file (Serve initial) = is_of_file initial
 has_file Validate = true
-has_file Unbuilt = false
+has_file (Storm number) = false
 has_file Unknown = false
 
+-- the line for words that ask for nothing that is known
 abbrev pub usage_line : List ℕ
 usage_line = codes "usage: caddy_run run [--config FILE] | stdio --config FILE | validate --config FILE | storm N\n"
-
-abbrev pub unbuilt_line : List ℕ
-unbuilt_line = codes "not yet\n"
-
--- the line for words that start nothing
-abbrev pub idle_line : Command → List ℕ
-idle_line (Serve initial) = usage_line
-idle_line Validate = usage_line
-idle_line Unbuilt = unbuilt_line
-idle_line Unknown = usage_line

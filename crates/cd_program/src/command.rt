@@ -1,5 +1,5 @@
-ghost use Rattle.std.specs.Prelude.{◌≡◌, ◌<◌, length};
-ghost use Rattle.cd_program.specs.Words.{command, with_file, is_number, idle_line};
+ghost use Rattle.std.specs.Prelude.{◌≡◌};
+ghost use Rattle.cd_program.specs.Words.{command, with_file, storm_of};
 
 use crate::initial::Initial;
 use cd_text::{Text, number_of};
@@ -11,8 +11,8 @@ pub enum Command {
     Serve(Initial),
     /// `validate --config FILE`: to say whether the configuration is one.
     Validate,
-    /// `storm N`, which has a meaning that is not built yet. N is the decimal of a number below 2^64.
-    Unbuilt,
+    /// `storm N`: to serve the workload of a number over forms in memory. N is the decimal of a number below 2^64.
+    Storm(u64),
     /// Nothing that is known.
     Unknown,
 }
@@ -24,23 +24,9 @@ impl Command {
     {
         match words {
             [word] if word.equals("run") => Command::Serve(Initial::Null),
-            [word, number] if word.equals("storm") && is_number(number.as_str()) =>
-                Command::Unbuilt,
+            [word, number] if word.equals("storm") => storm_of(number.as_str()),
             [word, option, _] if option.equals("--config") => with_file(word),
             _ => Command::Unknown,
-        }
-    }
-
-    /// The line for words that start nothing.
-    pub fn idle_line(self) -> &'static str
-        ensures line { result.now ≡ idle_line self }
-        ensures some { 0 < length result.now }
-    {
-        match self {
-            Command::Unbuilt => "not yet\n",
-            Command::Serve(_) | Command::Validate | Command::Unknown => {
-                "usage: caddy_run run [--config FILE] | stdio --config FILE | validate --config FILE | storm N\n"
-            }
         }
     }
 }
@@ -60,11 +46,12 @@ fn with_file(word: &Text) -> Command
     }
 }
 
-fn is_number(text: &str) -> bool
-    ensures { result ≡ is_number text.now }
+// What a text asks for that follows `storm`.
+fn storm_of(text: &str) -> Command
+    ensures { result ≡ storm_of text.now }
 {
     match number_of(text) {
-        Some(_) => true,
-        None => false,
+        Some(number) => Command::Storm(number),
+        None => Command::Unknown,
     }
 }

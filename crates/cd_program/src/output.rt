@@ -1,26 +1,16 @@
-ghost use Rattle.std.specs.Prelude.{◌≡◌, ◌≤◌, ◌<◌, ◌++◌, List, ℕ, codes, length, option_map, IfOk};
+ghost use Rattle.std.specs.Prelude.{◌≡◌, ◌<◌, ◌++◌, codes, length, IfOk};
 ghost use Rattle.cd_outside.specs.Counts.{Rose};
-ghost use Rattle.cd_outside.specs.Given.{IsGivenOf};
 ghost use Rattle.cd_program.specs.Configuration.{words_of};
 ghost use Rattle.cd_program.specs.Output.{Wrote, key_words, served_line, refused_line, unopened_line};
 
 use crate::refusal::{Refusal, fault_words};
 use cd_addr::write;
+use cd_host::say;
 use cd_outside::{Given, Key, Sink};
 use cd_text::{NoMemory, Text};
 use std::alloc::Global;
 
-/// Writes a text, which may not be empty.
-pub fn say<O: Sink>(out: &mut O, text: &str) -> Given
-    requires { 0 < length text.now }
-    ensures part { (part : List ℕ) × IsGivenOf result part text.now × (O.holds out.new ≡ option_map (λ held. held ++ part) (O.holds out.old)) }
-    ensures later { O.faults out.old ≤ O.faults out.new }
-    ensures failed { result ≡ Given.Failed → Rose (O.faults out.old) (O.faults out.new) }
-{
-    out.write(text.as_bytes())
-}
-
-/// Writes the one line of a call that serves nothing.
+/// Writes a line.
 pub fn say_line<O: Sink>(out: &mut O, line: &str) -> Given
     requires { 0 < length line.now }
     ensures said { Wrote line.now (result ≡ Given.All) (O.holds out.old) (O.holds out.new) }

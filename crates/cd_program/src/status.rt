@@ -3,17 +3,17 @@ ghost use Rattle.std.specs.Prelude.{◌≡◌};
 /// How the program ended.
 #[derive(Clone, Copy, Debug, PartialEq, Eq)]
 pub enum Status {
-    /// The run has ended, or the configuration is valid.
+    /// The run or the storm has ended, or the configuration is valid.
     Done,
     /// The configuration is refused.
     Refused,
     /// A key of the configuration could not be opened.
     Unopened,
-    /// The words are none that the program knows, or none that is built yet.
+    /// The words are none that the program knows.
     Usage,
     /// The configuration could not be read.
     ReadFault,
-    /// A line of a run, or that the configuration is valid, could not be written.
+    /// A line of a run or of a storm, or that the configuration is valid, could not be written.
     WriteFault,
     /// Out of memory.
     NoMemory,

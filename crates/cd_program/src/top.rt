@@ -1,18 +1,19 @@
-ghost use Rattle.std.specs.Prelude.{◌≡◌, ◌≤◌, ◌↔◌, ◌⊎◌, true, false, length, All, if◌then◌else◌};
+ghost use Rattle.std.specs.Prelude.{◌≡◌, ◌≤◌, ◌↔◌, ◌⊎◌, ℕ, true, false, length, All};
 ghost use Rattle.cd_outside.specs.Counts.{Rose};
-ghost use Rattle.cd_outside.specs.FixtureCall.{CallsGrow};
-ghost use Rattle.cd_standard.specs.Acting.{acts_of_tree, plan_of_tree};
-ghost use Rattle.cd_program.specs.Output.{Wrote, FellShort, run_text, serving_line, valid_line, read_fault_line};
-ghost use Rattle.cd_program.specs.Lanes.{LanesServed};
-ghost use Rattle.cd_program.specs.Top.{IsAccepted, IsStopped, IsValid, Ran, WasRefused, FailedToOpen, IsUntouched, code_of};
-ghost use Rattle.cd_program.specs.Words.{command, idle_line, is_built, is_run, has_file};
+ghost use Rattle.cd_standard.specs.Acting.{plan_of_tree};
+ghost use Rattle.cd_host.specs.Hosting.{given_of, serving_line};
+ghost use Rattle.cd_host.specs.Program.{Start};
+ghost use Rattle.cd_program.specs.Storm.{HasWritten};
+ghost use Rattle.cd_program.specs.Output.{Wrote, WroteLess, FellShort, run_text, valid_line, read_fault_line};
+ghost use Rattle.cd_program.specs.Top.{IsAccepted, IsStopped, IsValid, HasRun, HasStarted, HasEnded, WasRefused, FailedToOpen, IsUntouched, standard};
+ghost use Rattle.cd_program.specs.Words.{command, usage_line, is_run, has_file};
 
 use crate::command::Command;
-use crate::counts::Counts;
+use crate::ended::{Ended, after_storm, unbegun};
 use crate::output::say_line;
-use crate::report::Report;
 use crate::starting::run_all;
 use crate::status::Status;
+use crate::storm::run_storm;
 use crate::validating::validate;
 use cd_outside::{Fixtures, Lane, Sink, Source};
 use cd_standard::Standard;
@@ -21,36 +22,21 @@ use std::alloc::Global;
 use std::sync::Wait;
 use std::thread::Threads;
 
-/// What a call of the program ended with.
-#[derive(Drop)]
-pub struct Ended<F, L> {
-    /// The exit status.
-    pub status: u8,
-    pub fixtures: F,
-    pub lanes: List<L>,
-    /// How many requests were answered in whole. It stays at 2^64 - 1.
-    pub answered: u64,
-    /// How many configurations were published.
-    pub published: u32,
-    /// How many connections were cut short, out of memory. It stays at 2^64 - 1.
-    pub cut: u64,
-}
-
 /// The program, over all that it is handed: its words, the source of its configuration, its output, its fixtures and its lanes.
 ///
-/// `stdio --config FILE` and `run --config FILE` serve the lanes by the configuration that `config` gives, and `run` serves
-/// them by the configuration null: each request as that says for the address that its connection came to. A connection at an
-/// address of no app, as that of the admin API, ends unanswered. The keys of the configuration are opened in order before a
-/// lane is served, and closed in reverse after all are. It returns once no lane gives a further connection.
-/// `validate --config FILE` loads the configuration, says whether it may run, and starts nothing.
+/// `stdio --config FILE` and `run --config FILE` begin with the configuration that `config` gives, and `run` begins with the
+/// configuration null. They serve all lanes, each request by the configuration that is current when it begins: by its apps, or,
+/// at the address of the admin API, by that, which may publish another configuration or halt the host. It returns once no lane
+/// gives a further connection, or after a halt. `validate --config FILE` loads the configuration, says whether it may run, and
+/// starts nothing. `storm N` serves the workload of a number over forms in memory, and says in one line what it came to.
 ///
 /// | status | when |
 /// |---|---|
-/// | 0 | the run has ended, or the configuration may run |
+/// | 0 | the run or the storm has ended, or the configuration may run |
 /// | 1 | the configuration is refused, or a key of it could not be opened |
-/// | 2 | the words start nothing: what they name is not built yet, or unknown |
+/// | 2 | the words are unknown |
 /// | 3 | the configuration could not be read |
-/// | 4 | a line of a run, or that the configuration may run, could not be written |
+/// | 4 | a line of a run or of a storm, or that the configuration may run, could not be written |
 /// | 5 | out of memory |
 pub fn caddy_main<R: Threads + Wait + Sync, S: Source, O: Sink, F: Fixtures + Send, L: Lane + Send>(
     rt: &R,
@@ -68,9 +54,9 @@ pub fn caddy_main<R: Threads + Wait + Sync, S: Source, O: Sink, F: Fixtures + Se
     ensures idle { All (λ lane. L.busy lane ≡ false) result.lanes }
     ensures known { result.status ≤ 5 }
 
-    // Status 2 comes exactly where the words ask for nothing that is built. Without a file nothing is read.
-    ensures usage { (result.status ≡ 2) ↔ (is_built (command words.now) ≡ false) }
-    ensures usage_text { result.status ≡ 2 → Wrote (idle_line (command words.now)) (¬ (Rose (O.faults out.old) (O.faults out.new))) (O.holds out.old) (O.holds out.new) }
+    // Status 2 comes exactly where the words ask for nothing that is known. Without a file nothing is read.
+    ensures usage { (result.status ≡ 2) ↔ (command words.now ≡ Command.Unknown) }
+    ensures usage_text { result.status ≡ 2 → Wrote usage_line (¬ (Rose (O.faults out.old) (O.faults out.new))) (O.holds out.old) (O.holds out.new) }
     ensures unread { has_file (command words.now) ≡ false → config.new ≡ config.old }
 
     // Status 1 comes only where the configuration is refused, or a key of it could not be opened; a run, or that it is valid, only
@@ -80,77 +66,66 @@ pub fn caddy_main<R: Threads + Wait + Sync, S: Source, O: Sink, F: Fixtures + Se
         × WasRefused plan_of_tree (S.left config.old) (S.left config.new)
         (λ line. Wrote line (¬ (Rose (O.faults out.old) (O.faults out.new))) (O.holds out.old) (O.holds out.new))
         × (result.fixtures ≡ fixtures))
-        ⊎ FailedToOpen (command words.now) plan_of_tree (S.left config.old) (S.left config.new) (Rose (F.faults fixtures) (F.faults result.fixtures))
-        (λ calls. CallsGrow (F.calls fixtures) calls (F.calls result.fixtures))
+        ⊎ FailedToOpen (command words.now) standard (S.left config.old) (S.left config.new)
+        (λ last. given_of F.calls F.faults L.faults L.past fixtures result.fixtures lanes result.lanes result.answered result.published result.cut last)
+        (Rose (F.faults fixtures) (F.faults result.fixtures))
         (λ line. Wrote line (¬ (Rose (O.faults out.old) (O.faults out.new))) (O.holds out.old) (O.holds out.new)) }
     ensures valid { command words.now ≡ Command.Validate → IsAccepted result.status → IsValid plan_of_tree (S.left config.old) (S.left config.new) }
     ensures valid_text { command words.now ≡ Command.Validate → IsAccepted result.status → Wrote valid_line (result.status ≡ 0) (O.holds out.old) (O.holds out.new) }
-    ensures ran { is_run (command words.now) ≡ true → IsAccepted result.status → Ran (command words.now) plan_of_tree acts_of_tree (S.left config.old) (S.left config.new)
-        (λ calls. CallsGrow (F.calls fixtures) calls (F.calls result.fixtures))
-        (LanesServed L.faults L.past (result.status ≡ 0) result.answered result.cut lanes result.lanes) }
+
+    // With status 0 a run has ended in order, after its lanes were served to their ends.
+    ensures ran { is_run (command words.now) ≡ true → result.status ≡ 0
+        → HasRun (command words.now) standard (S.left config.old) (S.left config.new) Start.published true
+        (λ last. given_of F.calls F.faults L.faults L.past fixtures result.fixtures lanes result.lanes result.answered result.published result.cut last) }
+
+    // With status 4 too, but where the first line could not be written: then no lane is served.
+    ensures ran_short { is_run (command words.now) ≡ true → result.status ≡ 4
+        → HasStarted (command words.now) standard (S.left config.old) (S.left config.new)
+        (λ last. given_of F.calls F.faults L.faults L.past fixtures result.fixtures lanes result.lanes result.answered result.published result.cut last)
+        ((result.lanes ≡ lanes) × (result.answered ≡ 0) × (result.cut ≡ 0) × WroteLess serving_line (O.holds out.old) (O.holds out.new)) }
     ensures ran_text { is_run (command words.now) ≡ true → IsAccepted result.status → Wrote (run_text result.answered result.published) (result.status ≡ 0) (O.holds out.old) (O.holds out.new) }
-    ensures published { is_run (command words.now) ≡ true → IsAccepted result.status → result.published ≡ 1 }
 
     // No lane is served before the whole first line was written.
-    ensures unbegun { FellShort serving_line (O.holds out.old) (O.holds out.new) → (result.lanes ≡ lanes) × (result.answered ≡ 0) × (result.cut ≡ 0) }
+    ensures unbegun { is_run (command words.now) ≡ true → FellShort serving_line (O.holds out.old) (O.holds out.new) → (result.lanes ≡ lanes) × (result.answered ≡ 0) × (result.cut ≡ 0) }
 
     ensures read_fault { result.status ≡ 3 → (has_file (command words.now) ≡ true) × Rose (S.faults config.old) (S.faults config.new) }
     ensures read_fault_text { result.status ≡ 3 → Wrote read_fault_line (¬ (Rose (O.faults out.old) (O.faults out.new))) (O.holds out.old) (O.holds out.new) }
     ensures write_fault { result.status ≡ 4 → Rose (O.faults out.old) (O.faults out.new) }
 
-    // Memory runs out before a run, and then nothing was done, or at its last line.
+    // Where memory runs out nothing was done, or a run has ended in order.
     ensures memory { result.status ≡ 5
         → (IsUntouched lanes result.lanes result.answered result.published result.cut × (result.fixtures ≡ fixtures) × (O.holds out.new ≡ O.holds out.old))
-        ⊎ ((result.published ≡ 1)
-        × Ran (command words.now) plan_of_tree acts_of_tree (S.left config.old) (S.left config.new)
-        (λ calls. CallsGrow (F.calls fixtures) calls (F.calls result.fixtures))
-        (LanesServed L.faults L.past (result.status ≡ 0) result.answered result.cut lanes result.lanes)
+        ⊎ (HasEnded (command words.now) standard (S.left config.old) (S.left config.new)
+        (λ last. given_of F.calls F.faults L.faults L.past fixtures result.fixtures lanes result.lanes result.answered result.published result.cut last)
         × Wrote (run_text result.answered result.published) (result.status ≡ 0) (O.holds out.old) (O.holds out.new)) }
     ensures untouched { IsStopped result.status → IsUntouched lanes result.lanes result.answered result.published result.cut }
     ensures unopened { (result.status ≡ 2) ⊎ (result.status ≡ 3) → result.fixtures ≡ fixtures }
+
+    // A storm is run over forms of its own: what was handed in comes back as it was.
+    ensures stormed { (number : ℕ) → command words.now ≡ Command.Storm number → IsAccepted result.status → HasWritten standard number result.answered result.published (result.status ≡ 0) (O.holds out.old) (O.holds out.new) }
+    ensures storm_untouched { (number : ℕ) → command words.now ≡ Command.Storm number → (result.lanes ≡ lanes) × (result.fixtures ≡ fixtures) × (result.cut ≡ 0) }
     ensures valid_untouched { command words.now ≡ Command.Validate → IsUntouched lanes result.lanes result.answered result.published result.cut × (result.fixtures ≡ fixtures) }
 {
     match Command::of(words) {
-        Command::Serve(initial) => {
-            let mut fixtures = fixtures;
-            let mut lanes = lanes.into_vec();
-            let report = run_all::<Standard, R, S, O, F, L>(
-                rt,
-                alloc,
-                initial,
-                config,
+        Command::Serve(initial) => run_all::<Standard, R, S, O, F, L>(
+            rt, alloc, initial, config, out, fixtures, lanes,
+        ),
+        Command::Validate => unbegun(
+            validate::<Standard, S, O>(alloc, config, out),
+            fixtures,
+            lanes,
+        ),
+        Command::Storm(number) => after_storm(
+            run_storm::<R, Standard, O>(rt, alloc, number, out),
+            fixtures,
+            lanes,
+        ),
+        Command::Unknown => {
+            let _ = say_line(
                 out,
-                &mut fixtures,
-                &mut lanes,
+                "usage: caddy_run run [--config FILE] | stdio --config FILE | validate --config FILE | storm N\n",
             );
-            handed_back(report, fixtures, List::from_vec(lanes))
+            unbegun(Status::Usage, fixtures, lanes)
         }
-        Command::Validate => {
-            let status = validate::<Standard, S, O>(alloc, config, out);
-            handed_back(Report::unbegun(status), fixtures, lanes)
-        }
-        idle => {
-            let _ = say_line(out, idle.idle_line());
-            handed_back(Report::unbegun(Status::Usage), fixtures, lanes)
-        }
-    }
-}
-
-fn handed_back<F, L>(report: Report, fixtures: F, lanes: List<L>) -> Ended<F, L>
-    ensures { result ≡ record { status = code_of report.status; fixtures = fixtures; lanes = lanes; answered = report.counts.answered; published = (if report.begun then 1 else 0); cut = report.counts.cut } }
-{
-    let Report {
-        status,
-        begun,
-        counts,
-    } = report;
-    let Counts { answered, cut } = counts;
-    Ended {
-        status: status.code(),
-        fixtures,
-        lanes,
-        answered,
-        published: if begun { 1 } else { 0 },
-        cut,
     }
 }
