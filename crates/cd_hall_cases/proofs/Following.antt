@@ -1,7 +1,7 @@
 -- By which change the configuration follows, as the compiled form of the one before says.
-use Rattle.std.proofs.Common.{◌≡◌, true, false, refl, []}
+use Rattle.std.proofs.Common.{◌≡◌, Bool, true, false, Some, ap, []}
 use Rattle.cd_outside.specs.declared.address.Address.{Address}
-use Rattle.cd_tree.specs.declared.tree.Tree.TheVariants.{Null}
+use Rattle.cd_tree.specs.declared.tree.Tree.TheVariants as tree
 use Rattle.cd_wire.specs.declared.request.Request.{Request}
 use Rattle.cd_legal.specs.Serials.{is_halted}
 use Rattle.cd_legal.specs.State.{Conf}
@@ -14,12 +14,12 @@ use Rattle.cd_hall_cases.specs.Fixed.{fixed_acts, fixed_change}
 somewhere : Address
 somewhere = record { host = []; port = 0 }
 
-pub by-request : (conf : Conf) (request : Request) → DoAlike (fixed_acts true) (conf_acts (λ tree. fixed_acts true) conf) → Suits fixed_change conf (change.Request request) Null
-by-request Conf.Opening request alike = absurd (let h : target.Admin ≡ target.Nobody = alike.targets somewhere in cc)
-by-request Conf.Halted request alike = absurd (let h : target.Admin ≡ target.Nobody = alike.targets somewhere in cc)
-by-request (Conf.Of tree) request alike = refl
+pub by-request : (conf : Conf) (request : Request) (wide : Bool) → request.close ≡ wide → DoAlike (fixed_acts true) (conf_acts (λ tree. fixed_acts true) conf) → Suits fixed_change conf (change.Request request) (tree.Bool wide)
+by-request Conf.Opening request wide is alike = absurd (let h : target.Admin ≡ target.Nobody = alike.targets somewhere in cc)
+by-request Conf.Halted request wide is alike = absurd (let h : target.Admin ≡ target.Nobody = alike.targets somewhere in cc)
+by-request (Conf.Of before) request wide is alike = ap (λ (b : Bool). Some (tree.Bool b)) is
 
-pub by-none : (conf : Conf) → DoAlike (fixed_acts false) (conf_acts (λ tree. fixed_acts true) conf) → is_halted conf ≡ false → Suits fixed_change conf change.First Null
-by-none Conf.Opening alike free = tt
-by-none Conf.Halted alike free = absurd (let h : true ≡ false = free in cc)
-by-none (Conf.Of tree) alike free = absurd (let h : target.Nobody ≡ target.Admin = alike.targets somewhere in cc)
+pub by-none : (conf : Conf) (wide : Bool) → DoAlike (fixed_acts false) (conf_acts (λ tree. fixed_acts true) conf) → is_halted conf ≡ false → Suits fixed_change conf change.First (tree.Bool wide)
+by-none Conf.Opening wide alike free = tt
+by-none Conf.Halted wide alike free = absurd (let h : true ≡ false = free in cc)
+by-none (Conf.Of before) wide alike free = absurd (let h : target.Nobody ≡ target.Admin = alike.targets somewhere in cc)

@@ -1,19 +1,50 @@
--- The one configuration of the case program: what it consists of, and who answers while it runs.
-use Rattle.std.specs.Prelude.{Bool, false, if◌then◌else◌, [], ◌∷◌, codes, Option, Some}
+-- The two configurations of the case program: what they consist of, and who answers while one runs.
+use Rattle.std.specs.Prelude.{ℕ, Bool, false, if◌then◌else◌, [], ◌∷◌, codes, Option, Some}
+use Rattle.cd_outside.specs.declared.address.Address.{Address}
 use Rattle.cd_outside.specs.declared.key.Key.TheVariants.{Listen, Writer}
-use Rattle.cd_tree.specs.declared.tree.Tree.{Tree}
-use Rattle.cd_tree.specs.declared.tree.Tree.TheVariants.{Null}
+use Rattle.cd_tree.specs.declared.tree.Member.{Member}
+use Rattle.cd_tree.specs.declared.tree.Tree.{Tree, out-Tree}
+use Rattle.cd_tree.specs.declared.tree.Tree.TheOpen.{Tree-F}
+use Rattle.cd_tree.specs.declared.tree.Tree.TheVariants.{Bool as Truth}
 use Rattle.cd_wire.specs.declared.request.Request.{Request}
 use Rattle.cd_legal.specs.declared.plan.Plan.{Plan}
 use Rattle.cd_module_set.specs.Acts.{Acts}
 use Rattle.cd_module_set.specs.declared.target.Target.TheVariants as target
 
+abbrev pub localhost : ℕ → Address
+localhost port = record { host = codes "localhost"; port = port }
+
 -- one module that writes, and one app that listens
-abbrev pub fixed_plan : Plan
-fixed_plan = record {
+abbrev pub plain_plan : Plan
+plain_plan = record {
   modules = record { name = codes "writer"; at = record { parts = [] }; keys = Writer (codes "stdout") ∷ [] } ∷ [];
-  apps = record { name = codes "listener"; keys = Listen (record { host = codes "localhost"; port = 8080 }) ∷ [] } ∷ [];
+  apps = record { name = codes "listener"; keys = Listen (localhost 8080) ∷ [] } ∷ [];
 }
+
+-- three modules that write, and two apps that listen: five keys, of which three are shared, two of these with the plain plan
+abbrev pub wide_plan : Plan
+wide_plan = record {
+  modules =
+      record { name = codes "writer"; at = record { parts = [] }; keys = Writer (codes "stdout") ∷ [] } ∷
+      record { name = codes "auditor"; at = record { parts = [] }; keys = Writer (codes "stdout") ∷ Writer (codes "file:audit") ∷ [] } ∷
+      record { name = codes "tracer"; at = record { parts = [] }; keys = Writer (codes "file:audit") ∷ Writer (codes "file:trace") ∷ [] } ∷ [];
+  apps =
+      record { name = codes "listener"; keys = Listen (localhost 8080) ∷ [] } ∷
+      record { name = codes "listeners"; keys = Listen (localhost 8080) ∷ Listen (localhost 8443) ∷ [] } ∷ [];
+}
+
+-- the tree is true
+abbrev pub is_true_layer : Tree-F Tree Member → Bool
+is_true_layer Tree-F.Null = false
+is_true_layer (Tree-F.Bool b) = b
+is_true_layer (Tree-F.Num number) = false
+is_true_layer (Tree-F.Text text) = false
+is_true_layer (Tree-F.Items items) = false
+is_true_layer (Tree-F.Object members) = false
+
+-- the tree true is that of the wide configuration, and each other one that of the plain one
+abbrev pub fixed_plan : Tree → Plan
+fixed_plan tree = if is_true_layer (out-Tree tree) then wide_plan else plain_plan
 
 -- while it runs the admin API is everywhere, and else nobody; no app answers
 abbrev pub fixed_acts : Bool → Acts
@@ -23,6 +54,6 @@ fixed_acts running = record {
   lines = λ at request answer. [];
 }
 
--- each request asks for the tree null
+-- a request that closes its connection asks for the wide configuration, and each other one for the plain one
 abbrev pub fixed_change : Tree → Request → Option Tree
-fixed_change tree request = Some Null
+fixed_change before request = Some (Truth request.close)

@@ -1,29 +1,30 @@
 // Configurations follow one another.
-ghost use Rattle.std.specs.Prelude.{◌≡◌, [], Some, None, IfOk, IfSome, OnErr, IsTrue, false};
-ghost use Rattle.cd_tree.specs.declared.tree.Tree.TheVariants.{Null};
+ghost use Rattle.std.specs.Prelude.{◌≡◌, [], Some, None, IfOk, IfSome, OnErr};
+ghost use Rattle.cd_tree.specs.declared.tree.Tree.TheVariants.{Bool};
 ghost use Rattle.cd_gate.specs.Passes.{view};
 ghost use Rattle.cd_life.specs.Fits.{Suits};
 ghost use Rattle.cd_life.specs.Shares.{conf_in};
-ghost use Rattle.cd_hall.specs.Drafts.{IsDraftOf};
+ghost use Rattle.cd_hall.specs.Drafts.{IsDraftOf, IsWholeDraft, held};
 ghost use Rattle.cd_hall.specs.Publishing.{draft_in};
 ghost use Rattle.cd_hall.specs.Tickets.{IsTicketOf};
 ghost use Rattle.cd_hall_cases.specs.Fixed.{fixed_change};
-ghost use Rattle.cd_hall_cases.specs.Passes.{Has, HasCome};
+ghost use Rattle.cd_hall_cases.specs.Passes.{Has, IsNew};
 
 use crate::fixed::{Fixed, load_fixed};
+use crate::opening::open;
 use crate::requests::{begin, end};
 use cd_gate::Pass;
 use cd_hall::{Hall, Kept, Ticket, tickets_keep_their_configurations};
 use cd_legal::Change;
 use cd_life::{Board, Draft};
-use cd_outside::MemoryFixtures;
+use cd_outside::{Key, MemoryFixtures};
 use cd_text::{List, NoMemory, Octets, Text};
 use cd_wire::Request;
 use std::alloc::Global;
 use std::sync::Wait;
 
 /// Why a configuration did not follow.
-#[derive(Clone, Copy, Debug, PartialEq, Eq)]
+#[derive(Drop)]
 pub enum Refused {
     /// A later one is there, with this serial.
     Superseded(u32),
@@ -32,11 +33,11 @@ pub enum Refused {
     Exhausted,
     NoMemory,
     Halted,
-    /// A key could not be opened.
-    Closed,
+    /// This key could not be opened.
+    Closed(Key),
 }
 
-/// The pass lets so many configurations follow, each by a request of its own.
+/// The pass lets the plain configuration follow so many times, each by a request of its own.
 pub fn reload_times<R: Wait>(
     rt: &R,
     alloc: Global,
@@ -49,60 +50,63 @@ pub fn reload_times<R: Wait>(
     ensures { Has hall.now pass.new number None None [] }
 {
     for _ in 0..times {
-        reload(rt, alloc, hall, pass, number)?;
+        reload(rt, alloc, hall, pass, false, number)?;
     }
     Ok(())
 }
 
-/// The pass lets a configuration follow, by a request of its own.
+/// The pass lets the wide configuration follow, or the plain one, by a request of its own.
 pub fn reload<R: Wait>(
     rt: &R,
     alloc: Global,
     hall: &Hall<Fixed, MemoryFixtures>,
     pass: &mut Pass<Board<Fixed, MemoryFixtures>>,
+    wide: bool,
     number: u32,
 ) -> Result<(), Refused>
     requires { Has hall.now pass.old number None None [] }
     ensures { Has hall.now pass.new number None None [] }
 {
     let ticket = begin(rt, hall, pass, number)?;
-    let published = publish(rt, alloc, hall, pass, &ticket, number);
+    let published = publish(rt, alloc, hall, pass, &ticket, wide, number);
     end(rt, hall, pass, ticket, number);
     published
 }
 
-/// A configuration follows that of the request.
+/// The wide configuration follows that of the request, or the plain one.
 pub fn publish<R: Wait>(
     rt: &R,
     alloc: Global,
     hall: &Hall<Fixed, MemoryFixtures>,
     pass: &mut Pass<Board<Fixed, MemoryFixtures>>,
     ticket: &Ticket<Fixed>,
+    wide: bool,
     number: u32,
 ) -> Result<(), Refused>
     requires has { Has hall.now pass.old number (Some ticket.now.serial) None [] }
     requires ticket { IsTicketOf (view pass.old) ticket.now }
     ensures { Has hall.now pass.new number (Some ticket.now.serial) None [] }
 {
-    let Ok(change) = change_after(alloc, ticket) else {
+    let Ok(change) = change_after(alloc, ticket, wide) else {
         return Err(Refused::NoMemory);
     };
     let Some(change) = change else {
         return Err(Refused::Halted);
     };
-    let Ok(draft) = draft(rt, alloc, hall, pass, ticket, number) else {
+    let Ok(draft) = draft(rt, alloc, hall, pass, ticket, wide, number) else {
         return Err(Refused::NoMemory);
     };
     publish_draft(rt, hall, pass, ticket, draft, change, number)
 }
 
-// A draft of the configuration.
+// A draft of the wide configuration, or of the plain one.
 fn draft<R: Wait>(
     rt: &R,
     alloc: Global,
     hall: &Hall<Fixed, MemoryFixtures>,
     pass: &mut Pass<Board<Fixed, MemoryFixtures>>,
     ticket: &Ticket<Fixed>,
+    wide: bool,
     number: u32,
 ) -> Result<Draft<Fixed>, NoMemory>
     requires has { Has hall.now pass.old number (Some ticket.now.serial) None [] }
@@ -110,12 +114,12 @@ fn draft<R: Wait>(
     ensures has { IfOk result (λ draft. Has hall.now pass.new number (Some ticket.now.serial) (Some draft.left.number) []) }
     ensures ticket { IsTicketOf (view pass.new) ticket.now }
     ensures draft { IfOk result (λ draft. IsDraftOf (view pass.new) draft) }
-    ensures new { IfOk result (λ draft. HasCome draft 0 0 false) }
+    ensures new { IfOk result (λ draft. IsNew (held draft) (Bool wide)) }
     ensures err { OnErr result (Has hall.now pass.new number (Some ticket.now.serial) None []) }
 {
     let _ = number;
     tickets_keep_their_configurations::<Board<Fixed, MemoryFixtures>, Fixed>(ticket);
-    let Ok(loaded) = load_fixed(alloc) else {
+    let Ok(loaded) = load_fixed(alloc, wide) else {
         return Err(NoMemory);
     };
     match hall.draft(rt, alloc, pass, loaded) {
@@ -137,66 +141,42 @@ fn publish_draft<R: Wait>(
     requires has { Has hall.now pass.old number (Some ticket.now.serial) (Some draft.left.number) [] }
     requires ticket { IsTicketOf (view pass.old) ticket.now }
     requires draft { IsDraftOf (view pass.old) draft }
-    requires new { HasCome draft 0 0 false }
-    requires change { Suits fixed_change (conf_in ticket.now.share) change Null }
+    requires new { IsNew (held draft) (held draft).tree }
+    requires change { Suits fixed_change (conf_in ticket.now.share) change (held draft).tree }
     ensures { Has hall.now pass.new number (Some ticket.now.serial) None [] }
 {
     let mut draft = draft;
-    if !make(rt, hall, pass, ticket, &mut draft, number) {
-        give_up(rt, hall, pass, ticket, draft, number);
-        return Err(Refused::Closed);
+    match open(rt, hall, pass, ticket, &mut draft, number) {
+        Ok(()) => publish_whole(rt, hall, pass, ticket, draft, change, number),
+        Err(key) => {
+            give_up(rt, hall, pass, ticket, draft, number);
+            Err(Refused::Closed(key))
+        }
     }
-    if !start(rt, hall, pass, ticket, &mut draft, number) {
-        give_up(rt, hall, pass, ticket, draft, number);
-        return Err(Refused::Closed);
-    }
-    publish_whole(rt, hall, pass, ticket, draft, change, number)
 }
 
-// Makes the one instance of the draft, and answers whether its key could be opened.
-fn make<R: Wait>(
+/// A draft of the wide configuration is opened, and given up.
+pub fn open_and_give_up<R: Wait>(
     rt: &R,
+    alloc: Global,
     hall: &Hall<Fixed, MemoryFixtures>,
     pass: &mut Pass<Board<Fixed, MemoryFixtures>>,
     ticket: &Ticket<Fixed>,
-    draft: &mut Draft<Fixed>,
     number: u32,
-) -> bool
-    requires has { Has hall.now pass.old number (Some ticket.now.serial) (Some draft.old.left.number) [] }
+) -> Result<(), Refused>
+    requires has { Has hall.now pass.old number (Some ticket.now.serial) None [] }
     requires ticket { IsTicketOf (view pass.old) ticket.now }
-    requires draft { IsDraftOf (view pass.old) draft.old }
-    requires new { HasCome draft.old 0 0 false }
-    ensures has { Has hall.now pass.new number (Some ticket.now.serial) (Some draft.new.left.number) [] }
-    ensures ticket { IsTicketOf (view pass.new) ticket.now }
-    ensures draft { IsDraftOf (view pass.new) draft.new }
-    ensures come { IsTrue result → HasCome draft.new 1 0 false }
+    ensures { Has hall.now pass.new number (Some ticket.now.serial) None [] }
 {
-    let _ = number;
-    tickets_keep_their_configurations::<Board<Fixed, MemoryFixtures>, Fixed>(ticket);
-    hall.provision(rt, draft, pass).is_ok()
-}
-
-// Starts the one app of the draft, in the same way.
-fn start<R: Wait>(
-    rt: &R,
-    hall: &Hall<Fixed, MemoryFixtures>,
-    pass: &mut Pass<Board<Fixed, MemoryFixtures>>,
-    ticket: &Ticket<Fixed>,
-    draft: &mut Draft<Fixed>,
-    number: u32,
-) -> bool
-    requires has { Has hall.now pass.old number (Some ticket.now.serial) (Some draft.old.left.number) [] }
-    requires ticket { IsTicketOf (view pass.old) ticket.now }
-    requires draft { IsDraftOf (view pass.old) draft.old }
-    requires made { HasCome draft.old 1 0 false }
-    ensures has { Has hall.now pass.new number (Some ticket.now.serial) (Some draft.new.left.number) [] }
-    ensures ticket { IsTicketOf (view pass.new) ticket.now }
-    ensures draft { IsDraftOf (view pass.new) draft.new }
-    ensures come { IsTrue result → HasCome draft.new 1 1 false }
-{
-    let _ = number;
-    tickets_keep_their_configurations::<Board<Fixed, MemoryFixtures>, Fixed>(ticket);
-    hall.start(rt, draft, pass).is_ok()
+    let Ok(mut draft) = draft(rt, alloc, hall, pass, ticket, true, number) else {
+        return Err(Refused::NoMemory);
+    };
+    let opened = open(rt, hall, pass, ticket, &mut draft, number);
+    give_up(rt, hall, pass, ticket, draft, number);
+    match opened {
+        Ok(()) => Ok(()),
+        Err(key) => Err(Refused::Closed(key)),
+    }
 }
 
 // Publishes the draft, all of which is there.
@@ -212,8 +192,8 @@ fn publish_whole<R: Wait>(
     requires has { Has hall.now pass.old number (Some ticket.now.serial) (Some draft.left.number) [] }
     requires ticket { IsTicketOf (view pass.old) ticket.now }
     requires draft { IsDraftOf (view pass.old) draft }
-    requires whole { HasCome draft 1 1 false }
-    requires change { Suits fixed_change (conf_in ticket.now.share) change Null }
+    requires whole { IsWholeDraft (held draft) }
+    requires change { Suits fixed_change (conf_in ticket.now.share) change (held draft).tree }
     ensures { Has hall.now pass.new number (Some ticket.now.serial) None [] }
 {
     match hall.publish(rt, draft, ticket, change, pass) {
@@ -269,12 +249,16 @@ fn give_up<R: Wait>(
     hall.abandon(rt, draft, pass);
 }
 
-// By which change a configuration may follow that of the ticket: by none after the halt.
-fn change_after(alloc: Global, ticket: &Ticket<Fixed>) -> Result<Option<Change>, NoMemory>
-    ensures { IfOk result (λ change. IfSome change (λ change. Suits fixed_change (conf_in ticket.now.share) change Null)) }
+// By which change the wide configuration may follow that of the ticket, or the plain one: by none after the halt.
+fn change_after(
+    alloc: Global,
+    ticket: &Ticket<Fixed>,
+    wide: bool,
+) -> Result<Option<Change>, NoMemory>
+    ensures { IfOk result (λ change. IfSome change (λ change. Suits fixed_change (conf_in ticket.now.share) change (Bool wide))) }
 {
     if ticket.compiled().running {
-        return Ok(Some(Change::Request(request(alloc)?)));
+        return Ok(Some(Change::Request(request(alloc, wide)?)));
     }
     if ticket.halted() {
         return Ok(None);
@@ -282,8 +266,10 @@ fn change_after(alloc: Global, ticket: &Ticket<Fixed>) -> Result<Option<Change>,
     Ok(Some(Change::First))
 }
 
-// A request for another configuration.
-fn request(alloc: Global) -> Result<Request, NoMemory> {
+// A request for the wide configuration, or for the plain one.
+fn request(alloc: Global, wide: bool) -> Result<Request, NoMemory>
+    ensures { IfOk result (λ request. request.close ≡ wide) }
+{
     Ok(Request {
         method: Text::from_str(alloc, "POST")?,
         target: Octets::from_slice(alloc, b"/load")?,
@@ -293,6 +279,6 @@ fn request(alloc: Global) -> Result<Request, NoMemory> {
         minor: 1,
         fields: List::new(alloc),
         body: Octets::new(alloc),
-        close: false,
+        close: wide,
     })
 }

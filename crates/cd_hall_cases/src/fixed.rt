@@ -1,15 +1,13 @@
-// A set of modules with one configuration, which each tree comes to.
-ghost use Rattle.std.specs.Prelude.{◌≡◌, ◌∷◌, [], IfOk, codes};
-ghost use Rattle.cd_outside.specs.declared.key.Key.TheVariants.{Listen, Writer};
-ghost use Rattle.cd_tree.specs.declared.tree.Tree.TheVariants.{Null};
-ghost use Rattle.cd_hall_cases.specs.Fixed.{fixed_plan};
+// A set of modules with two configurations, of which each tree comes to one.
+ghost use Rattle.std.specs.Prelude.{◌≡◌, IfOk};
+ghost use Rattle.cd_tree.specs.declared.tree.Tree.TheVariants.{Bool};
 
-use cd_legal::{Plan, PlanApp, PlanModule};
+use crate::plans::plan_for;
 use cd_module::LoadFault;
 use cd_module_set::{Line, Loaded, ModuleSet, Target};
-use cd_outside::{Address, Key};
-use cd_text::{List, NoMemory, Text};
-use cd_tree::{Path, Tree};
+use cd_outside::Address;
+use cd_text::{List, NoMemory};
+use cd_tree::Tree;
 use cd_wire::{Answer, Request};
 use std::alloc::Global;
 
@@ -28,7 +26,7 @@ impl ModuleSet for Fixed {
 
     type Compiled = Form;
 
-    ghost plan = { λ tree. Ok fixed_plan };
+    ghost plan = { λ tree. Ok (fixed_plan tree) };
 
     ghost acts = { λ tree. fixed_acts true };
 
@@ -41,7 +39,7 @@ impl ModuleSet for Fixed {
     }
 
     fn load(alloc: Global, tree: Tree) -> Result<Loaded<Fixed>, LoadFault> {
-        let Ok(plan) = plan(alloc) else {
+        let Ok(plan) = plan_for(alloc, &tree) else {
             return Err(LoadFault::NoMemory);
         };
         let compiled = Form { running: true };
@@ -80,45 +78,9 @@ impl ModuleSet for Fixed {
     }
 }
 
-// What the configuration consists of.
-fn plan(alloc: Global) -> Result<Plan, NoMemory>
-    ensures { IfOk result (λ plan. plan ≡ fixed_plan) }
+/// The wide configuration, of the tree true, or the plain one, of the tree false.
+pub fn load_fixed(alloc: Global, wide: bool) -> Result<Loaded<Fixed>, LoadFault>
+    ensures tree { IfOk result (λ loaded. loaded.tree ≡ Bool wide) }
 {
-    let mut modules = List::new(alloc);
-    modules.push(writer(alloc)?)?;
-    let mut apps = List::new(alloc);
-    apps.push(listener(alloc)?)?;
-    Ok(Plan { modules, apps })
-}
-
-fn writer(alloc: Global) -> Result<PlanModule, NoMemory>
-    ensures { IfOk result (λ made. made ≡ record { name = codes "writer"; at = record { parts = [] }; keys = Writer (codes "stdout") ∷ [] }) }
-{
-    let mut keys = List::new(alloc);
-    keys.push(Key::Writer(Text::from_str(alloc, "stdout")?))?;
-    Ok(PlanModule {
-        name: Text::from_str(alloc, "writer")?,
-        at: Path::root(alloc),
-        keys,
-    })
-}
-
-fn listener(alloc: Global) -> Result<PlanApp, NoMemory>
-    ensures { IfOk result (λ app. app ≡ record { name = codes "listener"; keys = Listen (record { host = codes "localhost"; port = 8080 }) ∷ [] }) }
-{
-    let host = Text::from_str(alloc, "localhost")?;
-    let mut keys = List::new(alloc);
-    keys.push(Key::Listen(Address { host, port: 8080 }))?;
-    Ok(PlanApp {
-        name: Text::from_str(alloc, "listener")?,
-        keys,
-    })
-}
-
-/// The configuration, of the tree null.
-pub fn load_fixed(alloc: Global) -> Result<Loaded<Fixed>, LoadFault>
-    ensures tree { IfOk result (λ loaded. loaded.tree ≡ Null) }
-    ensures plan { IfOk result (λ loaded. loaded.plan ≡ fixed_plan) }
-{
-    Fixed::load(alloc, Tree::Null)
+    Fixed::load(alloc, Tree::Bool(wide))
 }

@@ -1,8 +1,9 @@
-//! Requests, changes and the halt of a hall, under one configuration that never changes.
+//! Requests, changes and the halt of a hall, and the openings of its drafts, under two configurations that never change.
 //!
-//! The set of modules (fixed.rt) has one configuration. The calls of a pass are in requests.rt, changes.rt and halting.rt: each
-//! spends its ticket, draft and duty, also where memory runs out. scenes.rt has what happens in a hall of two passes, and
-//! meeting.rt makes the hall and ends it.
+//! The set of modules (fixed.rt) has two configurations (plans.rt). The calls of a pass are in requests.rt, changes.rt, opening.rt and
+//! halting.rt: each spends its ticket, draft and duty, also where memory runs out. scenes.rt has what happens in a hall of two
+//! passes, meeting.rt makes the hall and ends it, and telling.rt prints what it came to. In threads.rt each of two passes has a
+//! thread of its own.
 #![tactic(auto)]
 
 mod changes;
@@ -10,38 +11,47 @@ mod counts;
 mod fixed;
 mod halting;
 mod meeting;
+mod opening;
+mod plans;
 mod requests;
 mod scenes;
+mod telling;
+mod threads;
 
-use counts::Counts;
-use meeting::{Ended, meet};
+use meeting::meet;
 use scenes::Scene;
 use std::process::ExitCode;
+use telling::{tell, tell_threads};
+use threads::meet_in_threads;
+
+const SCENES: [Scene; 11] = [
+    Scene::InUse,
+    Scene::Superseded,
+    Scene::Halted,
+    Scene::Fails(0),
+    Scene::Fails(1),
+    Scene::Fails(2),
+    Scene::Fails(3),
+    Scene::Fails(4),
+    Scene::Opens,
+    Scene::GivenUp,
+    Scene::Overlaps,
+];
 
 fn main(rt: HostRuntime) -> ExitCode {
-    let mut status = ExitCode::SUCCESS;
-    for scene in [Scene::InUse, Scene::Superseded, Scene::Halted] {
-        let alloc = rt.alloc();
-        let Ok(ended) = meet(&rt, alloc, scene) else {
+    for scene in SCENES {
+        let Ok(ended) = meet(&rt, rt.alloc(), scene) else {
             return ExitCode::from(2);
         };
-        let Ended {
-            named,
-            published,
-            counts,
-        } = ended;
-        let Counts {
-            opened,
-            closed,
-            shut,
-        } = counts;
-        let name = scene.name();
-        if println!(rt;
-            "{name}: {named}; published {published}, opened {opened}, closed {closed}, shut {shut}"
-        ).is_err()
-        {
-            status = ExitCode::from(2);
+        if tell(&rt, scene, &ended).is_err() {
+            return ExitCode::from(2);
         }
     }
-    status
+    let Ok(met) = meet_in_threads(&rt, rt.alloc()) else {
+        return ExitCode::from(2);
+    };
+    if tell_threads(&rt, &met).is_err() {
+        return ExitCode::from(2);
+    }
+    ExitCode::SUCCESS
 }

@@ -2,13 +2,11 @@
 ghost use Rattle.std.specs.Prelude.{◌≡◌, [], None};
 
 use crate::changes::Refused;
-use crate::counts::{Counts, count};
 use crate::fixed::Fixed;
 use crate::halting::halt;
-use crate::scenes::{Scene, play};
+use crate::scenes::{Named, Scene, play};
 use cd_hall::{Closed, Hall, NoHall};
 use cd_outside::MemoryFixtures;
-use cd_text::List;
 use std::alloc::Global;
 use std::sync::Wait;
 
@@ -16,15 +14,18 @@ use std::sync::Wait;
 #[derive(Drop)]
 pub struct Ended {
     /// What the scene names.
-    pub named: u32,
+    pub named: Named,
     /// How many configurations were published.
     pub published: u32,
-    pub counts: Counts,
+    pub fixtures: MemoryFixtures,
 }
 
 /// Two passes of a hall play a scene, and the hall is halted and closed.
 pub fn meet<R: Wait>(rt: &R, alloc: Global, scene: Scene) -> Result<Ended, Refused> {
-    let Ok(fixtures) = MemoryFixtures::new(alloc, List::new(alloc)) else {
+    let Ok(failing) = scene.failing(alloc) else {
+        return Err(Refused::NoMemory);
+    };
+    let Ok(fixtures) = MemoryFixtures::new(alloc, failing) else {
         return Err(Refused::NoMemory);
     };
     meet_over(rt, alloc, fixtures, scene)
@@ -55,10 +56,9 @@ fn meet_over<R: Wait>(
         published,
     } = hall.close(passes);
     drop(last);
-    let counts = count(&fixtures);
     Ok(Ended {
         named: played?,
         published,
-        counts,
+        fixtures,
     })
 }

@@ -1,5 +1,5 @@
-use Rattle.cd_tree.proofs.Inside.{null_sound}
+use Rattle.cd_hall_cases.proofs.Truths.{truth_sound}
 use Rattle.cd_hall_cases.proofs.fixed.load_fixed.Goals as goal
 
 pub load-requires : goal.load-requires
-load-requires c = null_sound
+load-requires c = truth_sound c.args.wide

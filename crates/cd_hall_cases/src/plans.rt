@@ -1,0 +1,140 @@
+// What the two configurations consist of.
+ghost use Rattle.std.specs.Prelude.{◌≡◌, ◌≤◌, ◌∷◌, [], IfOk, codes, length};
+ghost use Rattle.cd_outside.specs.declared.key.Key.TheVariants.{Listen, Writer};
+ghost use Rattle.cd_tree.specs.declared.tree.Tree.{out-Tree};
+ghost use Rattle.cd_hall_cases.specs.Fixed.{fixed_plan, plain_plan, wide_plan, is_true_layer, localhost};
+
+use cd_legal::{Plan, PlanApp, PlanModule};
+use cd_outside::{Address, Key};
+use cd_text::{List, NoMemory, Text};
+use cd_tree::{Path, Tree};
+use std::alloc::Global;
+
+/// What the configuration of a tree consists of.
+pub fn plan_for(alloc: Global, tree: &Tree) -> Result<Plan, NoMemory>
+    ensures plan { IfOk result (λ plan. plan ≡ fixed_plan tree.now) }
+    ensures modules { IfOk result (λ plan. length plan.modules ≤ 3) }
+    ensures apps { IfOk result (λ plan. length plan.apps ≤ 2) }
+{
+    if is_true(tree) {
+        wide(alloc)
+    } else {
+        plain(alloc)
+    }
+}
+
+/// Whether the tree is true.
+pub fn is_true(tree: &Tree) -> bool
+    ensures { result ≡ is_true_layer (out-Tree tree.now) }
+{
+    match tree {
+        Tree::Bool(truth) => *truth,
+        _ => false,
+    }
+}
+
+fn plain(alloc: Global) -> Result<Plan, NoMemory>
+    ensures { IfOk result (λ plan. plan ≡ plain_plan) }
+{
+    let modules = one(alloc, writer(alloc)?)?;
+    let apps = one(alloc, listener(alloc)?)?;
+    Ok(Plan { modules, apps })
+}
+
+fn wide(alloc: Global) -> Result<Plan, NoMemory>
+    ensures { IfOk result (λ plan. plan ≡ wide_plan) }
+{
+    let modules = writers(alloc)?;
+    let apps = two(alloc, listener(alloc)?, listeners(alloc)?)?;
+    Ok(Plan { modules, apps })
+}
+
+fn writers(alloc: Global) -> Result<List<PlanModule>, NoMemory>
+    ensures { IfOk result (λ modules. modules ≡ wide_plan.modules) }
+{
+    let mut modules = two(alloc, writer(alloc)?, auditor(alloc)?)?;
+    modules.push(tracer(alloc)?)?;
+    Ok(modules)
+}
+
+fn writer(alloc: Global) -> Result<PlanModule, NoMemory>
+    ensures { IfOk result (λ made. made ≡ record { name = codes "writer"; at = record { parts = [] }; keys = Writer (codes "stdout") ∷ [] }) }
+{
+    let keys = one(alloc, writes(alloc, "stdout")?)?;
+    module(alloc, "writer", keys)
+}
+
+fn auditor(alloc: Global) -> Result<PlanModule, NoMemory>
+    ensures { IfOk result (λ made. made ≡ record { name = codes "auditor"; at = record { parts = [] }; keys = Writer (codes "stdout") ∷ Writer (codes "file:audit") ∷ [] }) }
+{
+    let keys = two(
+        alloc,
+        writes(alloc, "stdout")?,
+        writes(alloc, "file:audit")?,
+    )?;
+    module(alloc, "auditor", keys)
+}
+
+fn tracer(alloc: Global) -> Result<PlanModule, NoMemory>
+    ensures { IfOk result (λ made. made ≡ record { name = codes "tracer"; at = record { parts = [] }; keys = Writer (codes "file:audit") ∷ Writer (codes "file:trace") ∷ [] }) }
+{
+    let keys = two(
+        alloc,
+        writes(alloc, "file:audit")?,
+        writes(alloc, "file:trace")?,
+    )?;
+    module(alloc, "tracer", keys)
+}
+
+fn listener(alloc: Global) -> Result<PlanApp, NoMemory>
+    ensures { IfOk result (λ app. app ≡ record { name = codes "listener"; keys = Listen (localhost 8080) ∷ [] }) }
+{
+    let keys = one(alloc, listens(alloc, 8080)?)?;
+    let name = Text::from_str(alloc, "listener")?;
+    Ok(PlanApp { name, keys })
+}
+
+fn listeners(alloc: Global) -> Result<PlanApp, NoMemory>
+    ensures { IfOk result (λ app. app ≡ record { name = codes "listeners"; keys = Listen (localhost 8080) ∷ Listen (localhost 8443) ∷ [] }) }
+{
+    let keys = two(alloc, listens(alloc, 8080)?, listens(alloc, 8443)?)?;
+    let name = Text::from_str(alloc, "listeners")?;
+    Ok(PlanApp { name, keys })
+}
+
+fn module(alloc: Global, name: &str, keys: List<Key>) -> Result<PlanModule, NoMemory>
+    ensures { IfOk result (λ made. made ≡ record { name = name.now; at = record { parts = [] }; keys = keys }) }
+{
+    let name = Text::from_str(alloc, name)?;
+    let at = Path::root(alloc);
+    Ok(PlanModule { name, at, keys })
+}
+
+fn writes(alloc: Global, name: &str) -> Result<Key, NoMemory>
+    ensures { IfOk result (λ key. key ≡ Writer name.now) }
+{
+    Ok(Key::Writer(Text::from_str(alloc, name)?))
+}
+
+fn listens(alloc: Global, port: u16) -> Result<Key, NoMemory>
+    ensures { IfOk result (λ key. key ≡ Listen (localhost port)) }
+{
+    let host = Text::from_str(alloc, "localhost")?;
+    Ok(Key::Listen(Address { host, port }))
+}
+
+fn one<T: Drop>(alloc: Global, first: T) -> Result<List<T>, NoMemory>
+    ensures { IfOk result (λ list. list ≡ first ∷ []) }
+{
+    let mut list = List::new(alloc);
+    list.push(first)?;
+    Ok(list)
+}
+
+fn two<T: Drop>(alloc: Global, first: T, second: T) -> Result<List<T>, NoMemory>
+    ensures { IfOk result (λ list. list ≡ first ∷ second ∷ []) }
+{
+    let mut list = one(alloc, first)?;
+    list.push(second)?;
+    Ok(list)
+}

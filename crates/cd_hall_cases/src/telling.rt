@@ -1,0 +1,91 @@
+// What a hall came to is printed, as a line.
+use crate::counts::{Counts, count};
+use crate::meeting::Ended;
+use crate::scenes::{Named, Scene};
+use crate::threads::Met;
+use cd_outside::{FixtureCall, Key, MemoryFixtures};
+use std::io;
+
+/// Prints what the scene came to: what it names, how many configurations were published, and the calls of the fixtures.
+pub fn tell(rt: &impl Print, scene: Scene, ended: &Ended) -> io::Result<()> {
+    let published = ended.published;
+    tell_scene(rt, scene)?;
+    match &ended.named {
+        Named::Number(number) => {
+            print!(rt; ": {number}; published {published}, ")?;
+            tell_counts(rt, &ended.fixtures)
+        }
+        Named::Key(key) => {
+            tell_key(rt, "", key)?;
+            print!(rt; "; published {published};")?;
+            tell_calls(rt, &ended.fixtures)
+        }
+        Named::Nothing => {
+            print!(rt; "; published {published};")?;
+            tell_calls(rt, &ended.fixtures)
+        }
+    }
+}
+
+// What the scene shows.
+fn tell_scene(rt: &impl Print, scene: Scene) -> io::Result<()> {
+    match scene {
+        Scene::InUse => print!(rt; "still in use, serial"),
+        Scene::Superseded => print!(rt; "superseded by serial"),
+        Scene::Halted => print!(rt; "halted, duties at the last request"),
+        Scene::Fails(place) => print!(rt; "opening {place} fails, of"),
+        Scene::Opens => print!(rt; "no opening fails"),
+        Scene::GivenUp => print!(rt; "given up with all its keys"),
+        Scene::Overlaps => print!(rt; "plain, wide and plain"),
+    }
+}
+
+/// Prints what came of two threads.
+pub fn tell_threads(rt: &impl Print, met: &Met) -> io::Result<()> {
+    let published = met.published;
+    let wide = met.wide;
+    let left = met.counts.opened.wrapping_sub(met.counts.closed);
+    let shut = met.counts.shut;
+    println!(rt;
+        "in two threads; published {published}, the last one wide: {wide}, left open {left}, shut {shut}"
+    )
+}
+
+fn tell_counts(rt: &impl Print, fixtures: &MemoryFixtures) -> io::Result<()> {
+    let Counts {
+        opened,
+        closed,
+        shut,
+    } = count(fixtures);
+    println!(rt; "opened {opened}, closed {closed}, shut {shut}")
+}
+
+// All calls in their order: + is an opening, ! one that failed, and - a closing.
+fn tell_calls(rt: &impl Print, fixtures: &MemoryFixtures) -> io::Result<()> {
+    for call in fixtures.calls().as_slice() {
+        tell_call(rt, call)?;
+    }
+    println!(rt; "")
+}
+
+fn tell_call(rt: &impl Print, call: &FixtureCall) -> io::Result<()> {
+    match call {
+        FixtureCall::Opened(key) => tell_key(rt, "+", key),
+        FixtureCall::NotOpened(key) => tell_key(rt, "!", key),
+        FixtureCall::Closed(key) => tell_key(rt, "-", key),
+        FixtureCall::Shut => print!(rt; " shut"),
+    }
+}
+
+fn tell_key(rt: &impl Print, sign: &str, key: &Key) -> io::Result<()> {
+    match key {
+        Key::Listen(address) => {
+            let port = address.port;
+            print!(rt; " {sign}{port}")
+        }
+        Key::Writer(name) => {
+            let name = name.as_str();
+            print!(rt; " {sign}{name}")
+        }
+    }
+}
