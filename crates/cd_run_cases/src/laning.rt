@@ -3,7 +3,7 @@ ghost use Rattle.std.specs.Prelude.{◌≡◌, ◌≤◌, false, length, is_some
 
 use crate::conversation::failing;
 use crate::meeting::Meeting;
-use crate::resting::RestingLane;
+use crate::resting::{Places, RestingLane};
 use cd_outside::{Address, Call, MemoryLane};
 use cd_rows::{RowFault, bytes_at, bytes_of, find, has, number_of, only};
 use cd_text::{List, NoMemory, Octets, Text};
@@ -33,7 +33,7 @@ fn one_lane(alloc: Global, row: &Tree, size: usize) -> Result<List<RestingLane>,
     ensures idle { IfOk result (λ lanes. All (λ lane. is_some lane.lane.current ≡ false) lanes) }
 {
     let script = script_of(alloc, row, size)?;
-    let lane = idle_lane(alloc, script, failing(alloc, row, "lane")?, None);
+    let lane = idle_lane(alloc, script, failing(alloc, row, "lane")?, Places::none());
     let mut lanes = List::new(alloc);
     lanes.push(lane)?;
     Ok(lanes)
@@ -53,10 +53,15 @@ fn listed_lanes(
         return Err(RowFault::Malformed("no lane, or too many"));
     }
     let arrived = Arc::new(alloc, AtomicU64::new(0))?;
+    let answered = Arc::new(alloc, AtomicU64::new(0))?;
     let mut lanes = List::new(alloc);
     for tree in trees {
-        let meeting = meeting_of(row, &arrived, trees.len())?;
-        lanes.push(listed_lane(alloc, tree, size, meeting)?)?;
+        let places = Places {
+            coming: meeting_of(row, "meet", &arrived, trees.len())?,
+            waiting: meeting_of(tree, "waits", &answered, 1)?,
+            answering: Some(Meeting::at(Arc::try_clone(&answered)?, 1, 0)),
+        };
+        lanes.push(listed_lane(alloc, tree, size, places)?)?;
     }
     Ok(lanes)
 }
@@ -65,25 +70,20 @@ fn listed_lane(
     alloc: Global,
     tree: &Tree,
     size: usize,
-    meeting: Option<Meeting>,
+    places: Places,
 ) -> Result<RestingLane, RowFault>
     ensures { IfOk result (λ lane. is_some lane.lane.current ≡ false) }
 {
-    only(alloc, tree, "asked connections fails pieces")?;
+    only(alloc, tree, "asked connections fails pieces waits")?;
     let script = script_of(alloc, tree, size)?;
-    Ok(idle_lane(alloc, script, lane_failing(alloc, tree)?, meeting))
+    Ok(idle_lane(alloc, script, lane_failing(alloc, tree)?, places))
 }
 
 // A lane with this script, on which no connection is there.
-fn idle_lane(
-    alloc: Global,
-    script: List<Call>,
-    failing: List<u64>,
-    meeting: Option<Meeting>,
-) -> RestingLane
+fn idle_lane(alloc: Global, script: List<Call>, failing: List<u64>, places: Places) -> RestingLane
     ensures { is_some result.lane.current ≡ false }
 {
-    RestingLane::new(MemoryLane::new(alloc, script, failing), meeting)
+    RestingLane::new(MemoryLane::new(alloc, script, failing), places)
 }
 
 // The numbers of the calls of this lane that fail.
@@ -95,13 +95,14 @@ fn lane_failing(alloc: Global, lane: &Tree) -> Result<List<u64>, RowFault> {
     }
 }
 
-// Where the lanes wait for one another, if the row says so: within how many thousands of turns.
+// Where lanes wait for so many, if this member says so: within how many thousands of turns.
 fn meeting_of(
-    row: &Tree,
+    tree: &Tree,
+    member: &str,
     arrived: &Arc<AtomicU64, Global>,
     lanes: usize,
 ) -> Result<Option<Meeting>, RowFault> {
-    match find(row, "meet") {
+    match find(tree, member) {
         None => Ok(None),
         Some(number) => {
             let turns = u32::from(number_of(number)?) * 1_000;

@@ -4,8 +4,9 @@ use std::sync::Arc;
 use std::sync::atomic::{AtomicU64, Ordering};
 use std::thread;
 
-/// The first read of each lane waits here until all lanes were asked for a connection, within a number of turns. So it shows that
-/// the lanes are served side by side: were they served one after another, the first one would wait for its last turn.
+/// The first read of a lane waits here until as many lanes have arrived as it waits for, within a number of turns: until all lanes
+/// were asked for a connection, or until another lane was answered. So it shows that the lanes are served side by side: were they
+/// served one after another, the first one would wait for its last turn.
 #[derive(Drop)]
 pub struct Meeting {
     arrived: Arc<AtomicU64, Global>,
@@ -23,7 +24,7 @@ impl Meeting {
         }
     }
 
-    /// A lane was asked for a connection.
+    /// A lane has arrived.
     pub fn arrive(&self) {
         let _ = self.arrived.fetch_add(1, Ordering::SeqCst);
     }

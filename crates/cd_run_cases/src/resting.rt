@@ -4,29 +4,60 @@ use crate::meeting::Meeting;
 use cd_outside::{Accepted, Given, Key, Lane, MemoryLane, Taken};
 use cd_text::Text;
 
-/// A lane in memory that counts how often it may rest. Where the row says so, it waits for the other lanes before its first read.
+/// A lane in memory that counts how often it may rest. Where the row says so, it waits for other lanes before its first read.
 #[derive(Drop)]
 pub struct RestingLane {
     pub lane: MemoryLane,
     pub rests: u64,
-    /// Where it is to wait, until it has been asked for a connection, and then until its first read.
+    /// Where it is to wait for all lanes, until it has been asked for a connection.
     coming: Option<Meeting>,
+    /// Where it is to wait before its first read.
     waiting: Option<Meeting>,
+    /// Where lanes wait for an answer on this one, until it has given one.
+    answering: Option<Meeting>,
     /// Whether it has waited in vain.
     pub alone: bool,
 }
 
+/// Where a lane meets the others.
+#[derive(Drop)]
+pub struct Places {
+    /// It waits there for all lanes, before its first read.
+    pub coming: Option<Meeting>,
+    /// It waits there for an answer of another lane, before its first read.
+    pub waiting: Option<Meeting>,
+    /// Others wait there for its answer.
+    pub answering: Option<Meeting>,
+}
+
+impl Places {
+    /// It meets nobody.
+    pub fn none() -> Places {
+        Places {
+            coming: None,
+            waiting: None,
+            answering: None,
+        }
+    }
+}
+
 impl RestingLane {
     /// This lane, on which no connection is there.
-    pub fn new(lane: MemoryLane, meeting: Option<Meeting>) -> RestingLane
+    pub fn new(lane: MemoryLane, places: Places) -> RestingLane
         requires { lane.current ≡ None }
         ensures { is_some result.lane.current ≡ false }
     {
+        let Places {
+            coming,
+            waiting,
+            answering,
+        } = places;
         RestingLane {
             lane,
             rests: 0,
-            coming: meeting,
-            waiting: None,
+            coming,
+            waiting,
+            answering,
             alone: false,
         }
     }
@@ -59,7 +90,11 @@ impl Lane for RestingLane {
     }
 
     fn write(&mut self, piece: &[u8]) -> Given {
-        self.lane.write(piece)
+        let given = self.lane.write(piece);
+        if let Some(meeting) = self.answering.take() {
+            meeting.arrive();
+        }
+        given
     }
 
     fn log(&mut self, key: &Key, line: &Text) -> Given {
