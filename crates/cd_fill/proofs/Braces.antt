@@ -1,6 +1,7 @@
 -- The last `{` of a piece, found from its end.
-use Rattle.std.proofs.Common.{◌≡◌, ℕ, suc, ◌+◌, ◌-◌, ◌<◌, ◌≤◌, true, false, not, List, [], ◌∷◌, length, take, drop, get_or, refl, ap, arith}
+use Rattle.std.proofs.Common.{◌≡◌, ℕ, ◌+◌, ◌-◌, ◌<◌, ◌≤◌, true, false, not, List, length, take, drop, get_or, refl, ap, arith}
 use Rattle.std.specs.List.{list_any, before_last, after_last, suffix_len}
+use Rattle.std.proofs.lemmas.List.Recursion.{or_from_places}
 use Rattle.std.proofs.lemmas.Grind.{common_steps}
 use Rattle.std.proofs.lemmas.List.Sums.{suffix_len_is}
 use Rattle.std.proofs.lemmas.List.Folds.{list_any-from_Any}
@@ -24,8 +25,4 @@ pub some_open : (xs : List ℕ) (n : ℕ) → n < length xs → open_brace (get_
 some_open xs n within here = list_any-from_Any open_brace xs (n, get_or xs n 0, within, grind (arith, common_steps), here)
 
 pub none_open : (xs : List ℕ) → ((k : ℕ) → 0 ≤ k → k < length xs → open_brace (get_or xs k 0) ≡ false) → list_any open_brace xs ≡ false
-none_open [] none = refl
-none_open (x ∷ xs) none =
-    let first : open_brace x ≡ false = none 0 (omega arith) (omega arith) in
-    let others : list_any open_brace xs ≡ false = none_open xs (λ k _ h. none (suc k) (omega arith) (omega arith)) in
-    rw (first, others) refl
+none_open xs none = or_from_places (list_any open_brace) open_brace refl (λ _ _. refl) xs 0 (λ k within. none k (omega arith) within)

@@ -1,4 +1,6 @@
 pub mod Commas
+pub mod Meanings
+pub mod Characters
 pub mod Braces
 pub mod Pieces
 pub mod Closings

@@ -1,9 +1,9 @@
 -- A text is filled piece by piece.
-use Rattle.std.proofs.Common.{◌≡◌, ℕ, ◌<◌, not, List, [], ◌∷◌, ◌++◌, length, refl, ap, sym, ◌∙◌, arith, length-append, append_assoc, Result, Ok, Err, None}
-use Rattle.std.specs.List.{slice_split, before_first, after_first, position_or_len, position}
+use Rattle.std.proofs.Common.{◌≡◌, ℕ, ◌<◌, List, [], ◌∷◌, ◌++◌, length, refl, ap, sym, ◌∙◌, arith, length-append, append_assoc, Result, Ok, Err}
+use Rattle.std.specs.List.{slice_split, before_first, after_first, position_or_len}
 use Rattle.std.proofs.lemmas.Bool.Decides.{nat_tests}
 use Rattle.std.proofs.lemmas.List.Splits.{slice_split_first, slice_split_none, length-slice_split}
-use Rattle.std.proofs.lemmas.List.Sums.{fails_before_first, prefix_len-le-length}
+use Rattle.std.proofs.lemmas.List.Sums.{fails_before_first}
 use Rattle.cd_fill.specs.declared.form.Form.{Form}
 use Rattle.cd_fill.specs.declared.scene.Scene.{Scene}
 use Rattle.cd_text.specs.Gives.{Gives}
@@ -37,9 +37,6 @@ pub too_long : (form : Form) (x : Scene) (text out rest : List ℕ) → filled_a
 too_long form x text out rest is long =
     let more : MAX_FILLED_BYTES < length (filled_as form x text) = rw is (omega (arith, length-append out rest)) in
     grind (arith, nat_tests)
-
-pub no_position : (text : List ℕ) → position close_brace text ≡ None → position_or_len close_brace text ≡ length text
-no_position text none = grind (arith, nat_tests, prefix_len-le-length (λ b. not (close_brace b)) text)
 
 pub piece_written : (form : Form) (x : Scene) (whole out rest piece behind new : List ℕ) → whole ≡ out ++ filled_as form x rest →
     position_or_len close_brace rest < length rest → piece ≡ before_first close_brace rest → behind ≡ after_first close_brace rest →

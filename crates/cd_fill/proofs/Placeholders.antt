@@ -1,7 +1,8 @@
 -- A placeholder in the midst of a text.
-use Rattle.std.proofs.Common.{◌≡◌, ℕ, zero, suc, ◌+◌, ◌-◌, ◌<◌, ◌≤◌, Bool, true, false, ◌||◌, cond, List, [], ◌∷◌, ◌++◌, length, take, drop, get_or, refl, ap, sym, ◌∙◌, arith, length-append, append_assoc, append-nil}
+use Rattle.std.proofs.Common.{◌≡◌, ℕ, zero, suc, ◌+◌, ◌-◌, ◌<◌, ◌≤◌, Bool, true, false, cond, List, [], ◌∷◌, ◌++◌, length, take, drop, get_or, refl, ap, sym, ◌∙◌, arith, length-append, append_assoc, append-nil}
 use Rattle.std.specs.List.{All, slice_split, onto_first, list_any, before_last, after_last}
 use Rattle.std.proofs.Math.Seq.{get_or-append_seam, take-append_seam, drop-append-add}
+use Rattle.std.proofs.lemmas.Bool.{or_parts}
 use Rattle.std.proofs.lemmas.List.{get_or-append-add}
 use Rattle.std.proofs.lemmas.List.Splits.{slice_split_none, length-slice_split}
 use Rattle.cd_fill.specs.declared.form.Form.{Form}
@@ -9,14 +10,6 @@ use Rattle.cd_fill.specs.declared.scene.Scene.{Scene}
 use Rattle.cd_fill.specs.Filling.{open_brace, close_brace, is_brace, written, named, closed_piece, pieces_filled, filled_as}
 use Rattle.cd_fill.proofs.Braces.{last_before, last_after, some_open, none_open}
 use Rattle.cd_fill.proofs.Pieces.{pieces-more}
-
-not_left : (a b : Bool) → (a || b) ≡ false → a ≡ false
-not_left false b e = refl
-not_left true b e = e
-
-not_right : (a b : Bool) → (a || b) ≡ false → b ≡ false
-not_right false b e = e
-not_right true b e = cc
 
 -- a piece that ends in `{` and a name without braces
 opens_not : (name : List ℕ) → All (λ byte. is_brace byte ≡ false) name → (piece : List ℕ) (k : ℕ) → length piece + 1 ≤ k → k < length (piece ++ 123 ∷ name) → open_brace (get_or (piece ++ 123 ∷ name) k 0) ≡ false
@@ -26,7 +19,7 @@ opens_not name plain piece k low high =
     let within : j < length name = omega (arith, length-append piece (123 ∷ name)) in
     ap (λ i. open_brace (get_or (piece ++ 123 ∷ name) i 0)) place
     ∙ ap open_brace (get_or-append-add piece (123 ∷ name) (suc j) 0)
-    ∙ not_left (open_brace (get_or name j 0)) (close_brace (get_or name j 0)) (plain j 0 within)
+    ∙ (or_parts (open_brace (get_or name j 0)) (close_brace (get_or name j 0)) (plain j 0 within)).0
 
 closed_name : (form : Form) (x : Scene) (piece name : List ℕ) → All (λ byte. is_brace byte ≡ false) name → closed_piece form x (piece ++ 123 ∷ name) ≡ written form piece ++ named form x name
 unfolding closed_piece
@@ -100,7 +93,7 @@ cut_last (byte ∷ front) more plain =
 
 plain_name : (name : List ℕ) → All (λ byte. is_brace byte ≡ false) name → (k d : ℕ) → k < length (123 ∷ name) → close_brace (get_or (123 ∷ name) k d) ≡ false
 plain_name name plain zero d within = refl
-plain_name name plain (suc k) d within = not_right (open_brace (get_or name k d)) (close_brace (get_or name k d)) (plain k d (omega arith))
+plain_name name plain (suc k) d within = (or_parts (open_brace (get_or name k d)) (close_brace (get_or name k d)) (plain k d (omega arith))).1
 
 -- a placeholder is replaced, and what stands on its two sides is filled by itself
 pub placeholder_replaced : (form : Form) (x : Scene) (before name after : List ℕ) → All (λ byte. is_brace byte ≡ false) name → filled_as form x (before ++ 123 ∷ (name ++ 125 ∷ after)) ≡ filled_as form x before ++ named form x name ++ filled_as form x after
@@ -120,14 +113,14 @@ unclosed_stays form x text plain = ap (pieces_filled form x) (slice_split_none c
 closed_front : (form : Form) (x : Scene) (front : List ℕ) → All (λ byte. is_brace byte ≡ false) front → closed_piece form x front ≡ written form (front ++ 125 ∷ [])
 unfolding closed_piece
 closed_front form x front plain =
-    let none : list_any open_brace front ≡ false = none_open front (λ k _ within. not_left (open_brace (get_or front k 0)) (close_brace (get_or front k 0)) (plain k 0 within)) in
+    let none : list_any open_brace front ≡ false = none_open front (λ k _ within. (or_parts (open_brace (get_or front k 0)) (close_brace (get_or front k 0)) (plain k 0 within)).0) in
     rw none refl
 
 -- what a `}` ends that no `{` stands before is as written, and what stands behind it is filled by itself
 pub unopened_stays : (form : Form) (x : Scene) (front rest : List ℕ) → All (λ byte. is_brace byte ≡ false) front → filled_as form x (front ++ 125 ∷ rest) ≡ written form (front ++ 125 ∷ []) ++ filled_as form x rest
 unfolding filled_as
 unopened_stays form x front rest plain =
-    let closes : All (λ byte. close_brace byte ≡ false) front = λ k d within. not_right (open_brace (get_or front k d)) (close_brace (get_or front k d)) (plain k d within) in
+    let closes : All (λ byte. close_brace byte ≡ false) front = λ k d within. (or_parts (open_brace (get_or front k d)) (close_brace (get_or front k d)) (plain k d within)).1 in
     ap (pieces_filled form x) (cut_behind front rest)
     ∙ ap (λ pieces. pieces_filled form x (pieces ++ slice_split close_brace rest)) (slice_split_none close_brace front closes)
     ∙ pieces-more form x front (slice_split close_brace rest) (omega (arith, length-slice_split close_brace rest))

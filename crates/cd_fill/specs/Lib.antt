@@ -1,4 +1,5 @@
 pub mod Lent
 pub mod Scene
 pub mod Values
+pub mod Escapes
 pub mod Filling

@@ -1,10 +1,11 @@
 //! Texts with their placeholders replaced.
 ghost use Rattle.std.specs.Prelude.{◌≡◌, ◌++◌, ◌<◌, ◌+◌, MatchOption, OnOk, true, false, take, drop, length};
-ghost use Rattle.std.specs.List.{before_first, after_first, before_last, after_last, list_any, position, position_or_len};
+ghost use Rattle.std.specs.List.{before_last, after_last, list_any};
 ghost use Rattle.cd_text.specs.Gives.{Gives};
 ghost use Rattle.cd_fill.specs.declared.fault.FillFault.{FillFault};
-ghost use Rattle.cd_fill.specs.Filling.{open_brace, close_brace, closed_piece, bounded, fill_as, fill};
+ghost use Rattle.cd_fill.specs.Filling.{open_brace, closed_piece, bounded, fill_as, fill};
 
+use crate::parts::split_at_byte;
 use crate::treating::{put_named, put_written};
 use crate::{FillFault, Form, MAX_FILLED_BYTES, Scene};
 use cd_text::{NoMemory, Octets, Text};
@@ -48,25 +49,6 @@ fn put_closed(
     }
 }
 
-fn first_close(text: &[u8]) -> Option<usize>
-    ensures { result ≡ position close_brace text.now }
-{
-    text.iter().position(|byte| *byte == b'}')
-}
-
-// What stands before the first `}`, and behind it.
-fn split_at_close(text: &[u8]) -> Option<(&[u8], &[u8])>
-    ensures { MatchOption result (position_or_len close_brace text.now ≡ length text.now)
-        (λ parts. (position_or_len close_brace text.now < length text.now)
-        × (parts.0.now ≡ before_first close_brace text.now)
-        × (parts.1.now ≡ after_first close_brace text.now)) }
-{
-    match first_close(text) {
-        Some(end) => Some((&text[..end], &text[end + 1..])),
-        None => None,
-    }
-}
-
 fn bounded(filled: Octets) -> Result<Octets, FillFault>
     ensures { result ≡ bounded filled }
 {
@@ -88,7 +70,7 @@ pub fn fill_as(
     let mut out = Octets::new(alloc);
     let mut rest = text;
     // The length is looked at behind each placeholder, so what is too long does not grow on.
-    while let Some((piece, behind)) = split_at_close(rest) {
+    while let Some((piece, behind)) = split_at_byte(rest, b'}') {
         put_closed(alloc, &mut out, form, scene, piece)?;
         rest = behind;
         if out.len() > MAX_FILLED_BYTES {

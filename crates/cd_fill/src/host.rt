@@ -1,18 +1,14 @@
 ghost use Rattle.std.specs.Prelude.{◌≡◌, ◌==◌};
-ghost use Rattle.std.specs.List.{before_first, position};
+ghost use Rattle.std.specs.List.{before_first};
 ghost use Rattle.cd_fill.specs.Values.{bare_host};
 
-fn place_of(text: &[u8], byte: u8) -> Option<usize>
-    ensures { result ≡ position (λ other. other == byte) text.now }
-{
-    text.iter().position(|other| *other == byte)
-}
+use crate::parts::split_at_byte;
 
 fn before_byte(text: &[u8], byte: u8) -> &[u8]
     ensures { result.now ≡ before_first (λ other. other == byte) text.now }
 {
-    match place_of(text, byte) {
-        Some(end) => &text[..end],
+    match split_at_byte(text, byte) {
+        Some((before, _)) => before,
         None => text,
     }
 }

@@ -7,11 +7,12 @@
 //! `fill` replaces the placeholders of a text, as `{http.request.method}`, by what they stand for in a scene. `fill_as` does so
 //! for a path or a query too, where a `Form` says how what is written and what is filled in are treated. The table of names is
 //! in specs/Values.antt, and what a placeholder is in specs/Filling.antt. `placeholders_are_replaced` says what that means in
-//! each form, one law for each kind of text.
+//! each form, one law for each kind of text. `stands_for` compares a name or a value of a query without writing it out.
 //!
 //! Which texts are filled is left to the crates above, and so is what a handler changes.
 #![tactic(auto)]
 
+mod escapes;
 mod failure;
 mod fault;
 mod filling;
@@ -21,6 +22,7 @@ mod joining;
 mod laws;
 mod lent;
 mod limits;
+mod parts;
 mod query;
 mod request_line;
 mod scene;
@@ -29,6 +31,7 @@ mod uri;
 mod values;
 mod variable;
 
+pub use escapes::stands_for;
 pub use failure::Failure;
 pub use fault::FillFault;
 pub use filling::{fill, fill_as};
@@ -37,6 +40,7 @@ pub use host::host_without_port;
 pub use laws::{filled_bytes_are, placeholders_are_replaced};
 pub use lent::{Lent, copy_fields};
 pub use limits::MAX_FILLED_BYTES;
+pub use parts::{rest_from, split_at_byte};
 pub use request_line::RequestLine;
 pub use scene::Scene;
 pub use uri::{with_slash, with_slash_before};

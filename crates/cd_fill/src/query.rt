@@ -1,20 +1,12 @@
 //! The values of a query.
-ghost use Rattle.std.specs.Prelude.{◌≡◌, ◌++◌, ◌∷◌, IfOk, OnOk, if◌then◌else◌};
-ghost use Rattle.std.specs.Str.{bytes_eq};
+ghost use Rattle.std.specs.Prelude.{◌≡◌, ◌++◌, ◌∷◌, OnOk, if◌then◌else◌};
 ghost use Rattle.cd_fill.specs.Values.{with_commas, decoded, query_values};
 
+use crate::escapes::stands_for;
 use crate::joining::put_next;
 use cd_text::{NoMemory, Octets};
 use form_urlencoded::{decode, raw_pairs};
 use std::alloc::Global;
-
-// Whether a name, once it is decoded, is the key.
-fn is_key(alloc: Global, name: &[u8], key: &[u8]) -> Result<bool, NoMemory>
-    ensures { IfOk result (λ is. is ≡ bytes_eq (decoded name.now) key.now) }
-{
-    let name = decode(alloc, name)?;
-    Ok(name.as_bytes() == key)
-}
 
 fn put_decoded(
     alloc: Global,
@@ -41,7 +33,7 @@ pub(crate) fn put_query(
 {
     let mut is_first = true;
     for (name, value) in raw_pairs(query) {
-        if is_key(alloc, name, key)? {
+        if stands_for(name, key) {
             put_decoded(alloc, out, is_first, value)?;
             is_first = false;
         }

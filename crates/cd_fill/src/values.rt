@@ -1,9 +1,9 @@
 //! What the names of placeholders stand for.
-ghost use Rattle.std.specs.Prelude.{◌≡◌, ◌++◌, [], true, length, drop, IfOk, OnOk, IfSome, Some, is_some, unwrap_or, decimal};
+ghost use Rattle.std.specs.Prelude.{◌≡◌, ◌++◌, [], true, false, MatchOption, IfOk, OnOk, IfSome, Some, is_some, unwrap_or, decimal};
 ghost use Rattle.std.specs.Option.{option_copied};
 ghost use Rattle.std.specs.Str.{bytes_eq};
 ghost use Rattle.cd_wire.specs.Render.{phrase_of, reason_of};
-ghost use Rattle.cd_fill.specs.Values.{begins, proto, kept_value, request_value, error_value, error_named, value};
+ghost use Rattle.cd_fill.specs.Values.{begins, behind, proto, kept_value, request_value, error_value, error_named, value};
 
 use crate::host::host_without_port;
 use crate::joining::put_header;
@@ -20,18 +20,12 @@ fn is(name: &[u8], word: &str) -> bool
     name == word.as_bytes()
 }
 
-fn begins(name: &[u8], word: &str) -> bool
-    ensures { result ≡ begins name.now word.now }
+// What follows the word, where the name begins with it.
+fn after<'a>(name: &'a [u8], word: &str) -> Option<&'a [u8]>
+    ensures { MatchOption result (begins name.now word.now ≡ false)
+        (λ rest. (begins name.now word.now ≡ true) × (rest.now ≡ behind name.now word.now)) }
 {
-    name.starts_with(word.as_bytes())
-}
-
-// What stands behind its beginning.
-fn behind<'a>(name: &'a [u8], word: &str) -> &'a [u8]
-    requires { begins name.now word.now ≡ true }
-    ensures { result.now ≡ drop (length word.now) name.now }
-{
-    &name[word.len()..]
+    name.strip_prefix(word.as_bytes())
 }
 
 fn proto(minor: u8) -> &'static [u8]
@@ -85,17 +79,12 @@ fn put_request_value(
     ensures known { IfOk result (λ known. known ≡ is_some (request_value scene.now name.now)) }
     ensures text { OnOk result (out.new ≡ out.old ++ unwrap_or (request_value scene.now name.now) []) }
 {
-    if begins(name, "uri.query.") {
-        put_query(
-            alloc,
-            out,
-            behind(name, "uri.query."),
-            scene.current.query_or_empty(),
-        )?;
+    if let Some(key) = after(name, "uri.query.") {
+        put_query(alloc, out, key, scene.current.query_or_empty())?;
         return Ok(true);
     }
-    if begins(name, "header.") {
-        put_header(out, behind(name, "header."), scene.fields.as_slice())?;
+    if let Some(field) = after(name, "header.") {
+        put_header(out, field, scene.fields.as_slice())?;
         return Ok(true);
     }
     match kept_value(scene, name) {
@@ -183,13 +172,13 @@ pub(crate) fn put_value(
     ensures known { IfOk result (λ known. known ≡ is_some (value scene.now name.now)) }
     ensures text { OnOk result (out.new ≡ out.old ++ unwrap_or (value scene.now name.now) []) }
 {
-    if begins(name, "http.request.") {
-        put_request_value(alloc, out, scene, behind(name, "http.request."))
-    } else if begins(name, "http.vars.") {
-        out.append(value_of_variable(scene.variables.as_slice(), behind(name, "http.vars.")))?;
+    if let Some(name) = after(name, "http.request.") {
+        put_request_value(alloc, out, scene, name)
+    } else if let Some(name) = after(name, "http.vars.") {
+        out.append(value_of_variable(scene.variables.as_slice(), name))?;
         Ok(true)
-    } else if begins(name, "http.error.") {
-        put_error_named(alloc, out, &scene.error, behind(name, "http.error."))
+    } else if let Some(name) = after(name, "http.error.") {
+        put_error_named(alloc, out, &scene.error, name)
     } else {
         Ok(false)
     }
@@ -199,7 +188,7 @@ pub(crate) fn put_value(
 fn lent_request_value<'a>(scene: &'a Scene<'_>, name: &[u8]) -> Option<&'a [u8]>
     ensures { IfSome result (λ lent. request_value scene.now name.now ≡ Some lent.now) }
 {
-    if begins(name, "uri.query.") || begins(name, "header.") {
+    if after(name, "uri.query.").is_some() || after(name, "header.").is_some() {
         return None;
     }
     kept_value(scene, name)
@@ -210,10 +199,10 @@ fn lent_request_value<'a>(scene: &'a Scene<'_>, name: &[u8]) -> Option<&'a [u8]>
 pub(crate) fn lent_value<'a>(scene: &'a Scene<'_>, name: &[u8]) -> Option<&'a [u8]>
     ensures { IfSome result (λ lent. value scene.now name.now ≡ Some lent.now) }
 {
-    if begins(name, "http.request.") {
-        lent_request_value(scene, behind(name, "http.request."))
-    } else if begins(name, "http.vars.") {
-        Some(value_of_variable(scene.variables.as_slice(), behind(name, "http.vars.")))
+    if let Some(name) = after(name, "http.request.") {
+        lent_request_value(scene, name)
+    } else if let Some(name) = after(name, "http.vars.") {
+        Some(value_of_variable(scene.variables.as_slice(), name))
     } else {
         None
     }

@@ -1,14 +1,12 @@
 -- A host is compared with a pattern label by label.
-use Rattle.std.proofs.Common.{◌≡◌, ℕ, ◌<◌, ◌&&◌, Bool, true, false, not, List, [], ◌∷◌, length, refl, ap, sym, ◌∙◌, arith, None}
+use Rattle.std.proofs.Common.{◌≡◌, ℕ, ◌<◌, ◌&&◌, true, false, List, [], ◌∷◌, length, refl, ap, sym, ◌∙◌, arith}
 use Rattle.std.specs.Cmp.Lexicographic.{pointwise}
-use Rattle.std.specs.List.{before_first, after_first, position_or_len, position}
-use Rattle.std.proofs.lemmas.Bool.Decides.{nat_tests}
+use Rattle.std.specs.List.{before_first, after_first, position_or_len}
+use Rattle.std.proofs.lemmas.Bool.{and_right}
+use Rattle.std.proofs.Math.Bool.{and-true}
 use Rattle.std.proofs.lemmas.List.Splits.{slice_split_first, slice_split_none, length-slice_split}
-use Rattle.std.proofs.lemmas.List.Sums.{fails_before_first, prefix_len-le-length}
+use Rattle.std.proofs.lemmas.List.Sums.{fails_before_first}
 use Rattle.cd_match.specs.Host.{is_dot, labels, label_fits, host_fits}
-
-pub no_dot : (text : List ℕ) → position is_dot text ≡ None → position_or_len is_dot text ≡ length text
-no_dot text none = grind (arith, nat_tests, prefix_len-le-length (λ b. not (is_dot b)) text)
 
 one_label : (text : List ℕ) → position_or_len is_dot text ≡ length text → labels text ≡ text ∷ []
 one_label text none = slice_split_none is_dot text (λ k d h. fails_before_first is_dot text k d (omega arith))
@@ -22,20 +20,12 @@ pub more_labels : (pattern host : List ℕ) → position_or_len is_dot pattern <
 unfolding host_fits
 more_labels pattern host p h = ap (λ ls. pointwise label_fits ls (labels host)) (first_label pattern p) ∙ ap (λ ls. pointwise label_fits (before_first is_dot pattern ∷ labels (after_first is_dot pattern)) ls) (first_label host h)
 
-and_true : (b : Bool) → (b && true) ≡ b
-and_true true = refl
-and_true false = refl
-
-and_false : (b : Bool) → (b && false) ≡ false
-and_false true = refl
-and_false false = refl
-
 -- one label each
 pub last_labels : (pattern host : List ℕ) → position_or_len is_dot pattern ≡ length pattern → position_or_len is_dot host ≡ length host
     → host_fits pattern host ≡ label_fits pattern host
 unfolding host_fits
 last_labels pattern host p h =
-    ap (λ ls. pointwise label_fits ls (labels host)) (one_label pattern p) ∙ ap (λ ls. pointwise label_fits (pattern ∷ []) ls) (one_label host h) ∙ and_true (label_fits pattern host)
+    ap (λ ls. pointwise label_fits ls (labels host)) (one_label pattern p) ∙ ap (λ ls. pointwise label_fits (pattern ∷ []) ls) (one_label host h) ∙ and-true (label_fits pattern host)
 
 -- labels that are left on one side alone
 none_left : (ls : List (List ℕ)) → 0 < length ls → pointwise label_fits [] ls ≡ false
@@ -53,13 +43,13 @@ pub longer_host : (pattern host : List ℕ) → position_or_len is_dot pattern �
 unfolding host_fits
 longer_host pattern host p h =
     ap (λ ls. pointwise label_fits ls (labels host)) (one_label pattern p) ∙ ap (λ ls. pointwise label_fits (pattern ∷ []) ls) (first_label host h)
-    ∙ ap (λ b. label_fits pattern (before_first is_dot host) && b) (none_left (labels (after_first is_dot host)) (some_label (after_first is_dot host))) ∙ and_false (label_fits pattern (before_first is_dot host))
+    ∙ and_right (label_fits pattern (before_first is_dot host)) _ (none_left (labels (after_first is_dot host)) (some_label (after_first is_dot host)))
 
 pub longer_pattern : (pattern host : List ℕ) → position_or_len is_dot pattern < length pattern → position_or_len is_dot host ≡ length host → host_fits pattern host ≡ false
 unfolding host_fits
 longer_pattern pattern host p h =
     ap (λ ls. pointwise label_fits ls (labels host)) (first_label pattern p) ∙ ap (λ ls. pointwise label_fits (before_first is_dot pattern ∷ labels (after_first is_dot pattern)) ls) (one_label host h)
-    ∙ ap (λ b. label_fits (before_first is_dot pattern) host && b) (none_right (labels (after_first is_dot pattern)) (some_label (after_first is_dot pattern))) ∙ and_false (label_fits (before_first is_dot pattern) host)
+    ∙ and_right (label_fits (before_first is_dot pattern) host) _ (none_right (labels (after_first is_dot pattern)) (some_label (after_first is_dot pattern)))
 
 -- the first labels decide, or what follows does
 pub step_fails : (pattern host wanted others label behind : List ℕ) → position_or_len is_dot pattern < length pattern → wanted ≡ before_first is_dot pattern → others ≡ after_first is_dot pattern

@@ -1,4 +1,3 @@
-pub mod Escapes
 pub mod Host
 pub mod Path
 pub mod Method

@@ -75,12 +75,7 @@ fn has_field(name: &[u8], fields: &[Field]) -> bool
 fn fits_one(patterns: &[Pattern], value: &[u8]) -> bool
     ensures { result ≡ list_any (λ pattern. fits pattern value.now) patterns.now }
 {
-    for pattern in patterns {
-        if pattern.fits(value) {
-            return true;
-        }
-    }
-    false
+    patterns.iter().any(|pattern| pattern.fits(value))
 }
 
 // Whether a field of the name has a value that fits one of the patterns.
@@ -119,11 +114,9 @@ impl HeaderMatcher {
     pub fn holds(&self, scene: &Scene<'_>) -> bool
         ensures { result ≡ header_holds self.now scene.now }
     {
-        for test in self.tests.as_slice() {
-            if !field_passes(scene, test) {
-                return false;
-            }
-        }
-        true
+        self.tests
+            .as_slice()
+            .iter()
+            .all(|test| field_passes(scene, test))
     }
 }

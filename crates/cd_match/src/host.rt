@@ -1,9 +1,9 @@
 //! The matcher `host`.
-ghost use Rattle.std.specs.Prelude.{◌≡◌, ◌<◌, MatchOption, length};
-ghost use Rattle.std.specs.List.{before_first, after_first, position, position_or_len};
+ghost use Rattle.std.specs.Prelude.{◌≡◌, length};
+ghost use Rattle.std.specs.List.{position_or_len};
 ghost use Rattle.cd_match.specs.Host.{host_matcher, is_dot, label_fits, host_fits, host_holds};
 
-use cd_fill::{Scene, host_without_port};
+use cd_fill::{Scene, host_without_port, split_at_byte};
 use cd_module::{LoadFault, Settings};
 use cd_text::{List, Text};
 use cd_tree::{Path, Tree};
@@ -32,31 +32,12 @@ fn label_fits(wanted: &[u8], label: &[u8]) -> bool
     wanted == b"*".as_slice() || wanted.eq_ignore_ascii_case(label)
 }
 
-fn first_dot(text: &[u8]) -> Option<usize>
-    ensures { result ≡ position is_dot text.now }
-{
-    text.iter().position(|byte| *byte == b'.')
-}
-
-// The first label and what stands behind its dot.
-fn split_at_dot(text: &[u8]) -> Option<(&[u8], &[u8])>
-    ensures { MatchOption result (position_or_len is_dot text.now ≡ length text.now)
-        (λ parts. (position_or_len is_dot text.now < length text.now)
-        × (parts.0.now ≡ before_first is_dot text.now)
-        × (parts.1.now ≡ after_first is_dot text.now)) }
-{
-    match first_dot(text) {
-        Some(end) => Some((&text[..end], &text[end + 1..])),
-        None => None,
-    }
-}
-
 // Whether the host is one label, which fits a pattern of one label.
 fn last_fits(pattern: &[u8], host: &[u8]) -> bool
     requires { position_or_len is_dot pattern.now ≡ length pattern.now }
     ensures { result ≡ host_fits pattern.now host.now }
 {
-    match split_at_dot(host) {
+    match split_at_byte(host, b'.') {
         Some(_) => false,
         None => label_fits(pattern, host),
     }
@@ -68,8 +49,8 @@ fn host_fits(pattern: &[u8], host: &[u8]) -> bool
 {
     let mut wanted = pattern;
     let mut left = host;
-    while let Some((label_wanted, others)) = split_at_dot(wanted) {
-        let Some((label, behind)) = split_at_dot(left) else {
+    while let Some((label_wanted, others)) = split_at_byte(wanted, b'.') {
+        let Some((label, behind)) = split_at_byte(left, b'.') else {
             return false;
         };
         if !label_fits(label_wanted, label) {
@@ -87,11 +68,9 @@ impl HostMatcher {
         ensures { result ≡ host_holds self.now scene.now }
     {
         let host = host_without_port(scene.host.as_slice());
-        for pattern in self.patterns.as_slice() {
-            if host_fits(pattern.as_str().as_bytes(), host) {
-                return true;
-            }
-        }
-        false
+        self.patterns
+            .as_slice()
+            .iter()
+            .any(|pattern| host_fits(pattern.as_str().as_bytes(), host))
     }
 }

@@ -11,12 +11,12 @@
 //! When routes are reached, and what is done then, is left to the crates above.
 #![tactic(auto)]
 
-mod escapes;
 mod header;
 mod holding;
 mod host;
 mod kind;
 mod laws;
+mod listed;
 mod matcher;
 mod method;
 mod not;
@@ -30,6 +30,7 @@ pub use header::{FieldTest, HeaderMatcher};
 pub use host::HostMatcher;
 pub use kind::MatcherKind;
 pub use laws::{matchers_have_their_names, sets_are_read_alike};
+pub use listed::is_listed;
 pub use matcher::{Matcher, MatcherSet};
 pub use method::MethodMatcher;
 pub use not::NotMatcher;

@@ -2,6 +2,7 @@
 ghost use Rattle.std.specs.Prelude.{◌≡◌};
 ghost use Rattle.cd_match.specs.Method.{method_matcher, method_holds};
 
+use crate::is_listed;
 use cd_fill::Scene;
 use cd_module::{LoadFault, Settings};
 use cd_text::{List, Text};
@@ -30,12 +31,6 @@ impl MethodMatcher {
     pub fn holds(&self, scene: &Scene<'_>) -> bool
         ensures { result ≡ method_holds self.now scene.now }
     {
-        let method = &scene.current.method;
-        for listed in self.methods.as_slice() {
-            if method.equals(listed.as_str().as_bytes()) {
-                return true;
-            }
-        }
-        false
+        is_listed(self.methods.as_slice(), scene.current.method.as_slice())
     }
 }

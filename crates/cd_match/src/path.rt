@@ -56,11 +56,9 @@ impl PathMatcher {
         ensures { result ≡ path_holds self.now scene.now }
     {
         let path = scene.current.path.as_slice();
-        for wanted in self.patterns.as_slice() {
-            if wanted.pattern.fits_in_any_case(path) {
-                return true;
-            }
-        }
-        false
+        self.patterns
+            .as_slice()
+            .iter()
+            .any(|wanted| wanted.pattern.fits_in_any_case(path))
     }
 }

@@ -5,8 +5,7 @@ ghost use Rattle.form_urlencoded.specs.Form.{raw_pairs};
 ghost use Rattle.cd_fill.specs.Values.{decoded};
 ghost use Rattle.cd_match.specs.Query.{key_test, query_matcher, is_wanted, key_passes, query_holds};
 
-use crate::escapes::stands_for;
-use cd_fill::Scene;
+use cd_fill::{Scene, stands_for};
 use cd_module::{LoadFault, Named, Settings, object_by_name};
 use cd_text::{List, Text};
 use cd_tree::{Path, Tree};
@@ -60,12 +59,7 @@ impl Settings for QueryMatcher {
 fn is_wanted(listed: &[Text], raw: &[u8]) -> bool
     ensures { result ≡ is_wanted listed.now (decoded raw.now) }
 {
-    for one in listed {
-        if one.equals("*") || stands_for(raw, one.as_str()) {
-            return true;
-        }
-    }
-    false
+    listed.iter().any(|one| one.equals("*") || stands_for(raw, one.as_str().as_bytes()))
 }
 
 // Whether the key has a value that passes.
@@ -74,7 +68,9 @@ fn key_passes(query: &[u8], test: &KeyTest) -> bool
     ensures { result ≡ key_passes query.now test.now }
 {
     for (name, value) in raw_pairs(query) {
-        if stands_for(name, test.key.as_str()) && is_wanted(test.values.as_slice(), value) {
+        if stands_for(name, test.key.as_str().as_bytes())
+            && is_wanted(test.values.as_slice(), value)
+        {
             return true;
         }
     }
@@ -84,12 +80,7 @@ fn key_passes(query: &[u8], test: &KeyTest) -> bool
 fn all_pass(query: &[u8], tests: &[KeyTest]) -> bool
     ensures { result ≡ list_all (key_passes query.now) tests.now }
 {
-    for test in tests {
-        if !key_passes(query, test) {
-            return false;
-        }
-    }
-    true
+    tests.iter().all(|test| key_passes(query, test))
 }
 
 fn has_no_pairs(query: &[u8]) -> bool

@@ -1,10 +1,9 @@
 //! The matcher `vars`.
 ghost use Rattle.std.specs.Prelude.{◌≡◌, IfOk};
-ghost use Rattle.std.specs.List.{list_any};
-ghost use Rattle.std.specs.Str.{bytes_eq};
 ghost use Rattle.cd_fill.specs.Filling.{fill};
 ghost use Rattle.cd_match.specs.Vars.{variable_test, vars_matcher, is_among, value_of_key, variable_passes, vars_hold};
 
+use crate::is_listed;
 use cd_fill::{FillFault, Scene, fill, value_of_variable};
 use cd_module::{LoadFault, Named, Settings, object_by_name};
 use cd_text::{List, NoMemory, Text};
@@ -52,17 +51,6 @@ impl Settings for VarsMatcher {
         let tests = object_by_name::<VariableTest>(alloc, tree, at)?;
         Ok(VarsMatcher { tests })
     }
-}
-
-fn is_listed(values: &[Text], value: &[u8]) -> bool
-    ensures { result ≡ list_any (bytes_eq value.now) values.now }
-{
-    for listed in values {
-        if value == listed.as_str().as_bytes() {
-            return true;
-        }
-    }
-    false
 }
 
 // Whether the filled key is listed.

@@ -12,13 +12,11 @@ use Rattle.cd_routes.specs.declared.route.Route.{Route}
 use Rattle.cd_routes.specs.declared.route.Step.{Step}
 use Rattle.cd_routes.specs.declared.work.Work.{Work}
 use Rattle.cd_routes.specs.declared.work.Work.TheVariants.{Routes, Steps}
-use Rattle.cd_handlers.specs.declared.handler.Handler.{Handler}
 use Rattle.cd_handlers.specs.declared.changes.FilledChanges.{FilledChanges}
 use Rattle.cd_handlers.specs.declared.outcome.Effect.TheVariants as effect
-use Rattle.cd_handlers.specs.Effect as handlers
-use Rattle.cd_handlers.specs.Effect.{deferred, has_gone_on}
+use Rattle.cd_handlers.specs.Effect.{has_gone_on}
 use Rattle.cd_handlers.specs.declared.outcome.Effect.{Effect}
-use Rattle.cd_routes.specs.Running.{Rest, in_order, handled, after, with_changes, nothing_left, caught, with_error, run_route, run_routes, run_step, run_steps}
+use Rattle.cd_routes.specs.Running.{Rest, in_order, after, with_changes, nothing_left, caught, with_error, run_route, run_routes, run_step, run_steps}
 use Rattle.cd_routes.specs.Work.{all_changes, weight_left, total, errors_weight, route_weight, step_weight, done, weight, item_done, item_weight}
 use Rattle.cd_routes.proofs.Equations.{all_changes_push, done_push, weight_push, routes_more, steps_more}
 

@@ -1,6 +1,4 @@
 ghost use Rattle.std.specs.Prelude.{◌≡◌, ◌+◌, ◌≤◌, ◌&&◌, [], ◌∷◌, ◌++◌, true, not, IfOk, List, map, option_map, Option, if◌then◌else◌};
-ghost use Rattle.std.specs.List.{list_any};
-ghost use Rattle.std.specs.Str.{bytes_eq};
 ghost use Rattle.cd_match.specs.Holds.{holds};
 ghost use Rattle.cd_routes.specs.declared.route.Route.{Route as RouteSettings, out-Route};
 ghost use Rattle.cd_routes.specs.declared.route.Subroute.{out-Subroute};
@@ -10,9 +8,10 @@ ghost use Rattle.cd_routes.specs.Work.{done, all_changes, weight, route_weight, 
 
 use crate::outcome::{Outcome, bare_answer, let_go, response_of};
 use crate::route::{Route, Step, Subroute};
-use crate::work::{Progress, Work, behind, first_route, first_step, take_next};
+use crate::work::{Progress, Work, behind, first_of, take_next};
 use cd_fill::{Failure, Scene};
 use cd_handlers::{Deed, Effect, FilledChanges, Handler, changed, deed, usual_status};
+use cd_match::is_listed;
 use cd_text::{List, NoMemory, Octets, Text};
 use std::alloc::Global;
 
@@ -24,23 +23,12 @@ fn nothing_left<'r>(alloc: Global, scene: Scene<'r>) -> Outcome<'r>
     Outcome::Answered(bare_answer(alloc, status, response_of(scene)))
 }
 
-fn is_listed(texts: &List<Text>, text: &Text) -> bool
-    ensures { result ≡ list_any (bytes_eq text.now) texts.now }
-{
-    for listed in texts.as_slice() {
-        if text.equals(listed.as_str()) {
-            return true;
-        }
-    }
-    false
-}
-
 fn is_taken(group: &Option<Text>, scene: &Scene<'_>) -> bool
     ensures { result ≡ is_taken group.now scene.now }
 {
     match group {
         None => false,
-        Some(group) => is_listed(&scene.groups, group),
+        Some(group) => is_listed(scene.groups.as_slice(), group.as_str().as_bytes()),
     }
 }
 
@@ -134,7 +122,7 @@ fn from_first_taken<'a>(
         → true ≡ (holds (out-Route r).matching scene.now && not (is_taken (out-Route r).group scene.now))) }
 {
     let mut left = routes;
-    while let Some((route, others)) = first_route(left) {
+    while let Some((route, others)) = first_of(left) {
         if enters(alloc, route, scene)? {
             return Ok(left);
         }
@@ -178,7 +166,7 @@ fn on_routes<'a, 'r>(
     let Ok(left) = from_first_taken(alloc, routes, &scene) else {
         return Err(let_go(scene));
     };
-    match first_route(left) {
+    match first_of(left) {
         None => Ok(Progress::Goes(rest, scene)),
         Some((route, others)) => {
             let mut rest = rest;
@@ -236,7 +224,7 @@ fn on_steps<'a, 'r>(
     ensures meaning { IfOk result (λ progress. told progress ≡ run_steps steps.now (done rest.entry.items) scene.entry) }
     ensures less { IfOk result (λ progress. weight_left progress ≤ weight rest.entry.items + total (map step_weight steps.now)) }
 {
-    match first_step(steps) {
+    match first_of(steps) {
         None => Ok(Progress::Goes(rest, scene)),
         Some((step, others)) => {
             let mut rest = rest;

@@ -36,23 +36,13 @@ pub fn behind<'a>(terminal: bool, rest: Vec<Work<'a>>) -> Vec<Work<'a>>
     rest
 }
 
-/// The first route and the others.
-pub fn first_route(routes: &[Route]) -> Option<(&Route, &[Route])>
-    ensures { MatchOption result (routes.now ≡ []) (λ parts. routes.now ≡ parts.0.now ∷ parts.1.now) }
+/// The first of some routes or steps, and the others.
+pub fn first_of<T>(items: &[T]) -> Option<(&T, &[T])>
+    ensures { MatchOption result (items.now ≡ []) (λ parts. items.now ≡ parts.0.now ∷ parts.1.now) }
 {
-    match routes {
+    match items {
         [] => None,
-        [route, others @ ..] => Some((route, others)),
-    }
-}
-
-/// The first step and the others.
-pub fn first_step(steps: &[Step]) -> Option<(&Step, &[Step])>
-    ensures { MatchOption result (steps.now ≡ []) (λ parts. steps.now ≡ parts.0.now ∷ parts.1.now) }
-{
-    match steps {
-        [] => None,
-        [step, others @ ..] => Some((step, others)),
+        [first, others @ ..] => Some((first, others)),
     }
 }
 

@@ -1,15 +1,14 @@
 -- What bytes of a query stand for, byte by byte, and whether that is a text.
-use Rattle.std.proofs.Common.{◌≡◌, ℕ, ◌<◌, ◌+◌, ◌*◌, ◌==◌, ◌&&◌, Bool, true, false, List, [], ◌∷◌, ◌++◌, length, drop, refl, ap, sym, ◌∙◌, arith, encode_utf8, length-append}
+use Rattle.std.proofs.Common.{◌≡◌, ℕ, ◌<◌, ◌+◌, ◌*◌, ◌==◌, ◌&&◌, Bool, true, false, List, [], ◌∷◌, ◌++◌, length, drop, refl, ap, sym, ◌∙◌, arith, encode_utf8}
 use Rattle.std.specs.Prelude.{if◌then◌else◌, nat_eq, nat_le, suc, slice_index}
 use Rattle.std.specs.Char.{digit_value, is_digit}
 use Rattle.std.specs.Str.{bytes_eq}
-use Rattle.std.proofs.lemmas.Bool.{eqb-true, false_from_ne_true}
+use Rattle.std.proofs.lemmas.Bool.{and_parts, eqb-true, false_from_ne_true}
 use Rattle.std.proofs.lemmas.Bool.Decides.{nat_tests}
 use Rattle.std.proofs.lemmas.Slice.Eq.{bytes_eq-Decides}
-use Rattle.std.proofs.lemmas.Str.{encode_same, length-encode, len_utf8_bounds}
 use Rattle.form_urlencoded.specs.Form.{decode, plus_to_space}
 use Rattle.percent_encoding.specs.Percent.{is_escape, percent_decode}
-use Rattle.cd_match.specs.Escapes.{begins_escape, escape_value}
+use Rattle.cd_fill.specs.Escapes.{begins_escape, escape_value}
 
 -- ---- a `+` is in no escape
 
@@ -28,14 +27,6 @@ same-digit : (a : ℕ) (b : Bool) → (a == 43) ≡ b → is_digit a 16 ≡ true
 same-digit a true e h = let same : a ≡ 43 = eqb-true a 43 e in let no : is_digit 43 16 ≡ true = ap (λ z. is_digit z 16) (sym same) ∙ h in cc
 same-digit a false e h = refl
 
-first : (s t : Bool) → (s && t) ≡ true → s ≡ true
-first true t h = refl
-first false t h = h
-
-second : (s t : Bool) → (s && t) ≡ true → t ≡ true
-second true t h = h
-second false t h = cc
-
 -- ---- byte by byte
 
 -- no bytes stand for none
@@ -48,15 +39,15 @@ meant_none (a ∷ raw) h = absurd (omega (arith, eqb-true (length (a ∷ raw)) 0
 escape-first : (a b c : ℕ) (rest : List ℕ) → is_escape a b c ≡ true → decode (a ∷ (b ∷ (c ∷ rest))) ≡ (16 * digit_value b + digit_value c) ∷ decode rest
 unfolding percent_decode
 escape-first a b c rest h =
-    let high : plus_to_space b ≡ b = same-digit b (b == 43) refl (second (a == 37) (is_digit b 16) (first _ _ h)) in
-    let low : plus_to_space c ≡ c = same-digit c (c == 43) refl (second (a == 37 && is_digit b 16) (is_digit c 16) h) in
+    let high : plus_to_space b ≡ b = same-digit b (b == 43) refl (and_parts (a == 37) (is_digit b 16) (and_parts _ _ h).0).1 in
+    let low : plus_to_space c ≡ c = same-digit c (c == 43) refl (and_parts _ (is_digit c 16) h).1 in
     rw (escape-kept a b c ∙ h, high, low) refl
 
 pub meant_escape : (raw : List ℕ) → begins_escape raw ≡ true → decode raw ≡ escape_value raw ∷ decode (drop 3 raw)
 meant_escape [] h = cc
 meant_escape (a ∷ []) h = cc
 meant_escape (a ∷ (b ∷ [])) h = cc
-meant_escape (a ∷ (b ∷ (c ∷ rest))) h = escape-first a b c rest (second _ _ h)
+meant_escape (a ∷ (b ∷ (c ∷ rest))) h = escape-first a b c rest (and_parts _ _ h).1
 
 -- any other byte stands for itself, and `+` for a space
 plain-first : (a b c : ℕ) (rest : List ℕ) → is_escape a b c ≡ false → decode (a ∷ (b ∷ (c ∷ rest))) ≡ plus_to_space a ∷ decode (b ∷ (c ∷ rest))
@@ -103,22 +94,10 @@ same-front [] xs ys = refl
 same-front (byte ∷ front) xs ys = same-first byte (front ++ xs) (front ++ ys) ∙ same-front front xs ys
 
 -- one character more, in both
-pub same_character : (character next : ℕ) (meant text others rest : List ℕ) → meant ≡ encode_utf8 character ++ others → text ≡ encode_utf8 next ++ rest → next ≡ character → bytes_eq meant text ≡ bytes_eq others rest
-same_character character next meant text others rest meant_is text_is same =
-    let text_goes : text ≡ encode_utf8 character ++ rest = text_is ∙ ap (λ z. encode_utf8 z ++ rest) same in
-    rw (meant_is, text_goes) (same-front (encode_utf8 character) others rest)
+pub same_character : (character : ℕ) (meant text others rest : List ℕ) → meant ≡ encode_utf8 character ++ others → text ≡ encode_utf8 character ++ rest → bytes_eq meant text ≡ bytes_eq others rest
+same_character character meant text others rest meant_is text_is = rw (meant_is, text_is) (same-front (encode_utf8 character) others rest)
 
--- another character in the text
-pub other_character : (character next : ℕ) (meant text others rest : List ℕ) → meant ≡ encode_utf8 character ++ others → text ≡ encode_utf8 next ++ rest → (next ≡ character → ⊥) → bytes_eq meant text ≡ false
-other_character character next meant text others rest meant_is text_is other =
-    false_from_ne_true (bytes_eq meant text) (λ same.
-    let one : meant ≡ text = (bytes_eq-Decides meant text).0 same in
-    other (sym (encode_same character next others rest (sym meant_is ∙ one ∙ text_is)).0))
-
--- no character in the text
-pub no_character : (character : ℕ) (meant text others : List ℕ) → meant ≡ encode_utf8 character ++ others → length text ≡ 0 → bytes_eq meant text ≡ false
-no_character character meant text others meant_is none =
-    false_from_ne_true (bytes_eq meant text) (λ same.
-    let one : meant ≡ text = (bytes_eq-Decides meant text).0 same in
-    let some = len_utf8_bounds character in
-    omega (arith, ap length one, ap length meant_is, length-append (encode_utf8 character) others, length-encode character))
+-- another character in the text, or none
+pub other_character : (character : ℕ) (meant text others : List ℕ) → meant ≡ encode_utf8 character ++ others → ((rest : List ℕ) → text ≡ encode_utf8 character ++ rest → ⊥) → bytes_eq meant text ≡ false
+other_character character meant text others meant_is other =
+    false_from_ne_true (bytes_eq meant text) (λ same. other others (sym ((bytes_eq-Decides meant text).0 same) ∙ meant_is))

@@ -1,6 +1,6 @@
 use Rattle.std.proofs.Common.{◌≡◌, ◌≤◌, ◌-◌, length, drop}
 use Rattle.form_urlencoded.specs.Form.{decode}
-use Rattle.cd_match.proofs.escapes.behind_meant.Given as goal
+use Rattle.cd_fill.proofs.escapes.behind_meant.Given as goal
 
 abbrev pub invariant-loop : goal.invariant-loop
 invariant-loop l = record {

@@ -2,7 +2,7 @@ use Rattle.std.proofs.Common.{◌≡◌, ◌<◌, ◌+◌, ◌-◌, ℕ, List, [
 use Rattle.std.specs.Prelude.{suc}
 use Rattle.std.proofs.lemmas.List.{take_more_set}
 use Rattle.form_urlencoded.specs.Form.{decode}
-use Rattle.cd_match.proofs.escapes.write_meant.Goals as goal
+use Rattle.cd_fill.proofs.escapes.write_meant.Goals as goal
 
 -- one more is written, and one less is left
 one_less : (count place byte : ℕ) (rest : List ℕ) → place < count → take (count - place) (byte ∷ rest) ≡ byte ∷ take (count - (place + 1)) rest

@@ -1,6 +1,6 @@
 use Rattle.std.proofs.Common.{rules}
-use Rattle.cd_match.proofs.Meanings.{meant_none, meant_escape, meant_plain, some_length, escape_length}
-use Rattle.cd_match.proofs.escapes.first_meant.Goals as goal
+use Rattle.cd_fill.proofs.Meanings.{meant_none, meant_escape, meant_plain, some_length, escape_length}
+use Rattle.cd_fill.proofs.escapes.first_meant.Goals as goal
 
 pub returns-then-is_empty : goal.returns-then-is_empty
 returns-then-is_empty c = meant_none c.args.raw.now (search rules)

@@ -1,11 +1,12 @@
 //! Comparing what a name or a value of a query stands for with a text, without writing it out: character by character.
-ghost use Rattle.std.specs.Prelude.{◌≡◌, ◌<◌, ◌≤◌, MatchOption, [], ◌∷◌, ◌++◌, true, false, length, take, drop};
+ghost use Rattle.std.specs.Prelude.{◌≡◌, ◌≢◌, ℕ, ◌<◌, ◌≤◌, MatchOption, List, [], ◌∷◌, ◌++◌, true, false, length, take, drop};
 ghost use Rattle.std.specs.Char.{digit_value, encode_utf8};
 ghost use Rattle.std.specs.Str.{bytes_eq};
 ghost use Rattle.form_urlencoded.specs.Form.{decode, plus_to_space};
+ghost use Rattle.cd_fill.specs.Escapes.{begins_escape, escape_value};
 ghost use Rattle.cd_fill.specs.Values.{decoded};
-ghost use Rattle.cd_match.specs.Escapes.{begins_escape, escape_value};
 
+use crate::parts::rest_from;
 use bstr::decode_lossy;
 
 // The most bytes that a character has in UTF-8.
@@ -24,14 +25,6 @@ fn space_for_plus(byte: u8) -> u8
     ensures { result ≡ plus_to_space byte }
 {
     if byte == b'+' { b' ' } else { byte }
-}
-
-// What is left behind so many bytes.
-fn rest_from(raw: &[u8], count: usize) -> &[u8]
-    requires { count ≤ length raw.now }
-    ensures { result.now ≡ drop count raw.now }
-{
-    &raw[count..]
 }
 
 // The byte of the escape that the bytes begin with.
@@ -107,20 +100,27 @@ fn first_character(raw: &[u8]) -> Option<(char, &[u8])>
     Some((character, behind_meant(behind, size - 1)))
 }
 
-/// Whether a name or a value of a query stands for the text. It is read character by character, so no memory is taken.
-pub(crate) fn stands_for(raw: &[u8], text: &str) -> bool
+// What stands behind a character that the text begins with.
+fn behind_character(text: &[u8], character: char) -> Option<&[u8]>
+    ensures { MatchOption result ((rest : List ℕ) → text.now ≢ encode_utf8 character ++ rest)
+        (λ rest. text.now ≡ encode_utf8 character ++ rest.now) }
+{
+    let mut room = [0; MAX_LEN_UTF8];
+    text.strip_prefix(character.encode_utf8(&mut room).as_bytes())
+}
+
+/// Whether a name or a value of a query stands for these bytes. It is read character by character, so no memory is taken.
+pub fn stands_for(raw: &[u8], text: &[u8]) -> bool
     ensures { result ≡ bytes_eq (decoded raw.now) text.now }
 {
     let mut left = raw;
-    let mut wanted = text.chars();
+    let mut wanted = text;
     while let Some((character, behind)) = first_character(left) {
-        let Some(next) = wanted.next() else {
+        let Some(rest) = behind_character(wanted, character) else {
             return false;
         };
-        if next != character {
-            return false;
-        }
         left = behind;
+        wanted = rest;
     }
-    wanted.as_str().is_empty()
+    wanted.is_empty()
 }

@@ -1,8 +1,8 @@
 use Rattle.std.proofs.Common.{◌≡◌, ◌<◌, ◌∷◌, ◌++◌, take, encode_utf8, ap, sym, ◌∙◌, arith, rules}
 use Rattle.std.specs.Str.Lossy.{utf8_lossy}
 use Rattle.form_urlencoded.specs.Form.{decode}
-use Rattle.cd_match.proofs.Characters.{ascii_first, first_piece, some_size}
-use Rattle.cd_match.proofs.escapes.first_character.Goals as goal
+use Rattle.cd_fill.proofs.Characters.{ascii_first, first_piece, some_size}
+use Rattle.cd_fill.proofs.escapes.first_character.Goals as goal
 
 pub returns-then-is_ascii : goal.returns-then-is_ascii
 returns-then-is_ascii c =
