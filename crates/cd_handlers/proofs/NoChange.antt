@@ -1,7 +1,5 @@
 -- Where there is nothing to change, the fields stay.
-use Rattle.std.proofs.Common.{◌≡◌, ◌||◌, true, false, Bool, not, List, [], ◌∷◌, refl, ap, ◌∙◌}
-use Rattle.std.specs.Prelude.{filter}
-use Rattle.std.specs.List.{list_any}
+use Rattle.std.proofs.Common.{◌≡◌, ◌||◌, true, false, Bool, List, [], ◌∷◌, refl, ap}
 use Rattle.cd_wire.specs.declared.fields.Field.{Field}
 use Rattle.cd_module.specs.declared.pattern.Pattern.{Pattern}
 use Rattle.cd_handlers.specs.declared.changes.FilledValues.{FilledValues}

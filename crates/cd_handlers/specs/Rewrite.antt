@@ -12,6 +12,7 @@ use Rattle.cd_module.specs.Settings.{Reader, text, whole, list_of, members, opti
 use Rattle.cd_module.specs.declared.fault.LoadFault.{LoadFault}
 use Rattle.cd_module.specs.declared.fault.LoadKind.TheVariants.{BadValue}
 use Rattle.cd_fill.specs.declared.form.Form.TheVariants as form
+use Rattle.cd_fill.specs.declared.request_line.RequestLine.{RequestLine}
 use Rattle.cd_fill.specs.declared.scene.Scene.{Scene}
 use Rattle.cd_fill.specs.Filling.{open_brace, fill_as}
 use Rattle.cd_fill.specs.Scene.{with_slash, original_line}
@@ -153,9 +154,14 @@ rewrite_filled s x =
 
 -- ---- what it does
 
--- what was asked for at first is kept, and what is asked for now is rewritten
-unfoldable pub rewritten_scene : Scene → Rewriting → Scene
-rewritten_scene x filled = record x { current = rewritten filled x.current; original = Some (original_line x) }
+-- what is asked for from here on; a handler is unable to do it where a text is too long when it is filled, and as well where
+-- what replacing makes is
+unfoldable pub line_rewritten : Rewrite → Scene → Result RequestLine HandlerFault
+line_rewritten s x = rewrite_filled s x ▷ λ filled. or_unable (rewritten filled x.current)
+
+-- what was asked for at first is kept
+abbrev pub asking : RequestLine → Scene → Scene
+asking line x = record x { current = line; original = Some (original_line x) }
 
 unfoldable pub rewrite_effect : Rewrite → Scene → Effect
-rewrite_effect s x = or_failed x (rewrite_filled s x) (λ filled. Next (rewritten_scene x filled))
+rewrite_effect s x = or_failed x (line_rewritten s x) (λ line. Next (asking line x))

@@ -1,27 +1,16 @@
-ghost use Rattle.std.specs.Prelude.{◌≡◌, true, IfOk, None};
+ghost use Rattle.std.specs.Prelude.{◌≡◌, true, IfOk};
 ghost use Rattle.cd_handlers.specs.Effect.{effect, deferred, has_gone_on};
 
 use crate::error::error_effect;
 use crate::handler::Handler;
 use crate::headers::headers_deed;
-use crate::outcome::{Deed, Effect};
+use crate::outcome::{Deed, Effect, alone};
 use crate::rewriting::rewrite_effect;
 use crate::static_response::static_effect;
 use crate::vars::variables_set;
 use cd_fill::Scene;
 use cd_text::NoMemory;
 use std::alloc::Global;
-
-// An effect that leaves no changes.
-fn alone<'a, 'r>(effect: Effect<'r>) -> Deed<'a, 'r>
-    ensures effect { result.effect ≡ effect.entry }
-    ensures changes { result.changes ≡ None }
-{
-    Deed {
-        effect,
-        changes: None,
-    }
-}
 
 /// What a handler does with a request in that scene, and the changes that it leaves for the answer of what follows it, where the
 /// request goes on. They are filled in the scene that it found.

@@ -3,14 +3,15 @@ ghost use Rattle.cd_text.specs.Gives.{Gives};
 ghost use Rattle.cd_handlers.specs.declared.fault.HandlerFault.{HandlerFault};
 ghost use Rattle.cd_handlers.specs.Error.{static_error, failure_filled, error_effect};
 
+use crate::failing::failed;
 use crate::fault::HandlerFault;
 use crate::filling::text_filled;
-use crate::outcome::{Effect, let_go};
+use crate::outcome::Effect;
 use crate::status::{Status, status_given};
 use crate::texts::no_text;
 use cd_fill::{Failure, Scene};
 use cd_module::{LoadFault, Settings, fields_of, optional};
-use cd_text::{NoMemory, Octets, Text};
+use cd_text::{NoMemory, Text};
 use cd_tree::{Path, Tree};
 use std::alloc::Global;
 
@@ -62,7 +63,6 @@ pub(crate) fn error_effect<'r>(
 {
     match failure_filled(alloc, settings, &scene) {
         Ok(failure) => Ok(Effect::Failed(scene, failure.status, failure.message)),
-        Err(HandlerFault::Unable) => Ok(Effect::Failed(scene, 500, Octets::new(alloc))),
-        Err(HandlerFault::NoMemory) => Err(let_go(scene)),
+        Err(fault) => failed(alloc, fault, scene),
     }
 }

@@ -10,12 +10,13 @@ ghost use Rattle.cd_handlers.specs.Effect.{has_gone_on};
 ghost use Rattle.cd_handlers.specs.Headers.{request_changes, response_changes, no_changes, request_or_none, response_or_none, headers, both_filled, goes_on, headers_effect, headers_deferred};
 
 use crate::changes::{Changes, FilledChanges, FilledValues, Side, changed_by, values_filled};
+use crate::failing::failed;
 use crate::fault::HandlerFault;
 use crate::field_values::{FieldList, RequestFieldList, fields_or_none, request_fields_or_none};
-use crate::outcome::{Deed, Effect, let_go};
+use crate::outcome::{Deed, Effect, alone, let_go};
 use cd_fill::{Lent, Scene};
 use cd_module::{LoadFault, Pattern, Settings, fields_of, optional};
-use cd_text::{List, NoMemory, Octets};
+use cd_text::{List, NoMemory};
 use cd_tree::{Path, Tree};
 use cd_wire::Field;
 use std::alloc::Global;
@@ -272,10 +273,6 @@ pub(crate) fn headers_deed<'a, 'r>(
 {
     match both_filled(alloc, settings, &scene) {
         Ok(both) => gone_on(alloc, settings, both, scene),
-        Err(HandlerFault::Unable) => Ok(Deed {
-            effect: Effect::Failed(scene, 500, Octets::new(alloc)),
-            changes: None,
-        }),
-        Err(HandlerFault::NoMemory) => Err(let_go(scene)),
+        Err(fault) => Ok(alone(failed(alloc, fault, scene)?)),
     }
 }

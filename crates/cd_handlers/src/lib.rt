@@ -5,7 +5,8 @@
 //! handler has a file of its own with its settings, their reader and its meaning, and a file of definitions under the same name.
 //!
 //! A handler whose texts can't be filled fails with 500 and an empty message, in the scene that it found, where its texts are
-//! filled too. `vars` alone sets one variable after another: each text sees those before, and they stay where it fails.
+//! filled too; so does `rewrite` where what it replaces gets too long (specs/Failing.antt). `vars` alone sets one variable after
+//! another: each text sees those before, and they stay where it fails.
 //! `rewrite` has its settings in rewrite.rt; rewriting.rt fills its texts, and the crate `cd_rewrite` has its steps.
 //! `deed` is that, with the changes that `headers` leaves for the answer, and `changed` makes them.
 //!
@@ -19,6 +20,7 @@ mod body;
 mod changes;
 mod effects;
 mod error;
+mod failing;
 mod fault;
 mod field_values;
 mod fields;

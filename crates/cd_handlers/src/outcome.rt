@@ -1,4 +1,4 @@
-ghost use Rattle.std.specs.Prelude.{◌≡◌};
+ghost use Rattle.std.specs.Prelude.{◌≡◌, None};
 
 use crate::changes::FilledChanges;
 use cd_fill::Scene;
@@ -21,6 +21,17 @@ pub enum Effect<'r> {
 pub struct Deed<'a, 'r> {
     pub effect: Effect<'r>,
     pub changes: Option<FilledChanges<'a>>,
+}
+
+/// An effect that leaves no changes.
+pub(crate) fn alone<'a, 'r>(effect: Effect<'r>) -> Deed<'a, 'r>
+    ensures effect { result.effect ≡ effect.entry }
+    ensures changes { result.changes ≡ None }
+{
+    Deed {
+        effect,
+        changes: None,
+    }
 }
 
 // A scene is let go of in these two functions alone. Each place where one is costs the proof seconds, and so does a `?` while

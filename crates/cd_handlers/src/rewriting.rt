@@ -1,19 +1,20 @@
-//! What `rewrite` does: its texts are filled, and then the steps are done.
+//! What `rewrite` does: its texts are filled, and then the steps are done on a copy of what is asked for. So the scene is as it
+//! was found where either can't be done.
 ghost use Rattle.std.specs.Prelude.{◌≡◌, IfOk, Option, unwrap_or, map};
 ghost use Rattle.std.specs.Char.{to_ascii_uppercase};
 ghost use Rattle.cd_text.specs.Gives.{Gives};
 ghost use Rattle.cd_wire.specs.Targets.{query_of};
 ghost use Rattle.cd_fill.specs.Filling.{fill_as};
-ghost use Rattle.cd_rewrite.specs.Steps.{rewritten};
 ghost use Rattle.cd_handlers.specs.declared.fault.HandlerFault.{HandlerFault};
 ghost use Rattle.cd_handlers.specs.Filling.{or_unable};
-ghost use Rattle.cd_handlers.specs.Rewrite.{method_said, method_filled, path_filled, query_said, query_filled, target_filled, prefix_filled, suffix_filled, substring_filled, each_filled, substrings_filled, rewrite_filled, rewritten_scene, rewrite_effect};
+ghost use Rattle.cd_handlers.specs.Rewrite.{method_said, method_filled, path_filled, query_said, query_filled, target_filled, prefix_filled, suffix_filled, substring_filled, each_filled, substrings_filled, rewrite_filled, line_rewritten, asking, rewrite_effect};
 
+use crate::failing::failed;
 use crate::fault::HandlerFault;
 use crate::filling::text_filled;
-use crate::outcome::{Effect, let_go};
+use crate::outcome::Effect;
 use crate::rewrite::{MethodText, Rewrite, Substring, is_token};
-use cd_fill::{Form, Lent, RequestLine, Scene, fill_as, with_slash_before};
+use cd_fill::{Form, RequestLine, Scene, fill_as, with_slash_before};
 use cd_rewrite::{QueryChange, Replacement, Rewriting, Target, rewritten};
 use cd_text::{List, NoMemory, Octets, Text};
 use cd_wire::{before_question_mark, query_of};
@@ -226,77 +227,39 @@ fn rewrite_filled(
     })
 }
 
-fn no_line<'r>() -> RequestLine<'r> {
-    RequestLine {
-        method: Lent::shared(&[]),
-        path: Lent::shared(&[]),
-        query: None,
-        uri: Lent::shared(&[]),
-    }
+// What is asked for from here on.
+#[tactic(auto, unfolding(crate::specs::Rewrite::line_rewritten))]
+fn line_rewritten<'r>(
+    alloc: Global,
+    settings: &Rewrite,
+    scene: &Scene<'r>,
+) -> Result<RequestLine<'r>, HandlerFault>
+    ensures { Gives HandlerFault.NoMemory result (line_rewritten settings.now scene.now) }
+{
+    let filled = rewrite_filled(alloc, settings, scene)?;
+    let line = rewritten(alloc, filled, &scene.current)?;
+    Ok(line)
 }
 
-// What was asked for at first. What is asked for now is copied where it is that.
-fn first_line<'r>(
-    alloc: Global,
-    original: Option<RequestLine<'r>>,
-    current: &RequestLine<'r>,
-) -> Result<RequestLine<'r>, NoMemory>
-    ensures { IfOk result (λ line. line ≡ unwrap_or original.entry current.now) }
+// What was asked for at first is kept.
+fn first_line<'r>(original: Option<RequestLine<'r>>, current: RequestLine<'r>) -> RequestLine<'r>
+    ensures { result ≡ unwrap_or original.entry current.entry }
 {
     match original {
-        Some(line) => Ok(line),
-        None => current.copy(alloc),
+        Some(line) => line,
+        None => current,
     }
 }
 
-/// What was asked for at first, and what is asked for now.
-#[derive(Drop)]
-struct Lines<'r> {
-    original: RequestLine<'r>,
-    current: RequestLine<'r>,
-}
-
-fn lines_rewritten<'r>(
-    alloc: Global,
-    filled: Rewriting,
-    original: Option<RequestLine<'r>>,
-    current: RequestLine<'r>,
-) -> Result<Lines<'r>, NoMemory>
-    ensures original { IfOk result (λ lines. lines.original ≡ unwrap_or original.entry current.entry) }
-    ensures current { IfOk result (λ lines. lines.current ≡ rewritten filled current.entry) }
-{
-    let original = first_line(alloc, original, &current)?;
-    let current = rewritten(alloc, filled, current)?;
-    Ok(Lines { original, current })
-}
-
-fn with_lines<'r>(lines: Lines<'r>, scene: Scene<'r>) -> Scene<'r>
-    ensures { result ≡ record scene.entry { current = lines.entry.current; original = Option.Some lines.entry.original } }
-{
-    let Lines { original, current } = lines;
-    Scene {
-        current,
-        original: Some(original),
-        ..scene
-    }
-}
-
-// The scene with what is asked for now. What was asked for at first is kept.
-#[tactic(auto, unfolding(crate::specs::Rewrite::rewritten_scene))]
-fn rewritten_scene<'r>(
-    alloc: Global,
-    filled: Rewriting,
-    scene: Scene<'r>,
-) -> Result<Scene<'r>, NoMemory>
-    ensures { IfOk result (λ made. made ≡ rewritten_scene scene.entry filled) }
+// The scene with what is asked for now.
+fn asking<'r>(line: RequestLine<'r>, scene: Scene<'r>) -> Scene<'r>
+    ensures { result ≡ asking line.entry scene.entry }
 {
     let mut scene = scene;
     let original = replace(&mut scene.original, None);
-    let current = replace(&mut scene.current, no_line());
-    match lines_rewritten(alloc, filled, original, current) {
-        Ok(lines) => Ok(with_lines(lines, scene)),
-        Err(NoMemory) => Err(let_go(scene)),
-    }
+    let current = replace(&mut scene.current, line);
+    scene.original = Some(first_line(original, current));
+    scene
 }
 
 /// Rewrites what is asked for.
@@ -308,9 +271,8 @@ pub(crate) fn rewrite_effect<'r>(
 ) -> Result<Effect<'r>, NoMemory>
     ensures { IfOk result (λ made. made ≡ rewrite_effect settings.now scene.entry) }
 {
-    match rewrite_filled(alloc, settings, &scene) {
-        Ok(filled) => Ok(Effect::Next(rewritten_scene(alloc, filled, scene)?)),
-        Err(HandlerFault::Unable) => Ok(Effect::Failed(scene, 500, Octets::new(alloc))),
-        Err(HandlerFault::NoMemory) => Err(let_go(scene)),
+    match line_rewritten(alloc, settings, &scene) {
+        Ok(line) => Ok(Effect::Next(asking(line, scene))),
+        Err(fault) => failed(alloc, fault, scene),
     }
 }

@@ -4,11 +4,12 @@ ghost use Rattle.cd_handlers.specs.declared.fault.HandlerFault.{HandlerFault};
 ghost use Rattle.cd_handlers.specs.StaticResponse.{static_response, type_field, with_type, parts_filled, answered, static_effect};
 
 use crate::body::BodyText;
+use crate::failing::failed;
 use crate::fault::HandlerFault;
 use crate::field_values::{FieldList, FieldValues, fields_or_none};
 use crate::fields::{FilledField, has_field, replaced};
 use crate::filling::{fields_filled, text_filled};
-use crate::outcome::{Effect, let_go, response_of};
+use crate::outcome::{Effect, response_of};
 use crate::status::{Status, status_given, usual_status};
 use crate::texts::no_text;
 use cd_fill::Scene;
@@ -149,7 +150,6 @@ pub(crate) fn static_effect<'r>(
             let answer = answered(alloc, settings, response_of(scene), parts)?;
             Ok(Effect::Answered(answer))
         }
-        Err(HandlerFault::Unable) => Ok(Effect::Failed(scene, 500, Octets::new(alloc))),
-        Err(HandlerFault::NoMemory) => Err(let_go(scene)),
+        Err(fault) => failed(alloc, fault, scene),
     }
 }

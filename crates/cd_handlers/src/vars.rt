@@ -4,7 +4,7 @@ ghost use Rattle.cd_tree.specs.Tree.{number_text};
 ghost use Rattle.cd_module.specs.declared.fault.LoadFault.{LoadFault};
 ghost use Rattle.cd_handlers.specs.Vars.{variables, setting_text, setting, vars, with_variable, truth_text, variables_set};
 
-use crate::fault::HandlerFault;
+use crate::failing::failed;
 use crate::filling::text_filled;
 use crate::outcome::{Effect, let_go};
 use cd_fill::{Scene, Variable};
@@ -134,10 +134,7 @@ pub(crate) fn variables_set<'r>(
     for setting in settings.settings.as_slice() {
         match text_filled(alloc, &setting.text, &scene) {
             Ok(value) => scene = with_variable(alloc, &setting.name, value, scene)?,
-            Err(HandlerFault::Unable) => {
-                return Ok(Effect::Failed(scene, 500, Octets::new(alloc)));
-            }
-            Err(HandlerFault::NoMemory) => return Err(let_go(scene)),
+            Err(fault) => return failed(alloc, fault, scene),
         }
     }
     Ok(Effect::Next(scene))

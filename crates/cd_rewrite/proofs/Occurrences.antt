@@ -1,13 +1,16 @@
 -- A text is cut around the first occurrence that a search finds, and what is replaced goes on behind it.
-use Rattle.std.proofs.Common.{◌≡◌, ℕ, zero, suc, ◌+◌, ◌-◌, ◌<◌, ◌≤◌, List, [], ◌∷◌, ◌++◌, true, false, Option, Some, None, length, take, drop, refl, sym, ap, ◌∙◌, arith, inl, inr, append_assoc}
-use Rattle.std.specs.Prelude.{nat_eq, option_map}
+use Rattle.std.proofs.Common.{◌≡◌, ℕ, zero, suc, ◌+◌, ◌-◌, ◌<◌, ◌≤◌, List, [], ◌∷◌, ◌++◌, true, false, Option, Some, None, length, take, drop, refl, sym, ap, ◌∙◌, arith, inl, inr, append_assoc, length-append, Err}
+use Rattle.std.specs.Prelude.{nat_eq, nat_lt, option_map}
 use Rattle.std.specs.List.{starts_with}
 use Rattle.std.specs.Cmp.Lexicographic.{pointwise_decides}
-use Rattle.std.proofs.lemmas.Bool.{cond-true, cond-false, cases_Bool}
+use Rattle.std.proofs.lemmas.Bool.{cond-true, cond-false, cases_Bool, ltb-true, lt-ltb}
 use Rattle.std.proofs.lemmas.Bool.Decides.{Decides-eqb}
 use Rattle.std.proofs.lemmas.List.{length-take}
 use Rattle.memchr.specs.Find.{FindsNeedle, OccursAt, NoneBefore}
 use Rattle.memchr.proofs.lemmas.MatchLemmas.{OccursAt-part, OccursAt-from_part}
+use Rattle.cd_fill.specs.declared.fault.FillFault.TheVariants.{TooLong}
+use Rattle.cd_fill.specs.declared.limits.TheConstants.{MAX_FILLED_BYTES}
+use Rattle.cd_fill.specs.Filling.{bounded}
 use Rattle.cd_rewrite.specs.Substrings.{around, replaced_up_to}
 
 -- ---- an occurrence at the beginning
@@ -42,7 +45,7 @@ without_first byte find text at occurs =
 abbrev cut_at : List ℕ → List ℕ → ℕ → List ℕ × List ℕ
 cut_at find text at = (take at text, drop (at + length find) text)
 
-abbrev one_more : ℕ → List ℕ × List ℕ → List ℕ × List ℕ
+abbrev pub one_more : ℕ → List ℕ × List ℕ → List ℕ × List ℕ
 one_more byte parts = (byte ∷ parts.0, parts.1)
 
 pub around_is : (find : List ℕ) → 0 < length find → (text : List ℕ) (r : Option ℕ) → FindsNeedle text find 0 r → around find text ≡ option_map (cut_at find text) r
@@ -69,13 +72,13 @@ around_is find some (byte ∷ text) (Some (suc at)) h =
 -- ---- what is replaced
 
 -- without an occurrence nothing is
-none_replaced : (n : ℕ) (find replace text : List ℕ) → around find text ≡ None → replaced_up_to n find replace text ≡ text
+pub none_replaced : (n : ℕ) (find replace text : List ℕ) → around find text ≡ None → replaced_up_to n find replace text ≡ text
 unfolding replaced_up_to
 none_replaced zero find replace text e = refl
 none_replaced (suc n) find replace text e = rw e refl
 
 -- one occurrence is, and then those behind it
-one_replaced : (n : ℕ) (find replace text before rest : List ℕ) → around find text ≡ Some (before, rest)
+pub one_replaced : (n : ℕ) (find replace text before rest : List ℕ) → around find text ≡ Some (before, rest)
     → replaced_up_to (suc n) find replace text ≡ before ++ (replace ++ replaced_up_to n find replace rest)
 unfolding replaced_up_to
 one_replaced n find replace text before rest e = rw e refl
@@ -85,24 +88,32 @@ regroup a b c d = simp append_assoc
 
 -- ---- a text that is being made
 
--- without an occurrence what is left goes behind it
-pub made_to_end : (n : ℕ) (find replace text made longer : List ℕ) → around find text ≡ None → longer ≡ made ++ text
-    → longer ≡ made ++ replaced_up_to n find replace text
-made_to_end n find replace text made longer e is = is ∙ ap (λ rest. made ++ rest) (sym (none_replaced n find replace text e))
+-- without an occurrence what is left stays
+pub rest_stays : (n : ℕ) (find replace left made whole : List ℕ) → around find left ≡ None → whole ≡ made ++ replaced_up_to n find replace left
+    → whole ≡ made ++ left
+rest_stays n find replace left made whole e is = is ∙ ap (λ rest. made ++ rest) (none_replaced n find replace left e)
 
 -- and so where enough are replaced
-pub made_enough : (most done : ℕ) (find replace text made longer : List ℕ) → most ≤ done → longer ≡ made ++ text
-    → longer ≡ made ++ replaced_up_to (most - done) find replace text
+pub enough_replaced : (most done : ℕ) (find replace left made whole : List ℕ) → most ≤ done → whole ≡ made ++ replaced_up_to (most - done) find replace left
+    → whole ≡ made ++ left
 unfolding replaced_up_to
-made_enough most done find replace text made longer enough is =
-    let none : most - done ≡ 0 = omega arith in rw none is
+enough_replaced most done find replace left made whole enough is =
+    let none : most - done ≡ 0 = omega arith in is ∙ ap (λ n. made ++ replaced_up_to n find replace left) none
 
 -- one more occurrence is replaced
-pub made_longer : (most done : ℕ) (find replace text before rest made longer : List ℕ) → done < most → around find text ≡ Some (before, rest)
-    → longer ≡ (made ++ before) ++ replace
-    → longer ++ replaced_up_to (most - (done + 1)) find replace rest ≡ made ++ replaced_up_to (most - done) find replace text
-made_longer most done find replace text before rest made longer under e is =
-    let left : suc (most - (done + 1)) ≡ most - done = omega arith in
-    ap (λ front. front ++ replaced_up_to (most - (done + 1)) find replace rest) is
-    ∙ regroup made before replace (replaced_up_to (most - (done + 1)) find replace rest)
-    ∙ ap (λ more. made ++ more) (sym (one_replaced (most - (done + 1)) find replace text before rest e) ∙ ap (λ n. replaced_up_to n find replace text) left)
+pub made_longer : (most done : ℕ) (find replace left before rest made longer whole : List ℕ) → done < most → around find left ≡ Some (before, rest)
+    → longer ≡ (made ++ before) ++ replace → whole ≡ made ++ replaced_up_to (most - done) find replace left
+    → whole ≡ longer ++ replaced_up_to (most - (done + 1)) find replace rest
+made_longer most done find replace left before rest made longer whole under e is was =
+    let others = replaced_up_to (most - (done + 1)) find replace rest in
+    let more : suc (most - (done + 1)) ≡ most - done = omega arith in
+    was
+    ∙ ap (λ text. made ++ text) (ap (λ n. replaced_up_to n find replace left) (sym more) ∙ one_replaced (most - (done + 1)) find replace left before rest e)
+    ∙ sym (regroup made before replace others)
+    ∙ ap (λ front. front ++ others) (sym is)
+
+-- what was made so far is too long
+pub too_long : (made rest whole : List ℕ) → whole ≡ made ++ rest → nat_lt MAX_FILLED_BYTES (length made) ≡ true → bounded whole ≡ Err TooLong
+too_long made rest whole is long =
+    let more : MAX_FILLED_BYTES < length whole = rw is (omega (arith, ltb-true _ _ long, length-append made rest)) in
+    cond-true _ _ _ (lt-ltb _ _ more)

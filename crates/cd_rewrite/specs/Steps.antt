@@ -1,9 +1,12 @@
 -- The steps by which what is asked for is rewritten (Caddy, JSON Config Structure, http.handlers.rewrite).
-use Rattle.std.specs.Prelude.{ℕ, ◌-◌, ◌&&◌, Bool, true, false, if◌then◌else◌, List, length, take, drop, fold, nat_eq, Option, Some, None, option_map, unwrap_or}
+use Rattle.std.specs.Prelude.{ℕ, ◌-◌, ◌&&◌, Bool, true, false, if◌then◌else◌, List, [], ◌∷◌, length, take, drop, nat_eq, Option, Some, None, unwrap_or, Result, Ok}
 use Rattle.std.specs.List.{starts_with, ends_with}
 use Rattle.std.specs.Str.{bytes_eq, str_to_ascii_lowercase}
+use Rattle.cd_text.specs.Steps.{◌▷◌}
 use Rattle.cd_wire.specs.Targets.{or_root}
+use Rattle.cd_fill.specs.declared.fault.FillFault.{FillFault}
 use Rattle.cd_fill.specs.declared.request_line.RequestLine.{RequestLine}
+use Rattle.cd_fill.specs.Filling.{bounded}
 use Rattle.cd_fill.specs.Scene.{with_slash}
 use Rattle.cd_rewrite.specs.declared.rewriting.Rewriting.{Rewriting}
 use Rattle.cd_rewrite.specs.declared.rewriting.Replacement.{Replacement}
@@ -61,18 +64,35 @@ unfoldable pub suffix_stripped : Option (List ℕ) → RequestLine → RequestLi
 suffix_stripped None line = line
 suffix_stripped (Some suffix) line = moved (without_suffix suffix line.path) line.query line
 
--- one after another is replaced, as often as its own limit lets it
-unfoldable pub all_substituted : List Replacement → List ℕ → List ℕ
-all_substituted replacements text = fold (λ now one. substituted one.find one.replace one.limit now) text replacements
+-- the occurrences of one text, replaced, as often as its own limit lets them; what that makes may have only so many bytes
+abbrev pub replaced : Replacement → List ℕ → Result (List ℕ) FillFault
+replaced one text = bounded (substituted one.find one.replace one.limit text)
 
--- at last parts of the path, and apart from that of the query; a path without a `/` in front gets one
-unfoldable pub substrings_replaced : Option (List Replacement) → RequestLine → RequestLine
-substrings_replaced None line = line
+-- one after another; what each makes is tested, so the first that is too long ends it
+unfoldable pub all_replaced : List Replacement → List ℕ → Result (List ℕ) FillFault
+all_replaced [] text = Ok text
+all_replaced (one ∷ replacements) text = replaced one text ▷ λ now. all_replaced replacements now
+
+-- an absent query stays so
+unfoldable pub query_replaced : List Replacement → Option (List ℕ) → Result (Option (List ℕ)) FillFault
+query_replaced replacements None = Ok None
+query_replaced replacements (Some query) = all_replaced replacements query ▷ λ now. Ok (Some now)
+
+-- parts of the path, and apart from that of the query; a path without a `/` in front gets one, which is not counted
+unfoldable pub target_replaced : List Replacement → RequestLine → Result Target FillFault
+target_replaced replacements line =
+    all_replaced replacements line.path ▷ λ path.
+    query_replaced replacements line.query ▷ λ query.
+    Ok (record { path = Some (with_slash path); query = Becomes query })
+
+-- at last parts of the path and of the query are replaced
+unfoldable pub substrings_replaced : Option (List Replacement) → RequestLine → Result RequestLine FillFault
+substrings_replaced None line = Ok line
 substrings_replaced (Some replacements) line =
-    moved (with_slash (all_substituted replacements line.path)) (option_map (all_substituted replacements) line.query) line
+    target_replaced replacements line ▷ λ target. Ok (target_changed target line)
 
--- the steps in their order
-unfoldable pub rewritten : Rewriting → RequestLine → RequestLine
+-- the steps in their order; the last one alone can fail
+unfoldable pub rewritten : Rewriting → RequestLine → Result RequestLine FillFault
 rewritten r line =
     substrings_replaced r.replacements
     (suffix_stripped r.suffix

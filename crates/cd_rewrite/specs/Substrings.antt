@@ -1,5 +1,5 @@
 -- The occurrences of a text in another, replaced.
-use Rattle.std.specs.Prelude.{ℕ, zero, suc, ◌==◌, nat_eq, if◌then◌else◌, List, [], ◌∷◌, ◌++◌, length, drop, Option, Some, None, option_map}
+use Rattle.std.specs.Prelude.{◌≡◌, ◌≢◌, ℕ, zero, suc, ◌==◌, nat_eq, if◌then◌else◌, List, [], ◌∷◌, ◌++◌, length, drop, Option, Some, None, option_map}
 use Rattle.std.specs.List.{starts_with}
 use Rattle.std.specs.Option.{option_map_or}
 
@@ -24,3 +24,11 @@ most limit text = if limit == 0 then length text else limit
 unfoldable pub substituted : List ℕ → List ℕ → ℕ → List ℕ → List ℕ
 substituted find replace limit text =
     if length find == 0 then text else replaced_up_to (most limit text) find replace text
+
+-- what is looked for stands nowhere in the text
+abbrev pub IsAbsent : List ℕ → List ℕ → Type 0
+IsAbsent find text = (before after : List ℕ) → before ++ (find ++ after) ≢ text
+
+-- it stands first behind these bytes: in them and what is looked for it stands at the end alone
+abbrev pub IsBeforeFirst : List ℕ → List ℕ → Type 0
+IsBeforeFirst find bytes = (before after : List ℕ) → before ++ (find ++ after) ≡ bytes ++ find → after ≡ []

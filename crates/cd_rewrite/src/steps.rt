@@ -1,16 +1,15 @@
 //! The steps by which what is asked for is rewritten.
-ghost use Rattle.std.specs.Prelude.{◌≡◌, ◌-◌, IfOk, take, drop, length, unwrap_or, Option, option_map};
+ghost use Rattle.std.specs.Prelude.{◌≡◌, ◌-◌, IfOk, take, length, unwrap_or};
 ghost use Rattle.std.specs.Str.{bytes_eq};
 ghost use Rattle.cd_wire.specs.Targets.{or_root};
-ghost use Rattle.cd_fill.specs.Scene.{with_slash};
-ghost use Rattle.cd_rewrite.specs.declared.rewriting.QueryChange.TheVariants.{Becomes};
-ghost use Rattle.cd_rewrite.specs.Substrings.{substituted};
-ghost use Rattle.cd_rewrite.specs.Steps.{same_query, moved, method_changed, query_changed, target_changed, without_prefix, prefix_stripped, without_suffix, suffix_stripped, all_substituted, substrings_replaced, rewritten};
+ghost use Rattle.cd_text.specs.Gives.{Gives};
+ghost use Rattle.cd_fill.specs.declared.fault.FillFault.{FillFault};
+ghost use Rattle.cd_rewrite.specs.Steps.{same_query, moved, method_changed, query_changed, target_changed, without_prefix, prefix_stripped, without_suffix, suffix_stripped, replaced, all_replaced, query_replaced, target_replaced, substrings_replaced, rewritten};
 
 use crate::rewriting::{QueryChange, Replacement, Rewriting, Target};
 use crate::substrings::substituted;
 use crate::uri_text::uri_text;
-use cd_fill::{Lent, RequestLine, with_slash, with_slash_before};
+use cd_fill::{FillFault, Lent, RequestLine, rest_from, with_slash, with_slash_before};
 use cd_module::{ends_in_any_case, starts_in_any_case};
 use cd_text::{List, NoMemory, Octets, Text};
 use std::alloc::Global;
@@ -121,17 +120,6 @@ fn path_changed<'r>(
     target_changed(alloc, Target { path, query }, line)
 }
 
-// What stands behind so many bytes.
-fn behind(text: &[u8], count: usize) -> &[u8]
-    ensures { result.now ≡ drop count text.now }
-{
-    if count < text.len() {
-        &text[count..]
-    } else {
-        &[]
-    }
-}
-
 // Another path, where the prefix is taken from this one.
 #[tactic(auto, unfolding(crate::specs::Steps::without_prefix))]
 fn without_prefix(alloc: Global, prefix: &[u8], path: &[u8]) -> Result<Option<Octets>, NoMemory>
@@ -140,7 +128,7 @@ fn without_prefix(alloc: Global, prefix: &[u8], path: &[u8]) -> Result<Option<Oc
     if !starts_in_any_case(path, prefix) {
         return Ok(None);
     }
-    let path = with_slash(alloc, behind(path, prefix.len()))?;
+    let path = with_slash(alloc, rest_from(path, prefix.len()))?;
     Ok(Some(path))
 }
 
@@ -203,8 +191,8 @@ fn suffix_stripped<'r>(
     }
 }
 
-fn replaced(alloc: Global, one: &Replacement, text: &[u8]) -> Result<Octets, NoMemory>
-    ensures { IfOk result (λ made. made ≡ substituted one.now.find one.now.replace one.now.limit text.now) }
+fn replaced(alloc: Global, one: &Replacement, text: &[u8]) -> Result<Octets, FillFault>
+    ensures { Gives FillFault.NoMemory result (replaced one.now text.now) }
 {
     substituted(
         alloc,
@@ -215,13 +203,13 @@ fn replaced(alloc: Global, one: &Replacement, text: &[u8]) -> Result<Octets, NoM
     )
 }
 
-#[tactic(auto, unfolding(crate::specs::Steps::all_substituted))]
-fn all_substituted(
+#[tactic(auto, unfolding(crate::specs::Steps::all_replaced))]
+fn all_replaced(
     alloc: Global,
     replacements: &List<Replacement>,
     text: &[u8],
-) -> Result<Octets, NoMemory>
-    ensures { IfOk result (λ made. made ≡ all_substituted replacements.now text.now) }
+) -> Result<Octets, FillFault>
+    ensures { Gives FillFault.NoMemory result (all_replaced replacements.now text.now) }
 {
     let mut now = Octets::from_slice(alloc, text)?;
     for one in replacements.as_slice() {
@@ -230,65 +218,66 @@ fn all_substituted(
     Ok(now)
 }
 
-fn query_substituted(
+#[tactic(auto, unfolding(crate::specs::Steps::query_replaced))]
+fn query_replaced(
     alloc: Global,
     replacements: &List<Replacement>,
     query: &Option<Lent<'_, u8>>,
-) -> Result<Option<Octets>, NoMemory>
-    ensures { IfOk result (λ made. made ≡ option_map (all_substituted replacements.now) query.now) }
+) -> Result<Option<Octets>, FillFault>
+    ensures { Gives FillFault.NoMemory result (query_replaced replacements.now query.now) }
 {
     match query {
-        Some(query) => Ok(Some(all_substituted(alloc, replacements, query.as_slice())?)),
+        Some(query) => Ok(Some(all_replaced(alloc, replacements, query.as_slice())?)),
         None => Ok(None),
     }
 }
 
 // Path and query as they are replaced.
+#[tactic(auto, unfolding(crate::specs::Steps::target_replaced))]
 fn target_replaced(
     alloc: Global,
     replacements: &List<Replacement>,
     line: &RequestLine<'_>,
-) -> Result<Target, NoMemory>
-    ensures { IfOk result (λ target. target ≡ record {
-      path = Option.Some (with_slash (all_substituted replacements.now line.now.path));
-      query = Becomes (option_map (all_substituted replacements.now) line.now.query);
-    }) }
+) -> Result<Target, FillFault>
+    ensures { Gives FillFault.NoMemory result (target_replaced replacements.now line.now) }
 {
-    let path = all_substituted(alloc, replacements, line.path.as_slice())?;
+    let path = all_replaced(alloc, replacements, line.path.as_slice())?;
     let path = Some(with_slash_before(alloc, path)?);
-    let query = query_substituted(alloc, replacements, &line.query)?;
+    let query = query_replaced(alloc, replacements, &line.query)?;
     let query = QueryChange::Becomes(query);
     Ok(Target { path, query })
 }
 
-#[tactic(auto, unfolding(crate::specs::Steps::substrings_replaced, crate::specs::Steps::target_changed))]
+#[tactic(auto, unfolding(crate::specs::Steps::substrings_replaced))]
 fn substrings_replaced<'r>(
     alloc: Global,
     replacements: &Option<List<Replacement>>,
     line: RequestLine<'r>,
-) -> Result<RequestLine<'r>, NoMemory>
-    ensures { IfOk result (λ made. made ≡ substrings_replaced replacements.now line.entry) }
+) -> Result<RequestLine<'r>, FillFault>
+    ensures { Gives FillFault.NoMemory result (substrings_replaced replacements.now line.entry) }
 {
     match replacements {
         Some(replacements) => {
             let target = target_replaced(alloc, replacements, &line)?;
-            target_changed(alloc, target, line)
+            let line = target_changed(alloc, target, line)?;
+            Ok(line)
         }
         None => Ok(line),
     }
 }
 
 /// What is asked for, rewritten step by step: first the method, then path and query by a target, then a prefix and a suffix of
-/// the path, then what is replaced in the path and in the query.
+/// the path, then what is replaced in the path and in the query. `TooLong` exactly where a replacement makes more than
+/// `MAX_FILLED_BYTES` of the path or of the query.
 #[tactic(auto, unfolding(crate::specs::Steps::rewritten))]
 pub fn rewritten<'r>(
     alloc: Global,
     rewriting: Rewriting,
-    line: RequestLine<'r>,
-) -> Result<RequestLine<'r>, NoMemory>
-    ensures { IfOk result (λ made. made ≡ rewritten rewriting line.entry) }
+    line: &RequestLine<'r>,
+) -> Result<RequestLine<'r>, FillFault>
+    ensures { Gives FillFault.NoMemory result (rewritten rewriting line.now) }
 {
-    let line = method_changed(rewriting.method, line);
+    let line = method_changed(rewriting.method, line.copy(alloc)?);
     let line = target_changed(alloc, rewriting.target, line)?;
     let line = prefix_stripped(alloc, &rewriting.prefix, line)?;
     let line = suffix_stripped(alloc, &rewriting.suffix, line)?;
