@@ -34,7 +34,7 @@ matcher-same : (f g : Reader (List MatcherSet)) (n : ℕ) → Agree n f g → (n
 unfolding matcher
 matcher-same f g n a name = record { same = λ s p h. (known-same f g n a name (kind_named name)).same s p h }
 
-sets-inward : Inward sets_with
+pub sets-inward : Inward sets_with
 unfolding matcher_set
 sets-inward = record {
   same = λ f g t at a.

@@ -1,4 +1,5 @@
 pub mod Levels
 pub mod Alike
 pub mod Naming
+pub mod Bare
 pub mod Labels

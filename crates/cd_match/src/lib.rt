@@ -8,6 +8,8 @@
 //! specs/Holds.antt defines it. Patterns are read once; no field, no path and no query is copied, lowered or decoded to be
 //! compared, and memory is taken where a key of `vars` is filled alone.
 //!
+//! Trees that differ in ids alone are the same sets (laws.rt).
+//!
 //! When routes are reached, and what is done then, is left to the crates above.
 #![tactic(auto)]
 
@@ -29,7 +31,7 @@ mod vars;
 pub use header::{FieldTest, HeaderMatcher};
 pub use host::HostMatcher;
 pub use kind::MatcherKind;
-pub use laws::{matchers_have_their_names, sets_are_read_alike};
+pub use laws::{matchers_have_their_names, sets_are_read_alike, sets_see_no_ids};
 pub use listed::is_listed;
 pub use matcher::{Matcher, MatcherSet};
 pub use method::MethodMatcher;

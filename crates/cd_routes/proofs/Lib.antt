@@ -5,3 +5,4 @@ pub mod Servers
 pub mod Rising
 pub mod Catches
 pub mod NameKept
+pub mod Bare

@@ -12,9 +12,9 @@ use Rattle.cd_match.specs.Matchers.{route_sets}
 use Rattle.cd_routes.specs.Reading.{routes, route, step, subroute, error_routes}
 use Rattle.cd_routes.specs.declared.route.Route.{Route}
 
-if_same : {A : Type 0} (b : Bool) (x y z : A) → x ≡ y → (if b then x else z) ≡ (if b then y else z)
-if_same true x y z e = e
-if_same false x y z e = refl
+pub if_same : {A : Type 0} (b : Bool) (x y z w : A) → x ≡ y → z ≡ w → (if b then x else z) ≡ (if b then y else w)
+if_same true x y z w e f = e
+if_same false x y z w e f = f
 
 errors-same : (f g : Reader (List Route)) (n : ℕ) → Agree n f g → Agree n (error_routes f) (error_routes g)
 unfolding error_routes
@@ -35,7 +35,7 @@ step-same : (f g : Reader (List Route)) (n : ℕ) → Agree n f g → Agree n (s
 unfolding step
 step-same f g n a = record {
   same = λ s p h. ▷-same (name_of (codes "handler") s p) (name_of (codes "handler") s p) _ _ refl (λ name.
-      if_same (bytes_eq name (codes "subroute")) _ _ _ (▷-same (subroute f s p) (subroute g s p) _ _ ((subroute-same f g n a).same s p h) (λ x. refl)));
+      if_same (bytes_eq name (codes "subroute")) _ _ _ _ (▷-same (subroute f s p) (subroute g s p) _ _ ((subroute-same f g n a).same s p h) (λ x. refl)) refl);
 }
 
 steps-same : (f g : Reader (List Route)) (n : ℕ) → Agree n f g → Agree n (list_of (step f)) (list_of (step g))
@@ -50,7 +50,7 @@ route-same f g n a = record {
       ▷-same (optional (list_of (step f)) (codes "handle") ms p) (optional (list_of (step g)) (codes "handle") ms p) _ _ (optional-same (list_of (step f)) (list_of (step g)) n (steps-same f g n a) (codes "handle") ms p w) (λ steps. refl))));
 }
 
-routes-inward : Inward (λ inner. list_of (route inner))
+pub routes-inward : Inward (λ inner. list_of (route inner))
 routes-inward = record { same = λ f g t at a. list_of-same (route f) (route g) (depth t) (route-same f g (depth t) a) t at (omega arith) }
 
 pub routes_are : (t : Tree) (at : Path) → routes t at ≡ list_of (route routes) t at

@@ -1,4 +1,5 @@
 ghost use Rattle.std.specs.Prelude.{◌≡◌, ◌&&◌, not, ◌≤◌, codes, length, Ok, IsTrue, List, if◌then◌else◌, map, option_map};
+ghost use Rattle.cd_module.specs.Bare.{bare};
 ghost use Rattle.cd_module.specs.Settings.{list_of, name_of, object_of};
 ghost use Rattle.cd_fill.specs.declared.scene.Scene.{Scene};
 ghost use Rattle.cd_match.specs.Holds.{holds};
@@ -23,6 +24,15 @@ pub fn routes_are(tree: &Tree, at: &Path)
     ensures { routes tree.now at.now ≡ list_of (route routes) tree.now at.now }
 {
     let _ = tree;
+    let _ = at;
+}
+
+/// Ids make no difference to routes: trees that differ in ids alone are read alike, with the same routes or the same first fault.
+pub fn routes_see_no_ids(tree: &Tree, other: &Tree, at: &Path)
+    ensures { bare tree.now ≡ bare other.now → routes tree.now at.now ≡ routes other.now at.now }
+{
+    let _ = tree;
+    let _ = other;
     let _ = at;
 }
 
@@ -63,6 +73,17 @@ pub fn servers_are_named_and_listen(name: &Text, tree: &Tree, at: &Path)
 {
     let _ = name;
     let _ = tree;
+    let _ = at;
+}
+
+/// Ids make no difference to a server: trees that differ in ids alone are read alike, with the same server or the same first
+/// fault.
+pub fn servers_see_no_ids(name: &Text, tree: &Tree, other: &Tree, at: &Path)
+    ensures { bare tree.now ≡ bare other.now → server name.now tree.now at.now ≡ server name.now other.now at.now }
+{
+    let _ = name;
+    let _ = tree;
+    let _ = other;
     let _ = at;
 }
 

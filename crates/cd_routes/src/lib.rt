@@ -2,7 +2,8 @@
 //!
 //! A `Server` is read out of a configuration by its name, with its addresses, its routes, the routes inside them, and its error
 //! routes; `routes_are` is the law by which routes are read in one another (specs/Reading.antt, specs/Server.antt). A route, a
-//! handler and a subroute are also read by themselves, and tell the names of their modules (specs/Names.antt).
+//! handler and a subroute are also read by themselves, and tell the names of their modules (specs/Names.antt). Trees that
+//! differ in ids alone are the same server (laws.rt).
 //!
 //! `server_answer` gives what the definition of specs/Serving.antt gives, and nothing else unless memory runs out. What a
 //! route means is in specs/Running.antt: each route and each step of it is told by what it does to what follows it, so a
@@ -27,8 +28,8 @@ mod serving;
 mod work;
 
 pub use laws::{
-    a_route_does, a_step_does, names_of_servers_rise, routes_are, servers_are_named_and_listen,
-    steps_have_their_names,
+    a_route_does, a_step_does, names_of_servers_rise, routes_are, routes_see_no_ids,
+    servers_are_named_and_listen, servers_see_no_ids, steps_have_their_names,
 };
 pub use listen::{Listen, ListenText};
 pub use outcome::Outcome;
