@@ -12,7 +12,7 @@ ghost use Rattle.cd_serve.specs.Stepping.{GoesOn, IsOver, Steps, RisesBy, Halted
 use crate::cause::Cause;
 use crate::connection_end::ConnectionEnd;
 use crate::request::serve_request;
-use crate::session::{Session, after_request, read_more, refuse};
+use crate::session::{READ_BYTES, Session, after_request, read_more, refuse};
 use cd_admin::Administered;
 use cd_gate::Pass;
 use cd_hall::Hall;
@@ -69,6 +69,7 @@ fn serve_requests<R: Wait, M: Administered, F: Fixtures, L: Lane>(
         intake: Intake::new(alloc),
         ended: false,
         answered: 0,
+        buffer: [0; READ_BYTES],
     };
     for _ in rt.forever() {
         match serve_next(rt, alloc, hall, pass, lane, at, &mut session) {

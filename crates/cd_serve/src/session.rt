@@ -23,6 +23,9 @@ use cd_outside::{Given, Lane, Taken};
 use cd_text::NoMemory;
 use cd_wire::{Intake, WireFault, refusal};
 
+/// How many bytes are read at once, at most.
+pub(crate) const READ_BYTES: usize = 4_096;
+
 /// What is known of a connection while it is served.
 #[derive(Drop)]
 pub(crate) struct Session {
@@ -32,6 +35,8 @@ pub(crate) struct Session {
     pub ended: bool,
     /// How many of its requests were answered. It stays at 2^64 - 1.
     pub answered: u64,
+    /// Where bytes are read to. It is kept from one read to the next, since a new one would be filled with zeros each time.
+    pub buffer: [u8; READ_BYTES],
 }
 
 impl Session {
@@ -121,10 +126,9 @@ fn take_more<T: Stands, L: Lane>(session: &mut Session, lane: &mut L) -> Option<
     ensures cause { RisesBy result (L.faults lane.old) (L.faults lane.new) }
     ensures halted { (halted : Bool) → HaltedBy result halted }
 {
-    let mut buffer = [0u8; 4_096];
-    match lane.read(&mut buffer) {
+    match lane.read(&mut session.buffer) {
         Taken::Bytes(count) => {
-            match session.intake.push(&buffer[..count]) {
+            match session.intake.push(&session.buffer[..count]) {
                 Ok(()) => None,
                 Err(NoMemory) => Some(session.end(Cause::Lacking)),
             }
