@@ -1,9 +1,11 @@
 -- Where a head ends in the bytes that begin with it.
-use Rattle.std.proofs.Common.{◌≡◌, ℕ, ◌<◌, ◌+◌, ◌==◌, get_or, Bool, true, false, ◌||◌, IsTrue, if◌then◌else◌, List, [], ◌∷◌, ◌++◌, length, take, drop, refl, sym, ap, ◌∙◌, subst, arith, append_assoc}
+use Rattle.std.proofs.Common.{◌≡◌, ℕ, zero, suc, ◌<◌, ◌+◌, ◌==◌, get_or, Bool, true, false, ◌||◌, IsTrue, if◌then◌else◌, List, [], ◌∷◌, ◌++◌, length, take, drop, Option, None, Some, unwrap_or, refl, sym, ap, ◌∙◌, subst, arith, append_assoc}
 use Rattle.std.proofs.lemmas.Bool.{eqb-true}
+use Rattle.std.proofs.Math.Seq.{take-add}
 use Rattle.std.proofs.lemmas.List.{take-append-drop, take_more}
 use Rattle.std.proofs.lemmas.List.Elements.{All-head}
 use Rattle.std.specs.List.{flat_map}
+use Rattle.memchr.specs.Find.{Nowhere, Passes, is_byte, IsFirstByte}
 use Rattle.httparse.specs.Ascii.{colon, space}
 use Rattle.httparse.specs.Grammar.{LineEnd, crlf, lf, print_end, print_blank, Field, print_field, print_section, RequestHead, IsRequestHead, print_request, print_version, IsToken, is_token_byte}
 use Rattle.cd_wire.specs.declared.scanning.Line.{Line}
@@ -14,6 +16,29 @@ use Rattle.cd_wire.specs.Scanning.{step, scan, is_over}
 pub scan-append : (line : Line) (xs ys : List ℕ) → scan line (xs ++ ys) ≡ scan (scan line xs) ys
 scan-append line [] ys = refl
 scan-append line (x ∷ xs) ys = scan-append (step line x) xs ys
+
+-- m bytes more, which leave the line as it is
+pub scan_stays : (line : Line) (xs : List ℕ) (n m : ℕ) → scan Blank (take n xs) ≡ line → scan line (take m (drop n xs)) ≡ line → scan Blank (take (n + m) xs) ≡ line
+scan_stays line xs n m here on =
+    ap (scan Blank) (take-add n m xs) ∙ scan-append Blank (take n xs) (take m (drop n xs))
+    ∙ ap (λ (l : Line). scan l (take m (drop n xs))) here ∙ on
+
+-- a line stays one where no LF comes
+line_stays : (xs : List ℕ) (n : ℕ) → Nowhere (Passes (is_byte 10) xs) 0 n → scan Inside (take n xs) ≡ Inside
+line_stays xs zero none = refl
+line_stays [] (suc n) none = refl
+line_stays (x ∷ xs) (suc n) none =
+    ap (λ (l : Line). scan l (take n xs)) (by_test (x == 10) refl)
+    ∙ line_stays xs n (λ k low high is. none (suc k) (omega arith) (omega (arith, high)) is)
+  where
+    by_test : (b : Bool) → (x == 10) ≡ b → (if b then Ended else Inside) ≡ Inside
+    by_test true is = absurd (none 0 (omega arith) (omega arith) is)
+    by_test false is = refl
+
+-- and so up to the first LF
+pub line_goes_on : (xs : List ℕ) (r : Option ℕ) → IsFirstByte (is_byte 10) xs r → scan Inside (take (unwrap_or r (length xs)) xs) ≡ Inside
+line_goes_on xs None first = line_stays xs (length xs) first
+line_goes_on xs (Some n) first = line_stays xs n first.0.before
 
 -- one byte more
 pub scan_more : (line : Line) (xs : List ℕ) (n d : ℕ) → n < length xs → scan line (take (n + 1) xs) ≡ step (scan line (take n xs)) (get_or xs n d)

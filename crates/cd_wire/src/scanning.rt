@@ -1,7 +1,10 @@
 //! Where heads end: a head is parsed once its last line has come, and not at each byte.
-ghost use Rattle.std.specs.Prelude.{◌≡◌, ◌≤◌, ◌⊎◌, true, length, take};
+ghost use Rattle.std.specs.Prelude.{◌≡◌, ◌<◌, ◌≤◌, ◌⊎◌, true, length, slice_index, take};
 ghost use Rattle.cd_wire.specs.declared.scanning.Line.TheVariants as place;
 ghost use Rattle.cd_wire.specs.Scanning.{step, scan, is_over};
+
+use crate::texts::rest_from;
+use memchr::memchr;
 
 /// Where the bytes of a head stand.
 #[derive(Clone, Copy, Debug, PartialEq, Eq, Drop)]
@@ -75,6 +78,27 @@ fn step(line: Line, byte: u8) -> Line
     }
 }
 
+// How many bytes of a line come before its LF, or how many there are.
+#[tactic(auto, using(crate::proofs::ScanLemmas::line_goes_on))]
+fn line_end(bytes: &[u8]) -> usize
+    ensures within { result ≤ length bytes.now }
+    ensures inside { scan place.Inside (take result bytes.now) ≡ place.Inside }
+    ensures stops { result < length bytes.now → slice_index bytes.now result ≡ 10 }
+{
+    memchr(b'\n', bytes).unwrap_or(bytes.len())
+}
+
+// How many bytes leave the line as it is. Outside a line the next byte is looked at by itself.
+fn unchanged(line: Line, bytes: &[u8]) -> usize
+    ensures within { result ≤ length bytes.now }
+    ensures stays { scan line (take result bytes.now) ≡ line }
+{
+    match line {
+        Line::Inside => line_end(bytes),
+        Line::Blank | Line::Ended | Line::EndedCr | Line::Over => 0,
+    }
+}
+
 /// Looks at more bytes, up to the end of the head or of the bytes.
 #[tactic(auto, using(crate::proofs::ScanLemmas::scan_more))]
 pub(crate) fn scan_on(bytes: &[u8], from: Scanned) -> Scanned
@@ -92,6 +116,7 @@ pub(crate) fn scan_on(bytes: &[u8], from: Scanned) -> Scanned
         }
         line = step(line, bytes[count]);
         count += 1;
+        count += unchanged(line, rest_from(bytes, count));
     }
     Scanned { count, line }
 }
