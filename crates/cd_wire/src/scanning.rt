@@ -1,4 +1,4 @@
-//! Where heads end: a head is parsed once its last line has come, and not at each byte.
+//! Where heads end: a head that comes in pieces is parsed once its last line has come, and not at each byte.
 ghost use Rattle.std.specs.Prelude.{◌≡◌, ◌<◌, ◌≤◌, ◌⊎◌, true, length, slice_index, take};
 ghost use Rattle.cd_wire.specs.declared.scanning.Line.TheVariants as place;
 ghost use Rattle.cd_wire.specs.Scanning.{step, scan, is_over};

@@ -152,8 +152,8 @@ fn is_due(len: usize, parsed: usize) -> bool
     len - parsed > parsed
 }
 
-// What an input begins with, where its head was looked for so far. It is parsed where a head may have ended, and where it is
-// due, so that bytes that never become a head are refused early.
+// What an input begins with, where its head was looked for so far. It is parsed where that is due, so that bytes that never become
+// a head are refused early, and else where a head may have ended. So a head that comes at once is not looked through before.
 fn search_on(alloc: Global, bytes: &[u8], ended: bool, search: Search) -> Result<Begun, NoMemory>
     requires { IsSearch bytes.now search }
     ensures { IfOk result (IsBegun bytes.now ended) }
@@ -161,8 +161,11 @@ fn search_on(alloc: Global, bytes: &[u8], ended: bool, search: Search) -> Result
     if bytes.is_empty() {
         return Ok(no_input(ended));
     }
+    if is_due(bytes.len(), search.parsed) {
+        return parse_front(alloc, bytes, ended, search.scanned);
+    }
     let scanned = scan_on(bytes, search.scanned);
-    if is_over(scanned.line) || is_due(bytes.len(), search.parsed) {
+    if is_over(scanned.line) {
         return parse_front(alloc, bytes, ended, scanned);
     }
     let parsed = search.parsed;
