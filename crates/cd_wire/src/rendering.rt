@@ -54,18 +54,27 @@ fn put(out: &mut Vec<u8>, bytes: &[u8]) -> Result<(), NoMemory>
     Ok(())
 }
 
+// Raises the first letter of each word.
+fn title(name: &mut [u8])
+    ensures { name.new ≡ titled true name.old }
+{
+    let mut begins = true;
+    for byte in name.iter_mut() {
+        let ends = *byte == b'-';
+        if begins {
+            *byte = byte.to_ascii_uppercase();
+        }
+        begins = ends;
+    }
+}
+
+// The name is written at once, and changed where it then is: a push for each byte would look for room each time.
 fn put_titled(out: &mut Vec<u8>, name: &[u8]) -> Result<(), NoMemory>
     ensures { OnOk result (out.new.items ≡ out.old.items ++ titled true name.now) }
 {
-    let mut begins = true;
-    for byte in name {
-        out.push(if begins {
-            byte.to_ascii_uppercase()
-        } else {
-            *byte
-        })?;
-        begins = *byte == b'-';
-    }
+    let start = out.len();
+    put(out, name)?;
+    title(&mut out.as_mut_slice()[start..]);
     Ok(())
 }
 
@@ -79,12 +88,21 @@ fn clean_byte(byte: u8) -> u8
     }
 }
 
+fn clean(value: &mut [u8])
+    ensures { value.new ≡ map clean_byte value.old }
+{
+    for byte in value.iter_mut() {
+        *byte = clean_byte(*byte);
+    }
+}
+
+// Like a name, the value is written at once.
 fn put_clean(out: &mut Vec<u8>, value: &[u8]) -> Result<(), NoMemory>
     ensures { OnOk result (out.new.items ≡ out.old.items ++ map clean_byte value.now) }
 {
-    for byte in value {
-        out.push(clean_byte(*byte))?;
-    }
+    let start = out.len();
+    put(out, value)?;
+    clean(&mut out.as_mut_slice()[start..]);
     Ok(())
 }
 
