@@ -1,7 +1,7 @@
 //! Texts in which a `*` stands for any bytes.
 ghost use Rattle.std.specs.Prelude.{◌≡◌, ◌-◌, IfOk, length, take, drop, nat_eq};
 ghost use Rattle.std.specs.List.{starts_with, ends_with};
-ghost use Rattle.std.specs.Str.{bytes_eq, str_to_ascii_lowercase};
+ghost use Rattle.std.specs.Str.{str_eq_ignore_ascii_case, str_to_ascii_lowercase};
 ghost use Rattle.cd_module.specs.Patterns.{star_first, star_last, but_last, behind_star, pattern_of, pattern, literal, stands_in, lowered, fits, fits_in_any_case};
 
 use crate::fault::{LoadFault, LoadKind};
@@ -78,18 +78,34 @@ fn stands_in(part: &[u8], text: &[u8]) -> bool
     true
 }
 
+// Whether both are the same, where the case of ASCII letters does not count. Bytes are the same as they stand more often than
+// in another case, so this is asked first.
+fn same_in_any_case(one: &[u8], other: &[u8]) -> bool
+    ensures { result ≡ str_eq_ignore_ascii_case one.now other.now }
+{
+    let (mut left, mut right) = (one, other);
+    while let ([a, others @ ..], [b, behind @ ..]) = (left, right) {
+        if a != b && !a.eq_ignore_ascii_case(b) {
+            return false;
+        }
+        left = others;
+        right = behind;
+    }
+    left.is_empty() && right.is_empty()
+}
+
 /// Whether a text begins so, where the case of ASCII letters does not count. It takes no memory.
 pub fn starts_in_any_case(text: &[u8], start: &[u8]) -> bool
     ensures { result ≡ starts_with nat_eq (str_to_ascii_lowercase text.now) (str_to_ascii_lowercase start.now) }
 {
-    start.eq_ignore_ascii_case(front(text, start.len()))
+    same_in_any_case(start, front(text, start.len()))
 }
 
 /// Whether a text ends so, where the case of ASCII letters does not count. It takes no memory.
 pub fn ends_in_any_case(text: &[u8], ending: &[u8]) -> bool
     ensures { result ≡ ends_with nat_eq (str_to_ascii_lowercase text.now) (str_to_ascii_lowercase ending.now) }
 {
-    ending.eq_ignore_ascii_case(end(text, ending.len()))
+    same_in_any_case(ending, end(text, ending.len()))
 }
 
 // The same as `stands_in`, with case ignored.
@@ -152,7 +168,7 @@ impl Pattern {
         ensures { result ≡ fits_in_any_case self.now text.now }
     {
         match self {
-            Pattern::Exact(all) => text.eq_ignore_ascii_case(all.as_slice()),
+            Pattern::Exact(all) => same_in_any_case(text, all.as_slice()),
             Pattern::Prefix(front) => starts_in_any_case(text, front.as_slice()),
             Pattern::Suffix(end) => ends_in_any_case(text, end.as_slice()),
             Pattern::Part(part) => stands_in_any_case(part.as_slice(), text),
