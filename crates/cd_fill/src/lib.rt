@@ -42,6 +42,6 @@ pub use lent::{Lent, copy_fields};
 pub use limits::MAX_FILLED_BYTES;
 pub use parts::{rest_from, split_at_byte};
 pub use request_line::RequestLine;
-pub use scene::Scene;
+pub use scene::{Scene, let_go, response_of};
 pub use uri::{with_slash, with_slash_before};
 pub use variable::{Variable, value_of_variable};

@@ -94,3 +94,19 @@ impl<'r> Scene<'r> {
         }
     }
 }
+
+// A scene is let go of in these two functions alone. Each place where one is costs the proof seconds, and so does a `?` while
+// one is owned.
+
+/// Lets a scene go, where memory is wanting or nothing asks for it any more.
+pub fn let_go(scene: Scene<'_>) -> NoMemory {
+    let _scene = scene;
+    NoMemory
+}
+
+/// The fields that the answer is to have, of which alone the scene is still wanted.
+pub fn response_of(scene: Scene<'_>) -> List<Field>
+    ensures { result ≡ scene.entry.response }
+{
+    scene.response
+}

@@ -4,8 +4,8 @@ ghost use Rattle.cd_handlers.specs.declared.fault.HandlerFault.{HandlerFault};
 ghost use Rattle.cd_handlers.specs.declared.outcome.Effect.TheVariants as does;
 
 use crate::fault::HandlerFault;
-use crate::outcome::{Effect, let_go};
-use cd_fill::Scene;
+use crate::outcome::Effect;
+use cd_fill::{Scene, let_go};
 use cd_text::{NoMemory, Octets};
 use std::alloc::Global;
 

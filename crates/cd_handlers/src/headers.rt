@@ -13,8 +13,8 @@ use crate::changes::{Changes, FilledChanges, FilledValues, Side, changed_by, val
 use crate::failing::failed;
 use crate::fault::HandlerFault;
 use crate::field_values::{FieldList, RequestFieldList, fields_or_none, request_fields_or_none};
-use crate::outcome::{Deed, Effect, alone, let_go};
-use cd_fill::{Lent, Scene};
+use crate::outcome::{Deed, Effect, alone};
+use cd_fill::{Lent, Scene, let_go};
 use cd_module::{LoadFault, Pattern, Settings, fields_of, optional};
 use cd_text::{List, NoMemory};
 use cd_tree::{Path, Tree};

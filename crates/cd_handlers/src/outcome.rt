@@ -2,8 +2,8 @@ ghost use Rattle.std.specs.Prelude.{◌≡◌, None};
 
 use crate::changes::FilledChanges;
 use cd_fill::Scene;
-use cd_text::{List, NoMemory, Octets};
-use cd_wire::{Answer, Field};
+use cd_text::Octets;
+use cd_wire::Answer;
 
 /// What a handler does by itself.
 #[derive(Debug, Drop)]
@@ -32,20 +32,4 @@ pub(crate) fn alone<'a, 'r>(effect: Effect<'r>) -> Deed<'a, 'r>
         effect,
         changes: None,
     }
-}
-
-// A scene is let go of in these two functions alone. Each place where one is costs the proof seconds, and so does a `?` while
-// one is owned.
-
-/// Lets the scene go, where memory is wanting.
-pub(crate) fn let_go(scene: Scene<'_>) -> NoMemory {
-    let _scene = scene;
-    NoMemory
-}
-
-/// The fields that the answer is to have, of which alone the scene is still wanted.
-pub(crate) fn response_of(scene: Scene<'_>) -> List<Field>
-    ensures { result ≡ scene.entry.response }
-{
-    scene.response
 }

@@ -6,8 +6,8 @@ ghost use Rattle.cd_handlers.specs.Vars.{variables, setting_text, setting, vars,
 
 use crate::failing::failed;
 use crate::filling::text_filled;
-use crate::outcome::{Effect, let_go};
-use cd_fill::{Scene, Variable};
+use crate::outcome::Effect;
+use cd_fill::{Scene, Variable, let_go};
 use cd_module::{LoadFault, LoadKind, Named, Settings, object_by_name};
 use cd_text::{List, NoMemory, Octets, Text};
 use cd_tree::{Num, Path, Tree};

@@ -1,10 +1,9 @@
 -- What is written on the program's own output.
 use Rattle.std.specs.Prelude.{◌≡◌, ◌<◌, ◌++◌, ℕ, List, length, codes, decimal, Option, Some, option_map}
 use Rattle.cd_outside.specs.declared.key.Key.{Key}
-use Rattle.cd_outside.specs.declared.key.Key.TheVariants.{Listen, Writer}
 use Rattle.cd_outside.specs.declared.given.Given.TheVariants as given
 use Rattle.cd_outside.specs.Given.{IsGivenOf}
-use Rattle.cd_addr.specs.Addresses.{written}
+use Rattle.cd_serve.specs.Faults.{key_words}
 use Rattle.cd_host.specs.Hosting.{serving_line}
 
 -- so many requests were answered under so many configurations
@@ -18,11 +17,6 @@ run_text answered published = serving_line ++ served_line answered published
 -- the line of a refusal in these words
 abbrev pub refused_line : List ℕ → List ℕ
 refused_line words = codes "refused: " ++ words ++ codes "\n"
-
--- what a line calls a key
-abbrev pub key_words : Key → List ℕ
-key_words (Listen address) = codes "listen " ++ written address
-key_words (Writer name) = codes "writer " ++ name
 
 -- the line for a key that can't be opened
 abbrev pub unopened_line : Key → List ℕ

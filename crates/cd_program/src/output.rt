@@ -1,12 +1,13 @@
 ghost use Rattle.std.specs.Prelude.{◌≡◌, ◌<◌, ◌++◌, codes, length, IfOk};
 ghost use Rattle.cd_outside.specs.Counts.{Rose};
 ghost use Rattle.cd_program.specs.Configuration.{words_of};
-ghost use Rattle.cd_program.specs.Output.{Wrote, key_words, served_line, refused_line, unopened_line};
+ghost use Rattle.cd_serve.specs.Faults.{key_words};
+ghost use Rattle.cd_program.specs.Output.{Wrote, served_line, refused_line, unopened_line};
 
 use crate::refusal::{Refusal, fault_words};
-use cd_addr::write;
 use cd_host::say;
 use cd_outside::{Given, Key, Sink};
+use cd_serve::key_words;
 use cd_text::{NoMemory, Text};
 use std::alloc::Global;
 
@@ -52,13 +53,8 @@ pub fn refused_line(alloc: Global, refusal: &Refusal) -> Result<Text, NoMemory>
 fn unopened_words(alloc: Global, key: &Key) -> Result<Text, NoMemory>
     ensures { IfOk result (λ words. words ≡ codes "cannot open " ++ key_words key.now) }
 {
-    let words = match key {
-        Key::Listen(address) => {
-            let address = write(alloc, address)?;
-            format!(in alloc; "cannot open listen {}", address.as_str())?
-        }
-        Key::Writer(name) => format!(in alloc; "cannot open writer {}", name.as_str())?,
-    };
+    let key = key_words(alloc, key)?;
+    let words = format!(in alloc; "cannot open {}", key.as_str())?;
     Ok(Text::from_string(words))
 }
 

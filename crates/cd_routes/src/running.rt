@@ -6,10 +6,10 @@ ghost use Rattle.cd_routes.specs.declared.work.Work.TheVariants.{Routes};
 ghost use Rattle.cd_routes.specs.Running.{Rest, nothing_left, with_changes, after, handled, caught, is_taken, with_group, with_error, run_route, run_routes, run_step, run_steps};
 ghost use Rattle.cd_routes.specs.Work.{done, all_changes, weight, route_weight, step_weight, told, weight_left, total, subroute_weight};
 
-use crate::outcome::{Outcome, bare_answer, let_go, response_of};
+use crate::outcome::{Outcome, bare_answer};
 use crate::route::{Route, Step, Subroute};
 use crate::work::{Progress, Work, behind, first_of, take_next};
-use cd_fill::{Failure, Scene};
+use cd_fill::{Failure, Scene, let_go, response_of};
 use cd_handlers::{Deed, Effect, FilledChanges, Handler, changed, deed, usual_status};
 use cd_match::is_listed;
 use cd_text::{List, NoMemory, Octets, Text};

@@ -2,11 +2,11 @@ ghost use Rattle.std.specs.Prelude.{◌≡◌, IfOk};
 ghost use Rattle.cd_routes.specs.Running.{nothing_left, run_routes, with_error};
 ghost use Rattle.cd_routes.specs.Serving.{answer_from, error_answer, restored, server_answer};
 
-use crate::outcome::{Outcome, bare_answer, let_go, response_of};
+use crate::outcome::{Outcome, bare_answer};
 use crate::route::Route;
 use crate::running::{run_routes, with_error};
 use crate::server::Server;
-use cd_fill::{Scene, copy_fields};
+use cd_fill::{Scene, copy_fields, let_go, response_of};
 use cd_text::{NoMemory, Octets};
 use cd_wire::{Answer, Request};
 use std::alloc::Global;

@@ -11,7 +11,7 @@ use cd_wire::Answer;
 use std::alloc::Global;
 
 /// What kind of key it is, and its name, as `listen localhost:2019` or `writer stdout`.
-fn key_words(alloc: Global, key: &Key) -> Result<Text, NoMemory>
+pub fn key_words(alloc: Global, key: &Key) -> Result<Text, NoMemory>
     ensures { IfOk result (λ made. made ≡ key_words key.now) }
 {
     let text = match key {

@@ -41,7 +41,7 @@ mod responding;
 mod sending;
 mod session;
 
-pub use answering::halted_answer;
+pub use answering::{halted_answer, key_words};
 pub use attempting::{Attempt, attempt_change};
 pub use cause::Cause;
 pub use connection::serve_connection;
