@@ -1,5 +1,5 @@
 -- Null has no ids.
-use Rattle.std.proofs.Common.{◌≡◌, true, refl, sym, ap, ◌∙◌, rules}
+use Rattle.std.proofs.Common.{◌≡◌, true, sym, ap, ◌∙◌, rules}
 use Rattle.std.specs.Prelude.{None}
 use Rattle.cd_tree.specs.Fields.{is_null, null_layer}
 use Rattle.cd_tree.specs.declared.tree.Member.{Member}

@@ -1,5 +1,5 @@
 -- The last `{` of a piece, found from its end.
-use Rattle.std.proofs.Common.{◌≡◌, ℕ, ◌+◌, ◌-◌, ◌<◌, ◌≤◌, true, false, not, List, length, take, drop, get_or, refl, ap, arith}
+use Rattle.std.proofs.Common.{◌≡◌, ℕ, ◌+◌, ◌-◌, ◌<◌, ◌≤◌, true, false, not, List, length, take, drop, get_or, refl, ap, arith, rules}
 use Rattle.std.specs.List.{list_any, before_last, after_last, suffix_len}
 use Rattle.std.proofs.lemmas.List.Recursion.{or_from_places}
 use Rattle.std.proofs.lemmas.Grind.{common_steps}
@@ -8,8 +8,7 @@ use Rattle.std.proofs.lemmas.List.Folds.{list_any-from_Any}
 use Rattle.cd_fill.specs.Filling.{open_brace}
 
 open_after : (xs : List ℕ) (n : ℕ) → 0 < n → n ≤ length xs → ((k : ℕ) → n ≤ k → k < length xs → open_brace (get_or xs k 0) ≡ false) → open_brace (get_or xs (n - 1) 0) ≡ true → suffix_len (λ x. not (open_brace x)) xs ≡ length xs - n
-open_after xs n some within later here =
-    suffix_len_is (λ x. not (open_brace x)) xs n 0 within (λ k low high. ap not (later k low high)) (λ _. ap not here)
+open_after xs n some within later here = search (rules, suffix_len_is)
 
 pub last_before : (xs : List ℕ) (n : ℕ) → 0 < n → n ≤ length xs → ((k : ℕ) → n ≤ k → k < length xs → open_brace (get_or xs k 0) ≡ false) → open_brace (get_or xs (n - 1) 0) ≡ true → before_last open_brace xs ≡ take (n - 1) xs
 last_before xs n some within later here =

@@ -1,9 +1,8 @@
 -- Meant bytes as a text, character by character.
-use Rattle.std.proofs.Common.{◌≡◌, ℕ, ◌<◌, ◌≤◌, ◌-◌, false, List, [], ◌∷◌, ◌++◌, length, take, drop, refl, ap, sym, ◌∙◌, arith, encode_utf8, encode_utf8_all}
-use Rattle.std.specs.Prelude.{zero, suc, nat_lt, slice_index, ◌==◌}
+use Rattle.std.proofs.Common.{◌≡◌, ℕ, ◌<◌, ◌≤◌, ◌-◌, List, ◌∷◌, ◌++◌, length, take, drop, ap, sym, ◌∙◌, arith, encode_utf8, encode_utf8_all, rules}
 use Rattle.std.specs.Str.Lossy.{utf8_lossy}
 use Rattle.std.proofs.lemmas.Bool.Decides.{nat_tests}
-use Rattle.bstr.specs.Utf8.{Decoded, decoded, decoded_by, good, or_replacement}
+use Rattle.bstr.specs.Utf8.{Decoded, decoded, decoded_by, or_replacement}
 use Rattle.bstr.proofs.lemmas.PieceLemmas.{lossy_chars-step, piece-bounds, value-1}
 use Rattle.bstr.proofs.lemmas.LossyLemmas.{lossy_chars-utf8_lossy}
 
@@ -16,29 +15,17 @@ step bytes some =
 
 -- where there are four bytes, no more are looked at
 enough : (n a b c d : ℕ) → 4 ≤ n → decoded_by 4 a b c d ≡ decoded_by n a b c d
-enough n a b c d h =
-    let some : (n == 0) ≡ false = grind (arith, nat_tests) in
-    let two : nat_lt n 2 ≡ false = grind (arith, nat_tests) in
-    let three : nat_lt n 3 ≡ false = grind (arith, nat_tests) in
-    let four : nat_lt n 4 ≡ false = grind (arith, nat_tests) in
-    rw (some, two, three, four) refl
+enough n a b c d h = search (rules, nat_tests)
 
 by_four : (bytes : List ℕ) → decoded (take 4 bytes) ≡ decoded bytes
-by_four [] = refl
-by_four (a ∷ []) = refl
-by_four (a ∷ (b ∷ [])) = refl
-by_four (a ∷ (b ∷ (c ∷ []))) = refl
-by_four (a ∷ (b ∷ (c ∷ (d ∷ rest)))) = enough (length (a ∷ (b ∷ (c ∷ (d ∷ rest))))) a b c d (omega arith)
+by_four bytes = search (rules, enough)
 
 -- a piece has a byte
 pub some_size : (byte size : ℕ) (rest front : List ℕ) → front ≡ take 4 (byte ∷ rest) → size ≡ (decoded front).size → 0 < size
-some_size byte size rest front front_is size_is =
-    let same : size ≡ (decoded (byte ∷ rest)).size = size_is ∙ ap (λ (z : List ℕ). (decoded z).size) front_is ∙ ap (λ (z : Decoded). z.size) (by_four (byte ∷ rest)) in
-    omega (arith, same, (piece-bounds (byte ∷ rest) (omega arith)).0)
+some_size byte size rest front front_is size_is = search (rules, by_four, piece-bounds)
 
 behind : (size byte : ℕ) (rest : List ℕ) → 0 < size → drop size (byte ∷ rest) ≡ drop (size - 1) rest
-behind zero byte rest h = absurd (omega arith)
-behind (suc size) byte rest h = let same : suc size - 1 ≡ size = omega arith in rw same refl
+behind size byte rest h = search rules
 
 -- the first character is known by the first four bytes
 pub first_piece : (byte character size : ℕ) (rest front : List ℕ) → front ≡ take 4 (byte ∷ rest) → character ≡ or_replacement (decoded front).char → size ≡ (decoded front).size → utf8_lossy (byte ∷ rest) ≡ encode_utf8 character ++ utf8_lossy (drop (size - 1) rest)
@@ -52,7 +39,4 @@ first_piece byte character size rest front front_is character_is size_is =
 
 -- a byte of ASCII is a character
 pub ascii_first : (byte : ℕ) (rest : List ℕ) → byte < 128 → utf8_lossy (byte ∷ rest) ≡ encode_utf8 byte ++ utf8_lossy rest
-ascii_first byte rest low =
-    let bytes = byte ∷ rest in
-    let known : decoded bytes ≡ good byte 1 = value-1 (length bytes) byte (slice_index bytes 1) (slice_index bytes 2) (slice_index bytes 3) (omega arith, low) in
-    step (byte ∷ rest) (omega arith) ∙ ap (λ (z : Decoded). encode_utf8 (or_replacement z.char) ++ utf8_lossy (drop z.size (byte ∷ rest))) known
+ascii_first byte rest low = search (rules, value-1, step)

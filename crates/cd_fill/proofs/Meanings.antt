@@ -1,11 +1,10 @@
 -- What bytes of a query stand for, byte by byte, and whether that is a text.
-use Rattle.std.proofs.Common.{◌≡◌, ℕ, ◌<◌, ◌+◌, ◌*◌, ◌==◌, ◌&&◌, Bool, true, false, List, [], ◌∷◌, ◌++◌, length, drop, refl, ap, sym, ◌∙◌, arith, encode_utf8}
+use Rattle.std.proofs.Common.{◌≡◌, ℕ, ◌<◌, ◌+◌, ◌*◌, ◌==◌, ◌&&◌, Bool, true, false, List, [], ◌∷◌, ◌++◌, length, drop, refl, ap, sym, ◌∙◌, arith, encode_utf8, rules}
 use Rattle.std.specs.Prelude.{if◌then◌else◌, nat_eq, nat_le, suc, slice_index}
 use Rattle.std.specs.Char.{digit_value, is_digit}
 use Rattle.std.specs.Str.{bytes_eq}
-use Rattle.std.proofs.lemmas.Bool.{and_parts, eqb-true, false_from_ne_true}
+use Rattle.std.proofs.lemmas.Bool.{and_parts, eqb-true}
 use Rattle.std.proofs.lemmas.Bool.Decides.{nat_tests}
-use Rattle.std.proofs.lemmas.Slice.Eq.{bytes_eq-Decides}
 use Rattle.form_urlencoded.specs.Form.{decode, plus_to_space}
 use Rattle.percent_encoding.specs.Percent.{is_escape, percent_decode}
 use Rattle.cd_fill.specs.Escapes.{begins_escape, escape_value}
@@ -13,19 +12,16 @@ use Rattle.cd_fill.specs.Escapes.{begins_escape, escape_value}
 -- ---- a `+` is in no escape
 
 sign-kept : (a : ℕ) (b : Bool) → (a == 43) ≡ b → ((if b then 32 else a) == 37) ≡ (a == 37)
-sign-kept a true e = rw (eqb-true a 43 e) refl
-sign-kept a false e = refl
+sign-kept a b e = search rules
 
 digit-kept : (a : ℕ) (b : Bool) → (a == 43) ≡ b → is_digit (if b then 32 else a) 16 ≡ is_digit a 16
-digit-kept a true e = rw (eqb-true a 43 e) refl
-digit-kept a false e = refl
+digit-kept a b e = search rules
 
 escape-kept : (a b c : ℕ) → is_escape (plus_to_space a) (plus_to_space b) (plus_to_space c) ≡ is_escape a b c
 escape-kept a b c = rw (sign-kept a (a == 43) refl, digit-kept b (b == 43) refl, digit-kept c (c == 43) refl) refl
 
 same-digit : (a : ℕ) (b : Bool) → (a == 43) ≡ b → is_digit a 16 ≡ true → (if b then 32 else a) ≡ a
-same-digit a true e h = let same : a ≡ 43 = eqb-true a 43 e in let no : is_digit 43 16 ≡ true = ap (λ z. is_digit z 16) (sym same) ∙ h in cc
-same-digit a false e h = refl
+same-digit a b e h = search rules
 
 -- ---- byte by byte
 
@@ -38,16 +34,10 @@ meant_none (a ∷ raw) h = absurd (omega (arith, eqb-true (length (a ∷ raw)) 0
 -- an escape stands for its byte
 escape-first : (a b c : ℕ) (rest : List ℕ) → is_escape a b c ≡ true → decode (a ∷ (b ∷ (c ∷ rest))) ≡ (16 * digit_value b + digit_value c) ∷ decode rest
 unfolding percent_decode
-escape-first a b c rest h =
-    let high : plus_to_space b ≡ b = same-digit b (b == 43) refl (and_parts (a == 37) (is_digit b 16) (and_parts _ _ h).0).1 in
-    let low : plus_to_space c ≡ c = same-digit c (c == 43) refl (and_parts _ (is_digit c 16) h).1 in
-    rw (escape-kept a b c ∙ h, high, low) refl
+escape-first a b c rest h = search rules
 
 pub meant_escape : (raw : List ℕ) → begins_escape raw ≡ true → decode raw ≡ escape_value raw ∷ decode (drop 3 raw)
-meant_escape [] h = cc
-meant_escape (a ∷ []) h = cc
-meant_escape (a ∷ (b ∷ [])) h = cc
-meant_escape (a ∷ (b ∷ (c ∷ rest))) h = escape-first a b c rest (and_parts _ _ h).1
+meant_escape raw h = search (rules, escape-first, and_parts)
 
 -- any other byte stands for itself, and `+` for a space
 plain-first : (a b c : ℕ) (rest : List ℕ) → is_escape a b c ≡ false → decode (a ∷ (b ∷ (c ∷ rest))) ≡ plus_to_space a ∷ decode (b ∷ (c ∷ rest))
@@ -66,14 +56,10 @@ meant_plain (a ∷ (b ∷ (c ∷ rest))) h some = plain-first a b c rest (ap (λ
 
 -- what is left is shorter
 pub escape_length : (raw : List ℕ) → begins_escape raw ≡ true → length (drop 3 raw) < length raw
-escape_length [] h = cc
-escape_length (a ∷ []) h = cc
-escape_length (a ∷ (b ∷ [])) h = cc
-escape_length (a ∷ (b ∷ (c ∷ rest))) h = omega arith
+escape_length raw h = search rules
 
 pub some_length : (raw : List ℕ) → (length raw == 0) ≡ false → length (drop 1 raw) < length raw
-some_length [] some = cc
-some_length (a ∷ raw) some = omega arith
+some_length raw some = search rules
 
 -- ---- compared with a text
 
@@ -82,8 +68,7 @@ not-zero n = grind (arith, nat_tests)
 
 -- no bytes stand for the empty text alone
 pub nothing_meant : (text : List ℕ) → bytes_eq [] text ≡ (length text == 0)
-nothing_meant [] = refl
-nothing_meant (w ∷ text) = sym (not-zero (length text))
+nothing_meant text = search rules
 
 -- behind a front that both have what follows decides
 same-first : (byte : ℕ) (xs ys : List ℕ) → bytes_eq (byte ∷ xs) (byte ∷ ys) ≡ bytes_eq xs ys
@@ -99,5 +84,4 @@ same_character character meant text others rest meant_is text_is = rw (meant_is,
 
 -- another character in the text, or none
 pub other_character : (character : ℕ) (meant text others : List ℕ) → meant ≡ encode_utf8 character ++ others → ((rest : List ℕ) → text ≡ encode_utf8 character ++ rest → ⊥) → bytes_eq meant text ≡ false
-other_character character meant text others meant_is other =
-    false_from_ne_true (bytes_eq meant text) (λ same. other others (sym ((bytes_eq-Decides meant text).0 same) ∙ meant_is))
+other_character character meant text others meant_is other = search rules

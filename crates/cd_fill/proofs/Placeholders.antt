@@ -1,5 +1,5 @@
 -- A placeholder in the midst of a text.
-use Rattle.std.proofs.Common.{◌≡◌, ℕ, zero, suc, ◌+◌, ◌-◌, ◌<◌, ◌≤◌, Bool, true, false, cond, List, [], ◌∷◌, ◌++◌, length, take, drop, get_or, refl, ap, sym, ◌∙◌, arith, length-append, append_assoc, append-nil}
+use Rattle.std.proofs.Common.{◌≡◌, ℕ, suc, ◌+◌, ◌-◌, ◌<◌, ◌≤◌, Bool, true, false, cond, List, [], ◌∷◌, ◌++◌, length, take, drop, get_or, refl, ap, sym, ◌∙◌, arith, length-append, append_assoc, append-nil, rules}
 use Rattle.std.specs.List.{All, slice_split, onto_first, list_any, before_last, after_last}
 use Rattle.std.proofs.Math.Seq.{get_or-append_seam, take-append_seam, drop-append-add}
 use Rattle.std.proofs.lemmas.Bool.{or_parts}
@@ -68,9 +68,7 @@ closed_last form x (piece ∷ next ∷ pieces) name plain some =
 -- ---- cutting at each `}`
 
 behind_step : (closes : Bool) (byte : ℕ) (pieces more : List (List ℕ)) → 0 < length pieces → cond closes ([] ∷ (pieces ++ more)) (onto_first byte (pieces ++ more)) ≡ cond closes ([] ∷ pieces) (onto_first byte pieces) ++ more
-behind_step true byte pieces more some = refl
-behind_step false byte [] more some = absurd (omega arith)
-behind_step false byte (piece ∷ pieces) more some = refl
+behind_step closes byte pieces more some = search rules
 
 cut_behind : (front rest : List ℕ) → slice_split close_brace (front ++ 125 ∷ rest) ≡ slice_split close_brace front ++ slice_split close_brace rest
 cut_behind [] rest = refl
@@ -79,11 +77,7 @@ cut_behind (byte ∷ front) rest =
     ∙ behind_step (close_brace byte) byte (slice_split close_brace front) (slice_split close_brace rest) (omega (arith, length-slice_split close_brace front))
 
 last_step : (closes : Bool) (byte : ℕ) (more : List ℕ) (pieces : List (List ℕ)) → 0 < length pieces → cond closes ([] ∷ onto_last more pieces) (onto_first byte (onto_last more pieces)) ≡ onto_last more (cond closes ([] ∷ pieces) (onto_first byte pieces))
-last_step true byte more [] some = absurd (omega arith)
-last_step true byte more (piece ∷ pieces) some = refl
-last_step false byte more [] some = absurd (omega arith)
-last_step false byte more (piece ∷ []) some = refl
-last_step false byte more (piece ∷ next ∷ pieces) some = refl
+last_step closes byte more pieces some = search rules
 
 cut_last : (front more : List ℕ) → All (λ byte. close_brace byte ≡ false) more → slice_split close_brace (front ++ more) ≡ onto_last more (slice_split close_brace front)
 cut_last [] more plain = slice_split_none close_brace more plain
@@ -92,8 +86,7 @@ cut_last (byte ∷ front) more plain =
     ∙ last_step (close_brace byte) byte more (slice_split close_brace front) (omega (arith, length-slice_split close_brace front))
 
 plain_name : (name : List ℕ) → All (λ byte. is_brace byte ≡ false) name → (k d : ℕ) → k < length (123 ∷ name) → close_brace (get_or (123 ∷ name) k d) ≡ false
-plain_name name plain zero d within = refl
-plain_name name plain (suc k) d within = (or_parts (open_brace (get_or name k d)) (close_brace (get_or name k d)) (plain k d (omega arith))).1
+plain_name name plain k d within = search (rules, or_parts)
 
 -- a placeholder is replaced, and what stands on its two sides is filled by itself
 pub placeholder_replaced : (form : Form) (x : Scene) (before name after : List ℕ) → All (λ byte. is_brace byte ≡ false) name → filled_as form x (before ++ 123 ∷ (name ++ 125 ∷ after)) ≡ filled_as form x before ++ named form x name ++ filled_as form x after
@@ -112,16 +105,9 @@ unclosed_stays form x text plain = ap (pieces_filled form x) (slice_split_none c
 
 closed_front : (form : Form) (x : Scene) (front : List ℕ) → All (λ byte. is_brace byte ≡ false) front → closed_piece form x front ≡ written form (front ++ 125 ∷ [])
 unfolding closed_piece
-closed_front form x front plain =
-    let none : list_any open_brace front ≡ false = none_open front (λ k _ within. (or_parts (open_brace (get_or front k 0)) (close_brace (get_or front k 0)) (plain k 0 within)).0) in
-    rw none refl
+closed_front form x front plain = search (rules, none_open, or_parts)
 
 -- what a `}` ends that no `{` stands before is as written, and what stands behind it is filled by itself
 pub unopened_stays : (form : Form) (x : Scene) (front rest : List ℕ) → All (λ byte. is_brace byte ≡ false) front → filled_as form x (front ++ 125 ∷ rest) ≡ written form (front ++ 125 ∷ []) ++ filled_as form x rest
 unfolding filled_as
-unopened_stays form x front rest plain =
-    let closes : All (λ byte. close_brace byte ≡ false) front = λ k d within. (or_parts (open_brace (get_or front k d)) (close_brace (get_or front k d)) (plain k d within)).1 in
-    ap (pieces_filled form x) (cut_behind front rest)
-    ∙ ap (λ pieces. pieces_filled form x (pieces ++ slice_split close_brace rest)) (slice_split_none close_brace front closes)
-    ∙ pieces-more form x front (slice_split close_brace rest) (omega (arith, length-slice_split close_brace rest))
-    ∙ ap (λ text. text ++ pieces_filled form x (slice_split close_brace rest)) (closed_front form x front plain)
+unopened_stays form x front rest plain = search (rules, or_parts, cut_behind, slice_split_none, pieces-more, length-slice_split, closed_front)

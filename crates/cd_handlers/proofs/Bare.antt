@@ -1,6 +1,6 @@
 -- Ids make no difference to handlers.
-use Rattle.std.proofs.Common.{◌≡◌, ℕ, List, refl, ap, ◌∙◌, Bool, true, false, Option, Some, None, Result}
-use Rattle.std.specs.Prelude.{codes, if◌then◌else◌}
+use Rattle.std.proofs.Common.{◌≡◌, ℕ, List, refl, ap, ◌∙◌, Option, Some, None, rules}
+use Rattle.std.specs.Prelude.{codes}
 use Rattle.std.specs.Str.{bytes_eq}
 use Rattle.http_header.specs.Token.{lowercase}
 use Rattle.http_header.specs.FieldName.{is_field_name}
@@ -9,11 +9,9 @@ use Rattle.cd_tree.specs.declared.tree.Member.{Member}
 use Rattle.cd_tree.specs.declared.tree.Tree.{Tree, out-Tree}
 use Rattle.cd_tree.specs.declared.tree.Tree.TheOpen.{Tree-F}
 use Rattle.cd_module.specs.Bare.{SeesNoIds}
-use Rattle.cd_module.specs.Patterns.{pattern}
-use Rattle.cd_module.specs.Settings.{text, truth, list_of}
-use Rattle.cd_module.specs.declared.fault.LoadFault.{LoadFault}
+use Rattle.cd_module.specs.Settings.{text}
 use Rattle.cd_module.proofs.Recursion.{▷-same}
-use Rattle.cd_module.proofs.Bare.{bare_layer, out-bare, text-bare, truth-bare, whole-bare, list_of-bare, members-bare, optional-bare, needed-bare, name_of-bare, object_of-bare}
+use Rattle.cd_module.proofs.Bare.{bare_layer, out-bare, if_same, text-bare, pattern-bare, truth-bare, whole-bare, list_of-bare, members-bare, optional-bare, needed-bare, name_of-bare, object_of-bare}
 use Rattle.cd_handlers.specs.Status.{status, status_layer}
 use Rattle.cd_handlers.specs.FieldValues.{field_values, field_list, request_field, request_field_list}
 use Rattle.cd_handlers.specs.Rewrite.{method_text, find_text, limit, substring, rewrite}
@@ -29,44 +27,24 @@ use Rattle.cd_handlers.specs.declared.kind.HandlerKind.TheVariants as kind
 -- ---- values
 
 status-layer : (x : Tree-F Tree Member) (at : Path) → status_layer (bare_layer x) at ≡ status_layer x at
-status-layer Tree-F.Null at = refl
-status-layer (Tree-F.Bool b) at = refl
-status-layer (Tree-F.Num n) at = refl
-status-layer (Tree-F.Text t) at = refl
-status-layer (Tree-F.Items items) at = refl
-status-layer (Tree-F.Object members) at = refl
+status-layer x at = search rules
 
 status-bare : SeesNoIds status
 unfolding status
 status-bare = record { same = λ t at. ap (λ x. status_layer x at) (out-bare t) ∙ status-layer (out-Tree t) at }
 
 setting-layer : (x : Tree-F Tree Member) (at : Path) → text_layer (bare_layer x) at ≡ text_layer x at
-setting-layer Tree-F.Null at = refl
-setting-layer (Tree-F.Bool b) at = refl
-setting-layer (Tree-F.Num n) at = refl
-setting-layer (Tree-F.Text t) at = refl
-setting-layer (Tree-F.Items items) at = refl
-setting-layer (Tree-F.Object members) at = refl
+setting-layer x at = search rules
 
 setting_text-bare : SeesNoIds setting_text
 setting_text-bare = record { same = λ t at. ap (λ x. text_layer x at) (out-bare t) ∙ setting-layer (out-Tree t) at }
 
-pattern-bare : SeesNoIds pattern
-unfolding pattern
-pattern-bare = record { same = λ t at. ▷-same _ _ _ _ (text-bare.same t at) (λ written. refl) }
-
 -- ---- fields
-
--- one reading or the other
-either : {X : Type 0} (b : Bool) (x y z w : Result X LoadFault) → x ≡ y → z ≡ w
-    → (if b then x else z) ≡ (if b then y else w)
-either true x y z w e f = e
-either false x y z w e f = f
 
 field_values-bare : (name : List ℕ) → SeesNoIds (field_values name)
 unfolding field_values
 field_values-bare name = record {
-  same = λ t at. either (is_field_name name) _ _ _ _
+  same = λ t at. if_same (is_field_name name) _ _ _ _
       (▷-same _ _ _ _ ((list_of-bare text text-bare).same t at) (λ values. refl)) refl;
 }
 
@@ -77,7 +55,7 @@ field_list-bare = record { same = λ t at. ▷-same _ _ _ _ ((object_of-bare fie
 request_field-bare : (name : List ℕ) → SeesNoIds (request_field name)
 unfolding request_field
 request_field-bare name = record {
-  same = λ t at. either (bytes_eq (lowercase name) (codes "host")) _ _ _ _ refl
+  same = λ t at. if_same (bytes_eq (lowercase name) (codes "host")) _ _ _ _ refl
       (▷-same _ _ _ _ ((field_values-bare name).same t at) (λ field. refl));
 }
 
@@ -89,40 +67,19 @@ request_field_list-bare = record { same = λ t at. ▷-same _ _ _ _ ((object_of-
 
 static_response-bare : SeesNoIds static_response
 unfolding static_response
-static_response-bare = record {
-  same = λ t at. members-bare (codes "handler status_code headers body close") t at _ _ (λ ms.
-      ▷-same _ _ _ _ (optional-bare status status-bare (codes "status_code") refl ms at) (λ status.
-      ▷-same _ _ _ _ (optional-bare field_list field_list-bare (codes "headers") refl ms at) (λ headers.
-      ▷-same _ _ _ _ (optional-bare text text-bare (codes "body") refl ms at) (λ body.
-      ▷-same _ _ _ _ (optional-bare truth truth-bare (codes "close") refl ms at) (λ close. refl)))));
-}
+static_response-bare = search (rules, members-bare, ▷-same, optional-bare, status-bare, field_list-bare, text-bare, truth-bare)
 
 request_changes-bare : SeesNoIds request_changes
 unfolding request_changes
-request_changes-bare = record {
-  same = λ t at. members-bare (codes "add set delete") t at _ _ (λ ms.
-      ▷-same _ _ _ _ (optional-bare request_field_list request_field_list-bare (codes "add") refl ms at) (λ add.
-      ▷-same _ _ _ _ (optional-bare request_field_list request_field_list-bare (codes "set") refl ms at) (λ set.
-      ▷-same _ _ _ _ (optional-bare (list_of pattern) (list_of-bare pattern pattern-bare) (codes "delete") refl ms at) (λ delete. refl))));
-}
+request_changes-bare = search (rules, members-bare, ▷-same, optional-bare, request_field_list-bare, list_of-bare, pattern-bare)
 
 response_changes-bare : SeesNoIds response_changes
 unfolding response_changes
-response_changes-bare = record {
-  same = λ t at. members-bare (codes "add set delete deferred") t at _ _ (λ ms.
-      ▷-same _ _ _ _ (optional-bare field_list field_list-bare (codes "add") refl ms at) (λ add.
-      ▷-same _ _ _ _ (optional-bare field_list field_list-bare (codes "set") refl ms at) (λ set.
-      ▷-same _ _ _ _ (optional-bare (list_of pattern) (list_of-bare pattern pattern-bare) (codes "delete") refl ms at) (λ delete.
-      ▷-same _ _ _ _ (optional-bare truth truth-bare (codes "deferred") refl ms at) (λ deferred. refl)))));
-}
+response_changes-bare = search (rules, members-bare, ▷-same, optional-bare, field_list-bare, list_of-bare, pattern-bare, truth-bare)
 
 headers-bare : SeesNoIds headers
 unfolding headers
-headers-bare = record {
-  same = λ t at. members-bare (codes "handler request response") t at _ _ (λ ms.
-      ▷-same _ _ _ _ (optional-bare request_changes request_changes-bare (codes "request") refl ms at) (λ request.
-      ▷-same _ _ _ _ (optional-bare response_changes response_changes-bare (codes "response") refl ms at) (λ response. refl)));
-}
+headers-bare = search (rules, members-bare, ▷-same, optional-bare, request_changes-bare, response_changes-bare)
 
 method_text-bare : SeesNoIds method_text
 unfolding method_text
@@ -138,23 +95,11 @@ limit-bare = record { same = λ t at. ▷-same _ _ _ _ (whole-bare.same t at) (�
 
 substring-bare : SeesNoIds substring
 unfolding substring
-substring-bare = record {
-  same = λ t at. members-bare (codes "find replace limit") t at _ _ (λ ms.
-      ▷-same _ _ _ _ (needed-bare find_text find_text-bare (codes "find") refl ms at) (λ find.
-      ▷-same _ _ _ _ (optional-bare text text-bare (codes "replace") refl ms at) (λ replace.
-      ▷-same _ _ _ _ (optional-bare limit limit-bare (codes "limit") refl ms at) (λ limit. refl))));
-}
+substring-bare = search (rules, members-bare, ▷-same, needed-bare, find_text-bare, optional-bare, text-bare, limit-bare)
 
 rewrite-bare : SeesNoIds rewrite
 unfolding rewrite
-rewrite-bare = record {
-  same = λ t at. members-bare (codes "handler method uri strip_path_prefix strip_path_suffix uri_substring") t at _ _ (λ ms.
-      ▷-same _ _ _ _ (optional-bare method_text method_text-bare (codes "method") refl ms at) (λ method.
-      ▷-same _ _ _ _ (optional-bare text text-bare (codes "uri") refl ms at) (λ uri.
-      ▷-same _ _ _ _ (optional-bare text text-bare (codes "strip_path_prefix") refl ms at) (λ prefix.
-      ▷-same _ _ _ _ (optional-bare text text-bare (codes "strip_path_suffix") refl ms at) (λ suffix.
-      ▷-same _ _ _ _ (optional-bare (list_of substring) (list_of-bare substring substring-bare) (codes "uri_substring") refl ms at) (λ substrings. refl))))));
-}
+rewrite-bare = search (rules, members-bare, ▷-same, optional-bare, method_text-bare, text-bare, list_of-bare, substring-bare)
 
 setting-bare : (name : List ℕ) → SeesNoIds (setting name)
 setting-bare name = record { same = λ t at. ▷-same _ _ _ _ (setting_text-bare.same t at) (λ text. refl) }
@@ -165,11 +110,7 @@ vars-bare = record { same = λ t at. ▷-same _ _ _ _ ((object_of-bare setting s
 
 static_error-bare : SeesNoIds static_error
 unfolding static_error
-static_error-bare = record {
-  same = λ t at. members-bare (codes "handler error status_code") t at _ _ (λ ms.
-      ▷-same _ _ _ _ (optional-bare text text-bare (codes "error") refl ms at) (λ message.
-      ▷-same _ _ _ _ (optional-bare status status-bare (codes "status_code") refl ms at) (λ status. refl)));
-}
+static_error-bare = search (rules, members-bare, ▷-same, optional-bare, text-bare, status-bare)
 
 handler_of-bare : (which : HandlerKind) → SeesNoIds (handler_of which)
 unfolding handler_of

@@ -1,5 +1,6 @@
 pub mod FieldLemmas
 pub mod Bare
+pub mod Readers
 pub mod PlainStart
 pub mod Tokens
 pub mod Naming

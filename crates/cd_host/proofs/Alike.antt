@@ -1,5 +1,5 @@
 -- Changes that are alike fit the same histories.
-use Rattle.std.proofs.Common.{◌≡◌, ℕ, List, [], ◌∷◌, slice_get, Option, Some, None, Result, refl, sym, ◌∙◌}
+use Rattle.std.proofs.Common.{◌≡◌, List, [], ◌∷◌, slice_get, Option, Some, None, Result, sym, ◌∙◌}
 use Rattle.std.specs.Prelude.{IfSome}
 use Rattle.cd_tree.specs.declared.tree.Tree.{Tree}
 use Rattle.cd_wire.specs.declared.request.Request.{Request}
@@ -8,7 +8,7 @@ use Rattle.cd_legal.specs.declared.plan.Plan.{Plan}
 use Rattle.cd_legal.specs.declared.entry.Change.{Change}
 use Rattle.cd_legal.specs.declared.entry.Change.TheVariants as change
 use Rattle.cd_legal.specs.declared.entry.Entry.{Entry}
-use Rattle.cd_legal.specs.declared.entry.Entry.TheVariants.{Draft, Publish}
+use Rattle.cd_legal.specs.declared.entry.Entry.TheVariants.{Publish}
 use Rattle.cd_legal.specs.declared.state.State.{State}
 use Rattle.cd_legal.specs.declared.state.Drafted.{Drafted}
 use Rattle.cd_legal.specs.Legal.{after}

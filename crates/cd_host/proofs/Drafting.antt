@@ -1,5 +1,5 @@
 -- The draft of the start, as the calls tell it that make it.
-use Rattle.std.proofs.Common.{◌≡◌, ◌+◌, ◌||◌, ℕ, Bool, cond, eq-eqb, true, false, List, [], ◌∷◌, ◌++◌, length, Some, None, refl, ap, sym, ◌∙◌, subst, arith}
+use Rattle.std.proofs.Common.{◌≡◌, ◌+◌, ◌||◌, ℕ, Bool, cond, eq-eqb, true, false, List, [], ◌∷◌, length, Some, None, refl, ap, sym, ◌∙◌, subst, arith}
 use Rattle.cd_outside.specs.declared.key.Key.{Key}
 use Rattle.cd_tree.specs.declared.tree.Tree.{Tree}
 use Rattle.cd_wire.specs.declared.request.Request.{Request}

@@ -6,9 +6,9 @@ use Rattle.cd_legal.specs.declared.entry.Entry.{Entry}
 use Rattle.cd_legal.specs.declared.entry.Entry.TheVariants.{Made, Started, Stopped, Cleaned, Halt}
 use Rattle.cd_legal.specs.declared.entry.Signed.{Signed}
 use Rattle.cd_legal.specs.declared.state.State.{State}
-use Rattle.cd_legal.specs.Entry.{signed, entries, mine}
+use Rattle.cd_legal.specs.Entry.{entries, mine}
 use Rattle.cd_legal.specs.Legal.{allowed, after, legal_from, state_from, state_at, IsLegal}
-use Rattle.cd_legal.specs.Placed.{Placed, placed_from, placed, placed_entries, met}
+use Rattle.cd_legal.specs.Placed.{Placed, placed_from, placed, placed_entries}
 use Rattle.cd_legal.specs.Runs.{stopped_all, started_in, stopped_of, block_of}
 use Rattle.cd_legal.specs.State.{opening_state, has_number, draft_of}
 use Rattle.cd_legal.specs.Whole.{all_retired}

@@ -6,11 +6,10 @@ use Rattle.cd_outside.specs.declared.key.Key.TheVariants.{Writer}
 use Rattle.cd_tree.specs.declared.tree.Tree.{Tree}
 use Rattle.cd_legal.specs.declared.plan.Plan.{Plan}
 use Rattle.cd_legal.specs.declared.entry.Change.TheVariants as change
-use Rattle.cd_legal.specs.declared.entry.Entry.{Entry}
 use Rattle.cd_legal.specs.declared.entry.Entry.TheVariants.{Draft, Made, Started, Publish, Abandon, Stopped, Begin, Finish, Retire, Cleaned, Halt}
 use Rattle.cd_legal.specs.declared.entry.Signed.{Signed}
 use Rattle.cd_legal.specs.Calls.{failures}
-use Rattle.cd_legal.specs.Entry.{signed, entries, mine}
+use Rattle.cd_legal.specs.Entry.{signed, entries}
 use Rattle.cd_legal.specs.Legal.{legal, state_of}
 use Rattle.cd_legal.specs.Runs.{Failure}
 use Rattle.cd_gate.specs.Growing.{all_signed}

@@ -1,5 +1,5 @@
 -- From what is known of each lane to what the lanes tell together, and where their entries stand.
-use Rattle.std.proofs.Common.{◌≡◌, ◌≤◌, ◌<◌, ◌⊎◌, inl, inr, ℕ, zero, suc, ◌+◌, true, false, List, [], ◌∷◌, ◌++◌, length, Option, Some, None, refl, ap, sym, ◌∙◌, subst, ⊎_elim, arith}
+use Rattle.std.proofs.Common.{◌≡◌, ◌≤◌, ◌<◌, ◌⊎◌, inl, inr, ℕ, ◌+◌, true, false, List, [], ◌∷◌, ◌++◌, length, Option, Some, None, refl, ap, sym, ◌∙◌, subst, ⊎_elim, arith}
 use Rattle.std.proofs.lemmas.Bool.Decides.{eqb_tells}
 use Rattle.std.proofs.lemmas.List.{append_assoc, append-nil, append_cancel_left, length-append, map-append}
 use mathlib.Core.List.{IsPrefix}
@@ -14,11 +14,9 @@ use Rattle.cd_legal.specs.Legal.{state_at}
 use Rattle.cd_legal.specs.Placed.{Placed, placed, placed_entries}
 use Rattle.cd_legal.proofs.Logs.{prefix_trans, mine-append, entries-append}
 use Rattle.cd_legal.proofs.Placed.{placed-entries}
-use Rattle.cd_gate.specs.Growing.{all_signed}
-use Rattle.cd_serve.specs.declared.lane_end.LaneEnd.{LaneEnd}
 use Rattle.cd_serve.specs.declared.lane_end.LaneHow.{LaneHow}
 use Rattle.cd_serve.specs.declared.lane_end.LaneHow.TheVariants as how
-use Rattle.cd_serve.specs.Joining.{Slot, IsSlot, SlotsFrom, lanes_of}
+use Rattle.cd_serve.specs.Joining.{Slot, SlotsFrom, lanes_of}
 use Rattle.cd_serve.specs.Lanes.{IsOver, IsServed}
 use Rattle.cd_serve.specs.Meanings.{Meaning}
 use Rattle.cd_host.specs.Lanes.{IsAtEnd, AreAtEnd, IsLane, LanesFrom}

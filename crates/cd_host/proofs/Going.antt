@@ -1,7 +1,7 @@
 -- What several calls have signed, one after another, and what is known of it where nobody else has signed anything.
-use Rattle.std.proofs.Common.{◌≡◌, ◌≤◌, ℕ, ◌==◌, Bool, true, false, cond, List, [], ◌∷◌, ◌++◌, length, drop, arith, refl, ap, sym, ◌∙◌, subst}
+use Rattle.std.proofs.Common.{◌≡◌, ℕ, ◌==◌, Bool, true, false, cond, List, [], ◌∷◌, ◌++◌, length, drop, arith, refl, ap, sym, ◌∙◌, subst}
 use Rattle.std.proofs.lemmas.Bool.{eqb-true}
-use Rattle.std.proofs.lemmas.List.{append-nil, append_assoc, append_cancel_left, map-append}
+use Rattle.std.proofs.lemmas.List.{append-nil, append_cancel_left, map-append}
 use mathlib.Core.List.{IsPrefix}
 use Rattle.cd_legal.specs.declared.entry.Entry.{Entry}
 use Rattle.cd_legal.specs.declared.entry.Signed.{Signed}
@@ -11,7 +11,7 @@ use Rattle.cd_legal.specs.Signing.{IsHistory}
 use Rattle.cd_legal.proofs.Logs.{mine-append, entries-append}
 use Rattle.cd_legal.proofs.Placed.{placed-entries}
 use Rattle.cd_gate.specs.declared.view.View.{View}
-use Rattle.cd_gate.specs.Growing.{all_signed, Places}
+use Rattle.cd_gate.specs.Growing.{all_signed}
 use Rattle.cd_gate.proofs.Grown.{places_both}
 use Rattle.cd_host.specs.Parts.{IsAlone}
 use Rattle.cd_host.specs.Joining.{HasSigned}

@@ -1,5 +1,5 @@
 -- From what is known when all passes have come together to the parts of the history.
-use Rattle.std.proofs.Common.{◌≡◌, ◌≤◌, ℕ, true, false, List, [], ◌∷◌, ◌++◌, refl, ap, sym, ◌∙◌, subst, ⊎_elim}
+use Rattle.std.proofs.Common.{◌≡◌, ◌≤◌, ℕ, true, false, List, [], ◌++◌, ap, sym, ◌∙◌, subst, ⊎_elim}
 use Rattle.std.specs.List.{list_any}
 use Rattle.std.proofs.lemmas.List.{append-nil, append_assoc, append_cancel_left, map-append}
 use mathlib.Core.List.{IsPrefix}
@@ -8,7 +8,7 @@ use Rattle.cd_legal.specs.declared.plan.Plan.{Plan}
 use Rattle.cd_legal.specs.declared.entry.Entry.{Entry}
 use Rattle.cd_legal.specs.declared.entry.Signed.{Signed}
 use Rattle.cd_legal.specs.Entry.{entries, mine}
-use Rattle.cd_legal.specs.Legal.{state_at, IsLegal}
+use Rattle.cd_legal.specs.Legal.{state_at}
 use Rattle.cd_legal.specs.Placed.{Placed, placed, placed_entries}
 use Rattle.cd_legal.proofs.Logs.{prefix_trans, mine-append, entries-append}
 use Rattle.cd_legal.proofs.Placed.{placed-entries}
@@ -16,11 +16,11 @@ use Rattle.cd_gate.specs.declared.view.View.{View}
 use Rattle.cd_gate.specs.Growing.{all_signed, Places}
 use Rattle.cd_serve.specs.Changes.{IsHalted}
 use Rattle.cd_serve.specs.Episodes.{is_halt, another_halted}
-use Rattle.cd_host.specs.Joining.{HasSigned, HasHalted, IsJoined, AreBetween}
+use Rattle.cd_host.specs.Joining.{IsJoined, AreBetween}
 use Rattle.cd_host.specs.Parts.{HasParts, IsAlone}
 use Rattle.cd_host.specs.Program.{Start, start_entries, halt_entries}
 use Rattle.cd_host.proofs.Ending.{program-halts}
-use Rattle.cd_host.proofs.Gathered.{first-empty, last-empty}
+use Rattle.cd_host.proofs.Gathered.{first-empty}
 use Rattle.cd_host.proofs.Halts.{halted-stays, another-halted}
 use Rattle.cd_host.proofs.PartEntries.{no-halt-at-start}
 use Rattle.cd_host.proofs.Parted.{parted-by-halt, parted-by-lane}

@@ -1,5 +1,5 @@
 -- Entries of instances and apps alone, among which there is neither a halt nor a publishing.
-use Rattle.std.proofs.Common.{◌≡◌, ℕ, zero, suc, ◌+◌, ◌||◌, Bool, true, false, List, [], ◌∷◌, ◌++◌, take, length, Option, Some, None, refl, ap, sym, ◌∙◌}
+use Rattle.std.proofs.Common.{◌≡◌, ℕ, zero, suc, ◌+◌, ◌||◌, Bool, true, false, List, [], ◌∷◌, ◌++◌, take, length, Some, refl, ap, sym, ◌∙◌}
 use Rattle.std.specs.List.{list_any}
 use Rattle.cd_outside.specs.declared.key.Key.{Key}
 use Rattle.cd_tree.specs.declared.tree.Tree.{Tree}
@@ -8,7 +8,7 @@ use Rattle.cd_legal.specs.declared.plan.PlanModule.{PlanModule}
 use Rattle.cd_legal.specs.declared.plan.PlanApp.{PlanApp}
 use Rattle.cd_legal.specs.declared.entry.Change.TheVariants as change
 use Rattle.cd_legal.specs.declared.entry.Entry.{Entry}
-use Rattle.cd_legal.specs.declared.entry.Entry.TheVariants.{Draft, Made, Started, Publish, Abandon, Stopped, Begin, Finish, Retire, Cleaned, Halt}
+use Rattle.cd_legal.specs.declared.entry.Entry.TheVariants.{Made, Started, Publish, Abandon, Stopped, Finish, Retire, Cleaned, Halt}
 use Rattle.cd_legal.specs.Runs.{Failure, made_from, started_from, all_made, all_started, opened, opened_until, stopped_all, cleaned_all, ended_all, undone_after}
 use Rattle.cd_serve.specs.Episodes.{is_halt}
 use Rattle.cd_host.specs.Program.{Start, start_entries}

@@ -1,11 +1,8 @@
 -- The start of the program, step by step.
-use Rattle.std.proofs.Common.{◌≡◌, ◌≤◌, ◌⊎◌, inl, inr, ℕ, ◌+◌, ◌==◌, ◌&&◌, nat_lt, Bool, true, false, cond, List, [], ◌∷◌, ◌++◌, length, Option, Some, None, refl, ap, sym, ◌∙◌, subst, eq-eqb}
-use Rattle.std.proofs.lemmas.Bool.{eqb-true}
+use Rattle.std.proofs.Common.{◌≡◌, inl, inr, ℕ, ◌+◌, ◌&&◌, nat_lt, Bool, true, false, cond, List, [], ◌∷◌, ◌++◌, length, Option, Some, None, refl, ap, sym, ◌∙◌}
 use Rattle.std.proofs.lemmas.List.{append-nil, append_assoc}
-use mathlib.Core.List.{IsPrefix}
 use Rattle.cd_outside.specs.declared.key.Key.{Key}
 use Rattle.cd_tree.specs.declared.tree.Tree.{Tree}
-use Rattle.cd_legal.specs.declared.limits.TheConstants.{MAX_DRAFTS}
 use Rattle.cd_legal.specs.declared.plan.Plan.{Plan}
 use Rattle.cd_legal.specs.declared.entry.Change.TheVariants as change
 use Rattle.cd_legal.specs.declared.entry.Entry.{Entry}

@@ -1,5 +1,5 @@
 -- Lanes that were not served tell of no connection.
-use Rattle.std.proofs.Common.{◌≡◌, ◌≤◌, ℕ, ◌+◌, ◌-◌, min, List, [], ◌∷◌, ◌++◌, Option, Some, None, refl, ap, sym, ◌∙◌, arith}
+use Rattle.std.proofs.Common.{◌≡◌, ◌≤◌, ℕ, ◌+◌, ◌-◌, min, List, [], ◌∷◌, Option, Some, None, refl, ap, sym, ◌∙◌, arith}
 use Rattle.std.proofs.lemmas.List.{append-nil}
 use Rattle.std.proofs.lemmas.List.Sums.{sum_by-cons}
 use mathlib.Core.List.{IsPrefix}
@@ -8,12 +8,11 @@ use Rattle.cd_outside.specs.Counts.{count_end, Covers}
 use Rattle.cd_legal.specs.declared.entry.Signed.{Signed}
 use Rattle.cd_legal.specs.Entry.{mine}
 use Rattle.cd_legal.specs.Legal.{IsLegal}
-use Rattle.cd_legal.specs.Placed.{placed}
 use Rattle.cd_legal.proofs.Fresh.{legal-fresh}
 use Rattle.cd_legal.proofs.Logs.{prefix_trans}
 use Rattle.cd_legal.proofs.Placed.{placed-stays}
-use Rattle.cd_serve.specs.Joining.{Span, Tale, TaleOf, TalesFrom, of_tale, mishaps, all_of, AllTell, of_those, EachCovered, NoneAtEnd, AllCovered, LanesTold}
-use Rattle.cd_serve.specs.Lanes.{early_in, answered_in}
+use Rattle.cd_serve.specs.Joining.{Span, Tale, TaleOf, TalesFrom, of_tale, mishaps, all_of, of_those, EachCovered, AllCovered, LanesTold}
+use Rattle.cd_serve.specs.Lanes.{answered_in}
 use Rattle.cd_serve.specs.Meanings.{Meaning}
 use Rattle.cd_host.specs.Joining.{AreBetween}
 use Rattle.cd_host.specs.Lanes.{AreUntouched}

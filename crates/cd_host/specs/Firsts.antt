@@ -1,5 +1,5 @@
 -- The first configuration of a run has the tree that the run was given.
-use Rattle.std.specs.Prelude.{◌≡◌, ℕ, zero, List, [], ◌∷◌, slice_get}
+use Rattle.std.specs.Prelude.{◌≡◌, zero, List, [], ◌∷◌, slice_get}
 use Rattle.cd_tree.specs.declared.tree.Tree.{Tree}
 use Rattle.cd_legal.specs.declared.entry.Entry.{Entry}
 use Rattle.cd_legal.specs.declared.entry.Entry.TheVariants.{Publish}

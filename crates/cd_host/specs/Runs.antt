@@ -1,6 +1,5 @@
 -- What a run of all lanes promises.
-use Rattle.std.specs.Prelude.{◌≡◌, ◌⊎◌, ℕ, ◌+◌, Bool, true, false, List, length, Option, Some, None, Result, Ok}
-use Rattle.cd_outside.specs.declared.key.Key.{Key}
+use Rattle.std.specs.Prelude.{◌≡◌, ◌⊎◌, ℕ, Bool, true, false, List, length, Option, Some, None, Ok}
 use Rattle.cd_outside.specs.declared.fixtures.FixtureCall.{FixtureCall}
 use Rattle.cd_outside.specs.Counts.{Covers}
 use Rattle.cd_outside.specs.FixtureCall.{CallsGrow}

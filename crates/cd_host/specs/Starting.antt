@@ -1,12 +1,10 @@
 -- What the program's start has made, as its calls tell it. What they made is known where nobody else has signed what they found.
-use Rattle.std.specs.Prelude.{◌≡◌, ◌⊎◌, ◌≤◌, ℕ, Bool, true, cond, List, [], ◌∷◌, ◌++◌}
-use Rattle.cd_outside.specs.declared.key.Key.{Key}
+use Rattle.std.specs.Prelude.{◌≡◌, ◌⊎◌, ℕ, Bool, true, cond, List, [], ◌∷◌, ◌++◌}
 use Rattle.cd_tree.specs.declared.tree.Tree.{Tree}
 use Rattle.cd_legal.specs.declared.plan.Plan.{Plan}
 use Rattle.cd_legal.specs.declared.entry.Change.TheVariants as change
 use Rattle.cd_legal.specs.declared.entry.Entry.{Entry}
 use Rattle.cd_legal.specs.declared.entry.Entry.TheVariants.{Draft, Publish, Abandon, Begin, Finish, Retire}
-use Rattle.cd_legal.specs.declared.entry.Signed.{Signed}
 use Rattle.cd_legal.specs.Legal.{after, may_retire, state_at}
 use Rattle.cd_legal.specs.Runs.{Failure, opened, opened_until, undone_after}
 use Rattle.cd_gate.specs.declared.view.View.{View}

@@ -1,16 +1,12 @@
 -- Ids make no difference to matchers.
 use Rattle.std.proofs.Common.{◌≡◌, ℕ, List, refl, ap, ◌∙◌, Bool, Option, Some, None, Result}
 use Rattle.std.specs.Prelude.{if◌then◌else◌}
-use Rattle.cd_tree.specs.Fields.{is_null, null_layer}
-use Rattle.cd_tree.specs.declared.tree.Member.{Member}
-use Rattle.cd_tree.specs.declared.tree.Tree.{Tree, out-Tree}
-use Rattle.cd_tree.specs.declared.tree.Tree.TheOpen.{Tree-F}
-use Rattle.cd_module.specs.Bare.{bare, SeesNoIds}
+use Rattle.cd_module.specs.Bare.{SeesNoIds}
 use Rattle.cd_module.specs.Patterns.{pattern}
 use Rattle.cd_module.specs.Settings.{Reader, text}
 use Rattle.cd_module.specs.declared.fault.LoadFault.{LoadFault}
 use Rattle.cd_module.proofs.Recursion.{▷-same}
-use Rattle.cd_module.proofs.Bare.{bare_layer, out-bare, text-bare, list_of-bare, object_of-bare, object_with_nulls-bare, recursive-bare}
+use Rattle.cd_module.proofs.Bare.{is_null-bare, text-bare, pattern-bare, list_of-bare, object_of-bare, object_with_nulls-bare, recursive-bare}
 use Rattle.cd_match.specs.Host.{host_matcher}
 use Rattle.cd_match.specs.Path.{path_pattern, path_matcher}
 use Rattle.cd_match.specs.Method.{method_matcher}
@@ -24,23 +20,6 @@ use Rattle.cd_match.specs.declared.kind.MatcherKind.{MatcherKind}
 use Rattle.cd_match.specs.declared.kind.MatcherKind.TheVariants as kind
 use Rattle.cd_match.specs.declared.matcher.MatcherSet.{MatcherSet}
 use Rattle.cd_match.proofs.Alike.{sets-inward}
-
--- ---- values
-
-pattern-bare : SeesNoIds pattern
-unfolding pattern
-pattern-bare = record { same = λ t at. ▷-same _ _ _ _ (text-bare.same t at) (λ written. refl) }
-
-null-layer : (x : Tree-F Tree Member) → null_layer (bare_layer x) ≡ null_layer x
-null-layer Tree-F.Null = refl
-null-layer (Tree-F.Bool b) = refl
-null-layer (Tree-F.Num n) = refl
-null-layer (Tree-F.Text t) = refl
-null-layer (Tree-F.Items items) = refl
-null-layer (Tree-F.Object members) = refl
-
-is_null-bare : (t : Tree) → is_null (bare t) ≡ is_null t
-is_null-bare t = ap null_layer (out-bare t) ∙ null-layer (out-Tree t)
 
 -- ---- matchers
 

@@ -1,5 +1,5 @@
 -- A host is compared with a pattern label by label.
-use Rattle.std.proofs.Common.{◌≡◌, ℕ, ◌<◌, ◌&&◌, true, false, List, [], ◌∷◌, length, refl, ap, sym, ◌∙◌, arith}
+use Rattle.std.proofs.Common.{◌≡◌, ℕ, ◌<◌, ◌&&◌, true, false, List, [], ◌∷◌, length, refl, ap, ◌∙◌, arith, rules}
 use Rattle.std.specs.Cmp.Lexicographic.{pointwise}
 use Rattle.std.specs.List.{before_first, after_first, position_or_len}
 use Rattle.std.proofs.lemmas.Bool.{and_right}
@@ -24,13 +24,11 @@ more_labels pattern host p h = ap (λ ls. pointwise label_fits ls (labels host))
 pub last_labels : (pattern host : List ℕ) → position_or_len is_dot pattern ≡ length pattern → position_or_len is_dot host ≡ length host
     → host_fits pattern host ≡ label_fits pattern host
 unfolding host_fits
-last_labels pattern host p h =
-    ap (λ ls. pointwise label_fits ls (labels host)) (one_label pattern p) ∙ ap (λ ls. pointwise label_fits (pattern ∷ []) ls) (one_label host h) ∙ and-true (label_fits pattern host)
+last_labels pattern host p h = search (rules, one_label, and-true)
 
 -- labels that are left on one side alone
 none_left : (ls : List (List ℕ)) → 0 < length ls → pointwise label_fits [] ls ≡ false
-none_left [] some = absurd (omega arith)
-none_left (l ∷ ls) some = refl
+none_left ls some = search rules
 
 none_right : (ls : List (List ℕ)) → 0 < length ls → pointwise label_fits ls [] ≡ false
 none_right [] some = absurd (omega arith)
@@ -41,28 +39,17 @@ some_label text = omega (arith, length-slice_split is_dot text)
 
 pub longer_host : (pattern host : List ℕ) → position_or_len is_dot pattern ≡ length pattern → position_or_len is_dot host < length host → host_fits pattern host ≡ false
 unfolding host_fits
-longer_host pattern host p h =
-    ap (λ ls. pointwise label_fits ls (labels host)) (one_label pattern p) ∙ ap (λ ls. pointwise label_fits (pattern ∷ []) ls) (first_label host h)
-    ∙ and_right (label_fits pattern (before_first is_dot host)) _ (none_left (labels (after_first is_dot host)) (some_label (after_first is_dot host)))
+longer_host pattern host p h = search (rules, one_label, first_label, and_right, none_left, some_label)
 
 pub longer_pattern : (pattern host : List ℕ) → position_or_len is_dot pattern < length pattern → position_or_len is_dot host ≡ length host → host_fits pattern host ≡ false
 unfolding host_fits
-longer_pattern pattern host p h =
-    ap (λ ls. pointwise label_fits ls (labels host)) (first_label pattern p) ∙ ap (λ ls. pointwise label_fits (before_first is_dot pattern ∷ labels (after_first is_dot pattern)) ls) (one_label host h)
-    ∙ and_right (label_fits (before_first is_dot pattern) host) _ (none_right (labels (after_first is_dot pattern)) (some_label (after_first is_dot pattern)))
+longer_pattern pattern host p h = search (rules, first_label, one_label, and_right, none_right, some_label)
 
 -- the first labels decide, or what follows does
 pub step_fails : (pattern host wanted others label behind : List ℕ) → position_or_len is_dot pattern < length pattern → wanted ≡ before_first is_dot pattern → others ≡ after_first is_dot pattern
     → position_or_len is_dot host < length host → label ≡ before_first is_dot host → behind ≡ after_first is_dot host → label_fits wanted label ≡ false → host_fits pattern host ≡ false
-step_fails pattern host wanted others label behind p w o h l b fails =
-    more_labels pattern host p h ∙ ap (λ z. label_fits z (before_first is_dot host) && host_fits (after_first is_dot pattern) (after_first is_dot host)) (sym w)
-    ∙ ap (λ z. label_fits wanted z && host_fits (after_first is_dot pattern) (after_first is_dot host)) (sym l)
-    ∙ ap (λ z. z && host_fits (after_first is_dot pattern) (after_first is_dot host)) fails
+step_fails pattern host wanted others label behind p w o h l b fails = search (rules, more_labels)
 
 pub step_fits : (pattern host wanted others label behind : List ℕ) → position_or_len is_dot pattern < length pattern → wanted ≡ before_first is_dot pattern → others ≡ after_first is_dot pattern
     → position_or_len is_dot host < length host → label ≡ before_first is_dot host → behind ≡ after_first is_dot host → label_fits wanted label ≡ true → host_fits pattern host ≡ host_fits others behind
-step_fits pattern host wanted others label behind p w o h l b fits =
-    more_labels pattern host p h ∙ ap (λ z. label_fits z (before_first is_dot host) && host_fits (after_first is_dot pattern) (after_first is_dot host)) (sym w)
-    ∙ ap (λ z. label_fits wanted z && host_fits (after_first is_dot pattern) (after_first is_dot host)) (sym l)
-    ∙ ap (λ z. z && host_fits (after_first is_dot pattern) (after_first is_dot host)) fits
-    ∙ ap (λ z. host_fits z (after_first is_dot host)) (sym o) ∙ ap (λ z. host_fits others z) (sym b)
+step_fits pattern host wanted others label behind p w o h l b fits = search (rules, more_labels)

@@ -1,11 +1,11 @@
 -- No way to read sees an id, unless it names the member `@id`.
 use Rattle.std.proofs.Common.{◌≡◌, ℕ, zero, suc, ◌+◌, List, [], ◌∷◌, map, Bool, true, false, Option, Some, None, Result, Ok, sym, ap, ◌∙◌, refl, arith, rules, decimal, option_map}
-use Rattle.std.specs.Prelude.{codes, not, ◌&&◌, ◌||◌, if◌then◌else◌}
+use Rattle.std.specs.Prelude.{codes, not, ◌&&◌, if◌then◌else◌}
 use Rattle.std.specs.Result.{result_map_both}
 use Rattle.std.specs.Str.{bytes_eq}
 use Rattle.std.proofs.lemmas.Slice.Eq.{bytes_eq-Decides}
 use Rattle.cd_text.specs.Steps.{◌▷◌}
-use Rattle.cd_tree.specs.Fields.{over_layer, unknown, unless_unknown, get, unless_null, is_null, null_layer, is_known, is_named}
+use Rattle.cd_tree.specs.Fields.{over_layer, unknown, unless_unknown, get, unless_null, is_null, null_layer, is_known}
 use Rattle.cd_tree.specs.Path.{◌▸◌}
 use Rattle.cd_tree.specs.Tree.{depth}
 use Rattle.cd_tree.specs.declared.path.Path.{Path}
@@ -13,6 +13,7 @@ use Rattle.cd_tree.specs.declared.tree.Member.{Member, out-Member, roll-Member, 
 use Rattle.cd_tree.specs.declared.tree.Tree.{Tree, out-Tree, roll-Tree, roll-out-Tree, out-roll-Tree, the_lemmas}
 use Rattle.cd_tree.specs.declared.tree.Tree.TheOpen.{Tree-F}
 use Rattle.cd_module.specs.Faults.{of_field}
+use Rattle.cd_module.specs.Patterns.{pattern}
 use Rattle.cd_module.specs.Recursion.{levels, recursive}
 use Rattle.cd_module.specs.Settings.{Reader, text_layer, text, truth_layer, truth, whole_layer, whole, number_or_text_layer, number_or_text, unread_list_layer, unread_list, unread_object_layer, unread_object, each, list_layer, list_of, members, where_there, optional, must_be_there, needed, all_layer, name_of, is_setting, is_no_id, each_member, object_layer, object_of, object_with_nulls}
 use Rattle.cd_module.specs.Bare.{no_ids, bare, SeesNoIds}
@@ -34,12 +35,7 @@ bare_layer (Tree-F.Object ms) = Tree-F.Object (no_ids (map bare_member ms))
 
 -- of a value that is put together
 bare-roll : (x : Tree-F Tree Member) → bare (roll-Tree x) ≡ roll-Tree (bare_layer x)
-bare-roll Tree-F.Null = search (rules, the_lemmas)
-bare-roll (Tree-F.Bool b) = search (rules, the_lemmas)
-bare-roll (Tree-F.Num n) = search (rules, the_lemmas)
-bare-roll (Tree-F.Text t) = search (rules, the_lemmas)
-bare-roll (Tree-F.Items items) = search (rules, the_lemmas)
-bare-roll (Tree-F.Object ms) = search (rules, the_lemmas)
+bare-roll x = search (rules, the_lemmas)
 
 -- and of one that is taken apart
 pub out-bare : (t : Tree) → out-Tree (bare t) ≡ bare_layer (out-Tree t)
@@ -48,70 +44,44 @@ out-bare t = ap (λ z. out-Tree (bare z)) (sym (roll-out-Tree t)) ∙ (ap out-Tr
 -- ---- values
 
 text-layer : (x : Tree-F Tree Member) (at : Path) → text_layer (bare_layer x) at ≡ text_layer x at
-text-layer Tree-F.Null at = refl
-text-layer (Tree-F.Bool b) at = refl
-text-layer (Tree-F.Num n) at = refl
-text-layer (Tree-F.Text t) at = refl
-text-layer (Tree-F.Items items) at = refl
-text-layer (Tree-F.Object ms) at = refl
+text-layer x at = search rules
 
 pub text-bare : SeesNoIds text
 text-bare = record { same = λ t at. ap (λ x. text_layer x at) (out-bare t) ∙ text-layer (out-Tree t) at }
 
 truth-layer : (x : Tree-F Tree Member) (at : Path) → truth_layer (bare_layer x) at ≡ truth_layer x at
-truth-layer Tree-F.Null at = refl
-truth-layer (Tree-F.Bool b) at = refl
-truth-layer (Tree-F.Num n) at = refl
-truth-layer (Tree-F.Text t) at = refl
-truth-layer (Tree-F.Items items) at = refl
-truth-layer (Tree-F.Object ms) at = refl
+truth-layer x at = search rules
 
 pub truth-bare : SeesNoIds truth
 truth-bare = record { same = λ t at. ap (λ x. truth_layer x at) (out-bare t) ∙ truth-layer (out-Tree t) at }
 
 whole-layer : (x : Tree-F Tree Member) (at : Path) → whole_layer (bare_layer x) at ≡ whole_layer x at
-whole-layer Tree-F.Null at = refl
-whole-layer (Tree-F.Bool b) at = refl
-whole-layer (Tree-F.Num n) at = refl
-whole-layer (Tree-F.Text t) at = refl
-whole-layer (Tree-F.Items items) at = refl
-whole-layer (Tree-F.Object ms) at = refl
+whole-layer x at = search rules
 
 pub whole-bare : SeesNoIds whole
 whole-bare = record { same = λ t at. ap (λ x. whole_layer x at) (out-bare t) ∙ whole-layer (out-Tree t) at }
 
 number-or-text-layer : (x : Tree-F Tree Member) (at : Path) → number_or_text_layer (bare_layer x) at ≡ number_or_text_layer x at
-number-or-text-layer Tree-F.Null at = refl
-number-or-text-layer (Tree-F.Bool b) at = refl
-number-or-text-layer (Tree-F.Num n) at = refl
-number-or-text-layer (Tree-F.Text t) at = refl
-number-or-text-layer (Tree-F.Items items) at = refl
-number-or-text-layer (Tree-F.Object ms) at = refl
+number-or-text-layer x at = search rules
 
 pub number_or_text-bare : SeesNoIds number_or_text
 number_or_text-bare = record { same = λ t at. ap (λ x. number_or_text_layer x at) (out-bare t) ∙ number-or-text-layer (out-Tree t) at }
 
 unread-list-layer : (x : Tree-F Tree Member) (at : Path) → unread_list_layer (bare_layer x) at ≡ unread_list_layer x at
-unread-list-layer Tree-F.Null at = refl
-unread-list-layer (Tree-F.Bool b) at = refl
-unread-list-layer (Tree-F.Num n) at = refl
-unread-list-layer (Tree-F.Text t) at = refl
-unread-list-layer (Tree-F.Items items) at = refl
-unread-list-layer (Tree-F.Object ms) at = refl
+unread-list-layer x at = search rules
 
 pub unread_list-bare : SeesNoIds unread_list
 unread_list-bare = record { same = λ t at. ap (λ x. unread_list_layer x at) (out-bare t) ∙ unread-list-layer (out-Tree t) at }
 
 unread-object-layer : (x : Tree-F Tree Member) (at : Path) → unread_object_layer (bare_layer x) at ≡ unread_object_layer x at
-unread-object-layer Tree-F.Null at = refl
-unread-object-layer (Tree-F.Bool b) at = refl
-unread-object-layer (Tree-F.Num n) at = refl
-unread-object-layer (Tree-F.Text t) at = refl
-unread-object-layer (Tree-F.Items items) at = refl
-unread-object-layer (Tree-F.Object ms) at = refl
+unread-object-layer x at = search rules
 
 pub unread_object-bare : SeesNoIds unread_object
 unread_object-bare = record { same = λ t at. ap (λ x. unread_object_layer x at) (out-bare t) ∙ unread-object-layer (out-Tree t) at }
+
+pub pattern-bare : SeesNoIds pattern
+unfolding pattern
+pattern-bare = record { same = λ t at. ▷-same _ _ _ _ (text-bare.same t at) (λ written. refl) }
 
 -- ---- lists
 
@@ -122,12 +92,7 @@ each-bare r s k (t ∷ ts) at =
     (λ x. ▷-same (each r (suc k) (map bare ts) at) (each r (suc k) ts at) _ _ (each-bare r s (suc k) ts at) (λ xs. refl))
 
 list-layer : {X : Type 0} (r : Reader X) → SeesNoIds r → (x : Tree-F Tree Member) (at : Path) → list_layer r (bare_layer x) at ≡ list_layer r x at
-list-layer r s Tree-F.Null at = refl
-list-layer r s (Tree-F.Bool b) at = refl
-list-layer r s (Tree-F.Num n) at = refl
-list-layer r s (Tree-F.Text t) at = refl
-list-layer r s (Tree-F.Items items) at = each-bare r s 0 items at
-list-layer r s (Tree-F.Object ms) at = refl
+list-layer r s x at = search (rules, each-bare)
 
 pub list_of-bare : {X : Type 0} (r : Reader X) → SeesNoIds r → SeesNoIds (list_of r)
 list_of-bare r s = record { same = λ t at. ap (λ x. list_layer r x at) (out-bare t) ∙ list-layer r s (out-Tree t) at }
@@ -135,14 +100,9 @@ list_of-bare r s = record { same = λ t at. ap (λ x. list_layer r x at) (out-ba
 -- ---- members
 
 null-layer : (x : Tree-F Tree Member) → null_layer (bare_layer x) ≡ null_layer x
-null-layer Tree-F.Null = refl
-null-layer (Tree-F.Bool b) = refl
-null-layer (Tree-F.Num n) = refl
-null-layer (Tree-F.Text t) = refl
-null-layer (Tree-F.Items items) = refl
-null-layer (Tree-F.Object ms) = refl
+null-layer x = search rules
 
-is_null-bare : (t : Tree) → is_null (bare t) ≡ is_null t
+pub is_null-bare : (t : Tree) → is_null (bare t) ≡ is_null t
 is_null-bare t = ap null_layer (out-bare t) ∙ null-layer (out-Tree t)
 
 key-bare : (m : Member) → (out-Member (bare_member m)).key ≡ (out-Member m).key
@@ -154,8 +114,7 @@ value-bare m = ap (λ z. z.value) (out-roll-Member (record { key = (out-Member m
 -- the first member, for the lemma below
 unknown-more : (names key : List ℕ) (b : Bool) (m : Member) (ms : List Member) (rest : Option (List ℕ)) → bytes_eq key (codes "@id") ≡ b → (out-Member m).key ≡ key → unknown names ms ≡ rest
     → unknown names (if not b then (m ∷ ms) else ms) ≡ (if is_known names key then rest else Some key)
-unknown-more names key true m ms rest eb ek er = er ∙ sym (ap (λ z. if (z || is_named names key) then rest else Some key) eb)
-unknown-more names key false m ms rest eb ek er = ap (λ z. if is_known names z then unknown names ms else Some z) ek ∙ ap (λ z. if is_known names key then z else Some key) er
+unknown-more names key b m ms rest eb ek er = search rules
 
 -- ids are no unknown members
 pub unknown-bare : (names : List ℕ) (ms : List Member) → unknown names (no_ids (map bare_member ms)) ≡ unknown names ms
@@ -165,8 +124,7 @@ unknown-bare names (m ∷ ms) =
 
 -- the value of the name, unless it is null, in both
 unless-bare : (b : Bool) (v : Tree) → (if b then None else Some (bare v)) ≡ option_map bare (if b then None else Some v)
-unless-bare true v = refl
-unless-bare false v = refl
+unless-bare b v = search rules
 
 unless_null-bare : (v : Tree) → unless_null (bare v) ≡ option_map bare (unless_null v)
 unless_null-bare v = ap (λ b. if b then None else Some (bare v)) (is_null-bare v) ∙ unless-bare (is_null v) v
@@ -175,17 +133,12 @@ bytes_eq-true : (xs ys : List ℕ) → bytes_eq xs ys ≡ true → xs ≡ ys
 bytes_eq-true xs ys e = (bytes_eq-Decides xs ys).0 e
 
 branch : (c : Bool) (v : Tree) (o : Option Tree) → (if c then unless_null (bare v) else option_map bare o) ≡ option_map bare (if c then unless_null v else o)
-branch true v o = unless_null-bare v
-branch false v o = refl
+branch c v o = search (rules, unless_null-bare)
 
 -- the first member, for the lemma below
 get-more : (name key : List ℕ) (b : Bool) (m : Member) (v : Tree) (ms : List Member) (o : Option Tree) → bytes_eq key (codes "@id") ≡ b → bytes_eq (codes "@id") name ≡ false → (out-Member m).key ≡ key → (out-Member m).value ≡ bare v → get name ms ≡ option_map bare o
     → get name (if not b then (m ∷ ms) else ms) ≡ option_map bare (if bytes_eq key name then unless_null v else o)
-get-more name key true m v ms o eb ne ek ev eo =
-    eo ∙ ap (λ c. option_map bare (if c then unless_null v else o)) (sym (ap (λ z. bytes_eq z name) (bytes_eq-true key (codes "@id") eb) ∙ ne))
-get-more name key false m v ms o eb ne ek ev eo =
-    ap (λ z. if bytes_eq z name then unless_null (out-Member m).value else get name ms) ek
-    ∙ (ap (λ z. if bytes_eq key name then unless_null z else get name ms) ev ∙ (ap (λ z. if bytes_eq key name then unless_null (bare v) else z) eo ∙ branch (bytes_eq key name) v o))
+get-more name key b m v ms o eb ne ek ev eo = search (rules, bytes_eq-true, branch)
 
 -- a member of another name than that of ids
 pub get-bare : (name : List ℕ) → bytes_eq (codes "@id") name ≡ false → (ms : List Member) → get name (no_ids (map bare_member ms)) ≡ option_map bare (get name ms)
@@ -194,12 +147,10 @@ get-bare name ne (m ∷ ms) =
     get-more name (out-Member m).key (bytes_eq (out-Member (bare_member m)).key (codes "@id")) (bare_member m) (out-Member m).value (no_ids (map bare_member ms)) (get name ms) (ap (λ z. bytes_eq z (codes "@id")) (sym (key-bare m))) ne (key-bare m) (value-bare m) (get-bare name ne ms)
 
 there-bare : {X : Type 0} (r : Reader X) → SeesNoIds r → (o : Option Tree) (at : Path) → where_there r (option_map bare o) at ≡ where_there r o at
-there-bare r s None at = refl
-there-bare r s (Some t) at = ▷-same (r (bare t) at) (r t at) _ _ (s.same t at) (λ x. refl)
+there-bare r s o at = search rules
 
 must-bare : {X : Type 0} (r : Reader X) → SeesNoIds r → (o : Option Tree) (at : Path) → must_be_there r (option_map bare o) at ≡ must_be_there r o at
-must-bare r s None at = refl
-must-bare r s (Some t) at = s.same t at
+must-bare r s o at = search rules
 
 pub optional-bare : {X : Type 0} (r : Reader X) → SeesNoIds r → (name : List ℕ) → bytes_eq (codes "@id") name ≡ false → (ms : List Member) (at : Path) → optional r name (no_ids (map bare_member ms)) at ≡ optional r name ms at
 unfolding optional
@@ -211,18 +162,11 @@ needed-bare r s name ne ms at = ap (λ o. must_be_there r o (at ▸ name)) (get-
 
 known-bare : {B : Type 0} (o : Option (List ℕ)) (ms : List Member) (at : Path) (k l : List Member → Result B LoadFault) → k (no_ids (map bare_member ms)) ≡ l ms
     → (result_map_both (λ found. found) of_field (unless_unknown o (no_ids (map bare_member ms)) at) ▷ k) ≡ (result_map_both (λ found. found) of_field (unless_unknown o ms at) ▷ l)
-known-bare None ms at k l h = h
-known-bare (Some name) ms at k l h = refl
+known-bare o ms at k l h = search rules
 
 over-bare : {B : Type 0} (names : List ℕ) (x : Tree-F Tree Member) (at : Path) (k l : List Member → Result B LoadFault) → ((ms : List Member) → k (no_ids (map bare_member ms)) ≡ l ms)
     → (result_map_both (λ found. found) of_field (over_layer names (bare_layer x) at) ▷ k) ≡ (result_map_both (λ found. found) of_field (over_layer names x at) ▷ l)
-over-bare names Tree-F.Null at k l h = refl
-over-bare names (Tree-F.Bool b) at k l h = refl
-over-bare names (Tree-F.Num n) at k l h = refl
-over-bare names (Tree-F.Text t) at k l h = refl
-over-bare names (Tree-F.Items items) at k l h = refl
-over-bare names (Tree-F.Object ms) at k l h =
-    ap (λ o. result_map_both (λ found. found) of_field (unless_unknown o (no_ids (map bare_member ms)) at) ▷ k) (unknown-bare names ms) ∙ known-bare (unknown names ms) ms at k l (h ms)
+over-bare names x at k l h = search (rules, unknown-bare, known-bare)
 
 -- what is made of an object's members
 pub members-bare : {B : Type 0} (names : List ℕ) (t : Tree) (at : Path) (k l : List Member → Result B LoadFault) → ((ms : List Member) → k (no_ids (map bare_member ms)) ≡ l ms) → (members names (bare t) at ▷ k) ≡ (members names t at ▷ l)
@@ -230,29 +174,20 @@ unfolding members
 members-bare names t at k l h = ap (λ x. result_map_both (λ found. found) of_field (over_layer names x at) ▷ k) (out-bare t) ∙ over-bare names (out-Tree t) at k l h
 
 all-bare : {B : Type 0} (x : Tree-F Tree Member) (at : Path) (k l : List Member → Result B LoadFault) → ((ms : List Member) → k (no_ids (map bare_member ms)) ≡ l ms) → (all_layer (bare_layer x) at ▷ k) ≡ (all_layer x at ▷ l)
-all-bare Tree-F.Null at k l h = refl
-all-bare (Tree-F.Bool b) at k l h = refl
-all-bare (Tree-F.Num n) at k l h = refl
-all-bare (Tree-F.Text t) at k l h = refl
-all-bare (Tree-F.Items items) at k l h = refl
-all-bare (Tree-F.Object ms) at k l h = h ms
+all-bare x at k l h = search rules
 
 -- the name of a module
 pub name_of-bare : (name : List ℕ) → bytes_eq (codes "@id") name ≡ false → SeesNoIds (name_of name)
 unfolding name_of
-name_of-bare name ne = record {
-  same = λ t at. ap (λ x. all_layer x at ▷ λ ms. needed text name ms at) (out-bare t) ∙ all-bare (out-Tree t) at (λ ms. needed text name ms at) (λ ms. needed text name ms at) (λ ms. needed-bare text text-bare name ne ms at);
-}
+name_of-bare name ne = search (rules, out-bare, all-bare, needed-bare, text-bare)
 
 -- ---- objects by name
 
 skip : {A : Type 0} (n b : Bool) (x y : A) → b ≡ true → (if not n && not b then x else y) ≡ y
-skip true b x y e = refl
-skip false b x y e = ap (λ z. if not z then x else y) e
+skip n b x y e = search rules
 
-both_same : {A : Type 0} (b : Bool) (x y z w : A) → x ≡ y → z ≡ w → (if b then x else z) ≡ (if b then y else w)
-both_same true x y z w e f = e
-both_same false x y z w e f = f
+pub if_same : {A : Type 0} (b : Bool) (x y z w : A) → x ≡ y → z ≡ w → (if b then x else z) ≡ (if b then y else w)
+if_same b x y z w e f = search rules
 
 -- a member that is read, and then these
 abbrev then_these : {X : Type 0} (r : List ℕ → Reader X) → Result (List X) LoadFault → Path → List ℕ → Tree → Result (List X) LoadFault
@@ -262,12 +197,7 @@ then_these r rest at key v = r key v (at ▸ key) ▷ λ x. rest ▷ λ xs. Ok (
 member-more : {X : Type 0} (r : List ℕ → Reader X) (key : List ℕ) (b : Bool) (m : Member) (v : Tree) (ms : List Member) (at : Path) (rest : Result (List X) LoadFault) → ((name : List ℕ) → SeesNoIds (r name))
     → bytes_eq key (codes "@id") ≡ b → (out-Member m).key ≡ key → (out-Member m).value ≡ bare v → each_member is_setting r ms at ≡ rest
     → each_member is_setting r (if not b then (m ∷ ms) else ms) at ≡ (if not (is_null v) && not (bytes_eq key (codes "@id")) then then_these r rest at key v else rest)
-member-more r key true m v ms at rest s eb ek ev er = er ∙ sym (skip (is_null v) (bytes_eq key (codes "@id")) (then_these r rest at key v) rest eb)
-member-more r key false m v ms at rest s eb ek ev er =
-    ap (λ k. if not (is_null (out-Member m).value) && not (bytes_eq k (codes "@id")) then then_these r (each_member is_setting r ms at) at k (out-Member m).value else each_member is_setting r ms at) ek
-    ∙ (ap (λ w. if not (is_null w) && not (bytes_eq key (codes "@id")) then then_these r (each_member is_setting r ms at) at key w else each_member is_setting r ms at) ev
-    ∙ (ap (λ n. if not n && not (bytes_eq key (codes "@id")) then then_these r (each_member is_setting r ms at) at key (bare v) else each_member is_setting r ms at) (is_null-bare v)
-    ∙ both_same (not (is_null v) && not (bytes_eq key (codes "@id"))) _ _ _ _ (▷-same (r key (bare v) (at ▸ key)) (r key v (at ▸ key)) _ _ ((s key).same v (at ▸ key)) (λ x. ap (λ z. z ▷ λ xs. Ok (x ∷ xs)) er)) er))
+member-more r key b m v ms at rest s eb ek ev er = search (rules, skip, is_null-bare, if_same, ▷-same)
 
 each_member-bare : {X : Type 0} (r : List ℕ → Reader X) → ((name : List ℕ) → SeesNoIds (r name)) → (ms : List Member) (at : Path) → each_member is_setting r (no_ids (map bare_member ms)) at ≡ each_member is_setting r ms at
 each_member-bare r s [] at = refl
@@ -275,12 +205,7 @@ each_member-bare r s (m ∷ ms) at =
     member-more r (out-Member m).key (bytes_eq (out-Member (bare_member m)).key (codes "@id")) (bare_member m) (out-Member m).value (no_ids (map bare_member ms)) at (each_member is_setting r ms at) s (ap (λ z. bytes_eq z (codes "@id")) (sym (key-bare m))) (key-bare m) (value-bare m) (each_member-bare r s ms at)
 
 object-layer : {X : Type 0} (r : List ℕ → Reader X) → ((name : List ℕ) → SeesNoIds (r name)) → (x : Tree-F Tree Member) (at : Path) → object_layer is_setting r (bare_layer x) at ≡ object_layer is_setting r x at
-object-layer r s Tree-F.Null at = refl
-object-layer r s (Tree-F.Bool b) at = refl
-object-layer r s (Tree-F.Num n) at = refl
-object-layer r s (Tree-F.Text t) at = refl
-object-layer r s (Tree-F.Items items) at = refl
-object-layer r s (Tree-F.Object ms) at = each_member-bare r s ms at
+object-layer r s x at = search (rules, each_member-bare)
 
 -- an object by name
 pub object_of-bare : {X : Type 0} (r : List ℕ → Reader X) → ((name : List ℕ) → SeesNoIds (r name)) → SeesNoIds (object_of r)
@@ -292,11 +217,7 @@ object_of-bare r s = record { same = λ t at. ap (λ x. object_layer is_setting 
 kept-more : {X : Type 0} (r : List ℕ → Reader X) (key : List ℕ) (b : Bool) (m : Member) (v : Tree) (ms : List Member) (at : Path) (rest : Result (List X) LoadFault) → ((name : List ℕ) → SeesNoIds (r name))
     → bytes_eq key (codes "@id") ≡ b → (out-Member m).key ≡ key → (out-Member m).value ≡ bare v → each_member is_no_id r ms at ≡ rest
     → each_member is_no_id r (if not b then (m ∷ ms) else ms) at ≡ (if not (bytes_eq key (codes "@id")) then then_these r rest at key v else rest)
-kept-more r key true m v ms at rest s eb ek ev er = er ∙ sym (ap (λ z. if not z then then_these r rest at key v else rest) eb)
-kept-more r key false m v ms at rest s eb ek ev er =
-    ap (λ k. if not (bytes_eq k (codes "@id")) then then_these r (each_member is_no_id r ms at) at k (out-Member m).value else each_member is_no_id r ms at) ek
-    ∙ (ap (λ w. if not (bytes_eq key (codes "@id")) then then_these r (each_member is_no_id r ms at) at key w else each_member is_no_id r ms at) ev
-    ∙ both_same (not (bytes_eq key (codes "@id"))) _ _ _ _ (▷-same (r key (bare v) (at ▸ key)) (r key v (at ▸ key)) _ _ ((s key).same v (at ▸ key)) (λ x. ap (λ z. z ▷ λ xs. Ok (x ∷ xs)) er)) er)
+kept-more r key b m v ms at rest s eb ek ev er = search rules
 
 each_kept-bare : {X : Type 0} (r : List ℕ → Reader X) → ((name : List ℕ) → SeesNoIds (r name)) → (ms : List Member) (at : Path) → each_member is_no_id r (no_ids (map bare_member ms)) at ≡ each_member is_no_id r ms at
 each_kept-bare r s [] at = refl
@@ -304,12 +225,7 @@ each_kept-bare r s (m ∷ ms) at =
     kept-more r (out-Member m).key (bytes_eq (out-Member (bare_member m)).key (codes "@id")) (bare_member m) (out-Member m).value (no_ids (map bare_member ms)) at (each_member is_no_id r ms at) s (ap (λ z. bytes_eq z (codes "@id")) (sym (key-bare m))) (key-bare m) (value-bare m) (each_kept-bare r s ms at)
 
 kept-layer : {X : Type 0} (r : List ℕ → Reader X) → ((name : List ℕ) → SeesNoIds (r name)) → (x : Tree-F Tree Member) (at : Path) → object_layer is_no_id r (bare_layer x) at ≡ object_layer is_no_id r x at
-kept-layer r s Tree-F.Null at = refl
-kept-layer r s (Tree-F.Bool b) at = refl
-kept-layer r s (Tree-F.Num n) at = refl
-kept-layer r s (Tree-F.Text t) at = refl
-kept-layer r s (Tree-F.Items items) at = refl
-kept-layer r s (Tree-F.Object ms) at = each_kept-bare r s ms at
+kept-layer r s x at = search (rules, each_kept-bare)
 
 -- an object by name in which null has a meaning
 pub object_with_nulls-bare : {X : Type 0} (r : List ℕ → Reader X) → ((name : List ℕ) → SeesNoIds (r name)) → SeesNoIds (object_with_nulls r)

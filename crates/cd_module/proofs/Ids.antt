@@ -1,5 +1,5 @@
 -- Labels joined by dots, and read back.
-use Rattle.std.proofs.Common.{◌≡◌, ℕ, List, [], ◌∷◌, ◌++◌, get_or, Bool, true, false, Result, Ok, Err, sym, ap, subst, ◌∙◌, refl, arith, append_assoc}
+use Rattle.std.proofs.Common.{◌≡◌, ℕ, List, [], ◌∷◌, ◌++◌, Bool, true, false, Result, Ok, Err, ap, ◌∙◌, refl, arith, append_assoc, rules}
 use Rattle.std.specs.Prelude.{not, length, ◌==◌, if◌then◌else◌}
 use Rattle.std.specs.List.{All, list_all, join_with_byte}
 use Rattle.std.proofs.lemmas.Bool.{and_parts, and_from, ne_eqb}
@@ -14,17 +14,14 @@ use Rattle.cd_module.specs.declared.id.IdFormFault.TheVariants.{BadForm}
 
 -- one label more behind the text
 pub join_step : (text label : List ℕ) (labels : List (List ℕ)) → join_with_byte 46 (text ∷ label ∷ labels) ≡ join_with_byte 46 ((text ++ 46 ∷ label) ∷ labels)
-join_step text label [] = refl
-join_step text label (next ∷ labels) = sym (append_assoc text (46 ∷ label) (46 ∷ join_with_byte 46 (next ∷ labels)))
+join_step text label labels = search (rules, append_assoc)
 
 -- a label has no dot
 no_dot : (b : ℕ) → is_label_byte b ≡ true → (b == 46) ≡ false
 no_dot b h = grind (arith, nat_tests, eqb_tells)
 
 no_dots : (label : List ℕ) → is_label label ≡ true → All (λ b. (b == 46) ≡ false) label
-no_dots label h =
-    let passes = AllPass-from_list_all is_label_byte label (and_parts _ _ h).1 in
-    All-from_get_or (λ b. (b == 46) ≡ false) label 0 (λ i within. no_dot (get_or label i 0) (passes i 0 within))
+no_dots label h = search (rules, AllPass-from_list_all, and_parts, All-from_get_or, no_dot)
 
 -- labels that are joined are split again
 split_joined : (label : List ℕ) (labels : List (List ℕ)) → list_all is_label (label ∷ labels) ≡ true → labels_in (join_with_byte 46 (label ∷ labels)) ≡ label ∷ labels
@@ -43,8 +40,7 @@ id_reads_back (label ∷ labels) h =
     id_again (label ∷ labels) (labels_in (join_with_byte 46 (label ∷ labels))) (split_joined label labels (and_parts _ _ h).1) (and_parts _ _ h).1
 
 read_text : (text : List ℕ) (b : Bool) (found : ModuleId) → (if b then Ok (record { labels = labels_in text }) else Err BadForm) ≡ Ok found → found.labels ≡ labels_in text
-read_text text true found h = cc
-read_text text false found h = cc
+read_text text b found h = search rules
 
 -- what reads as an id is its text
 pub text_is_dotted : (text : List ℕ) (found : ModuleId) → id_of text ≡ Ok found → dotted found ≡ text
@@ -55,8 +51,7 @@ some_part : (text : List ℕ) → not (length (labels_in text) == 0) ≡ true
 some_part text = ap not (ne_eqb (length (labels_in text)) 0 (λ none. omega (arith, none, length-slice_split (λ b. b == 46) text)))
 
 read_by : (text : List ℕ) (b : Bool) (found : ModuleId) → list_all is_label (labels_in text) ≡ b → (if b then Ok (record { labels = labels_in text }) else Err BadForm) ≡ Ok found → is_id found ≡ true
-read_by text true found e h = let same : record { labels = labels_in text } ≡ found = cc in subst (λ id. is_id id ≡ true) same (and_from _ _ (some_part text) e)
-read_by text false found e h = cc
+read_by text b found e h = search (rules, and_from, some_part)
 
 -- what is read is one label or more
 pub read_is_id : (text : List ℕ) (found : ModuleId) → id_of text ≡ Ok found → is_id found ≡ true

@@ -1,5 +1,5 @@
 -- What stands at the ends of a text, and in it, where case is ignored.
-use Rattle.std.proofs.Common.{◌≡◌, ℕ, ◌-◌, Bool, List, [], ◌∷◌, length, take, drop, true, false, refl, arith}
+use Rattle.std.proofs.Common.{◌≡◌, ℕ, ◌-◌, Bool, List, [], ◌∷◌, length, take, drop, true, false, refl, arith, rules}
 use Rattle.std.specs.Prelude.{◌==◌, nat_eq}
 use Rattle.std.specs.List.{starts_with, ends_with, take-map, drop-map}
 use Rattle.std.specs.Str.{bytes_eq, str_to_ascii_lowercase}
@@ -26,8 +26,7 @@ stands_at_start part (byte ∷ rest) h = rw h refl
 -- one that it does not begin with stands behind its first byte or nowhere
 pub stands_behind : (part text : List ℕ) → starts_with nat_eq text part ≡ false → (length text == 0) ≡ false → stands_in part text ≡ stands_in part (drop 1 text)
 unfolding stands_in
-stands_behind part [] h some = cc
-stands_behind part (byte ∷ rest) h some = rw h refl
+stands_behind part text h some = search rules
 
 -- and in an empty text nowhere
 pub stands_nowhere : (part text : List ℕ) → starts_with nat_eq text part ≡ false → (length text == 0) ≡ true → stands_in part text ≡ false

@@ -1,5 +1,5 @@
 -- A reader that reads values inside by itself is its body.
-use Rattle.std.proofs.Common.{◌≡◌, ℕ, zero, suc, ◌<◌, ◌≤◌, List, [], ◌∷◌, map, Bool, true, false, Option, Some, None, Result, Ok, Err, sym, ap, ◌∙◌, refl, arith, rules, decimal}
+use Rattle.std.proofs.Common.{◌≡◌, ℕ, zero, suc, ◌<◌, ◌≤◌, List, [], ◌∷◌, map, Bool, Option, Some, None, Result, Ok, sym, ap, ◌∙◌, refl, arith, rules, decimal}
 use Rattle.std.specs.Prelude.{if◌then◌else◌}
 use Rattle.std.specs.Str.{bytes_eq}
 use Rattle.cd_tree.specs.Fields.{get, is_null}
@@ -26,9 +26,7 @@ enough body i (suc n) (suc m) t at h k =
 -- a recursive reader is its body around itself
 pub unfolds : {X : Type 0} (body : Reader X → Reader X) → Inward body → (t : Tree) (at : Path) → recursive body t at ≡ body (recursive body) t at
 unfolding levels recursive
-unfolds body i t at =
-    i.same (levels body (depth t)) (recursive body) t at
-    (record { same = λ s p l. enough body i (depth t) (suc (depth s)) s p l (omega arith) })
+unfolds body i t at = search (rules, enough)
 
 -- ---- the depth of what is inside
 
@@ -58,8 +56,7 @@ depth-out t = ap depth (sym (roll-out-Tree t)) ∙ depth-roll (out-Tree t)
 
 -- the same next steps after one result
 then_same : {A B : Type 0} (s : Result A LoadFault) (k l : A → Result B LoadFault) → ((a : A) → k a ≡ l a) → (s ▷ k) ≡ (s ▷ l)
-then_same (Ok a) k l h = h a
-then_same (Err f) k l h = refl
+then_same s k l h = search rules
 
 -- the same steps, one after another
 pub ▷-same : {A B : Type 0} (r s : Result A LoadFault) (k l : A → Result B LoadFault) → r ≡ s → ((a : A) → k a ≡ l a) → (r ▷ k) ≡ (s ▷ l)
@@ -68,14 +65,11 @@ pub ▷-same : {A B : Type 0} (r s : Result A LoadFault) (k l : A → Result B L
 -- the first member, for the lemma below
 each-member-more : {X : Type 0} (c : Member → Bool) (f g : List ℕ → Reader X) (b : Bool) (key : List ℕ) (v : Tree) (ms : List Member) (at : Path) → f key v (at ▸ key) ≡ g key v (at ▸ key) → each_member c f ms at ≡ each_member c g ms at
     → (if b then (f key v (at ▸ key) ▷ λ x. each_member c f ms at ▷ λ xs. Ok (x ∷ xs)) else each_member c f ms at) ≡ (if b then (g key v (at ▸ key) ▷ λ x. each_member c g ms at ▷ λ xs. Ok (x ∷ xs)) else each_member c g ms at)
-each-member-more c f g true key v ms at e h = ▷-same (f key v (at ▸ key)) (g key v (at ▸ key)) _ _ e (λ x. ▷-same (each_member c f ms at) (each_member c g ms at) _ _ h (λ xs. refl))
-each-member-more c f g false key v ms at e h = h
+each-member-more c f g b key v ms at e h = search rules
 
 -- the first member, for the lemma below
 get-within-more : (n : ℕ) (b c : Bool) (v : Tree) (o : Option Tree) (s : Tree) → depth v < n → (o ≡ Some s → depth s < n) → (if b then (if c then None else Some v) else o) ≡ Some s → depth s < n
-get-within-more n true true v o s h k e = cc
-get-within-more n true false v o s h k e = let same : v ≡ s = cc in omega (arith, ap depth same)
-get-within-more n false c v o s h k e = k e
+get-within-more n b c v o s h k e = search rules
 
 -- a list
 each-same : {X : Type 0} (f g : Reader X) (n : ℕ) → Agree n f g → (k : ℕ) (ts : List Tree) (at : Path) → largest (map depth ts) < n → each f k ts at ≡ each g k ts at
@@ -86,12 +80,7 @@ each-same f g n a k (t ∷ ts) at h =
 
 -- the same of what stands in a value
 list-layer-same : {X : Type 0} (f g : Reader X) (n : ℕ) → Agree n f g → (x : Tree-F Tree Member) (at : Path) → layer_depth x ≤ n → list_layer f x at ≡ list_layer g x at
-list-layer-same f g n a Tree-F.Null at h = refl
-list-layer-same f g n a (Tree-F.Bool b) at h = refl
-list-layer-same f g n a (Tree-F.Num m) at h = refl
-list-layer-same f g n a (Tree-F.Text t) at h = refl
-list-layer-same f g n a (Tree-F.Items items) at h = each-same f g n a 0 items at (omega arith)
-list-layer-same f g n a (Tree-F.Object ms) at h = refl
+list-layer-same f g n a x at h = search (rules, each-same)
 
 -- readers that agree on the elements agree on the list
 pub list_of-same : {X : Type 0} (f g : Reader X) (n : ℕ) → Agree n f g → (t : Tree) (at : Path) → depth t ≤ n → list_of f t at ≡ list_of g t at
@@ -105,12 +94,7 @@ each-member-same c f g n a (m ∷ ms) at h = each-member-more c f g (c m) (out-M
 
 -- the same of what stands in a value
 object-layer-same : {X : Type 0} (c : Member → Bool) (f g : List ℕ → Reader X) (n : ℕ) → ((name : List ℕ) → Agree n (f name) (g name)) → (x : Tree-F Tree Member) (at : Path) → layer_depth x ≤ n → object_layer c f x at ≡ object_layer c g x at
-object-layer-same c f g n a Tree-F.Null at h = refl
-object-layer-same c f g n a (Tree-F.Bool b) at h = refl
-object-layer-same c f g n a (Tree-F.Num m) at h = refl
-object-layer-same c f g n a (Tree-F.Text t) at h = refl
-object-layer-same c f g n a (Tree-F.Items items) at h = refl
-object-layer-same c f g n a (Tree-F.Object ms) at h = each-member-same c f g n a ms at (omega arith)
+object-layer-same c f g n a x at h = search (rules, each-member-same)
 
 -- readers that agree on the members agree on the object
 pub object_of-same : {X : Type 0} (f g : List ℕ → Reader X) (n : ℕ) → ((name : List ℕ) → Agree n (f name) (g name)) → (t : Tree) (at : Path) → depth t ≤ n → object_of f t at ≡ object_of g t at
@@ -127,13 +111,11 @@ get-within n name (m ∷ ms) h s e = get-within-more n (bytes_eq (out-Member m).
 
 -- a member that may be absent
 there-same : {X : Type 0} (f g : Reader X) (n : ℕ) → Agree n f g → (o : Option Tree) (at : Path) → ((s : Tree) → o ≡ Some s → depth s < n) → where_there f o at ≡ where_there g o at
-there-same f g n a None at h = refl
-there-same f g n a (Some t) at h = ▷-same (f t at) (g t at) _ _ (a.same t at (h t refl)) (λ x. refl)
+there-same f g n a o at h = search rules
 
 -- a member that may not be
 must-same : {X : Type 0} (f g : Reader X) (n : ℕ) → Agree n f g → (o : Option Tree) (at : Path) → ((s : Tree) → o ≡ Some s → depth s < n) → must_be_there f o at ≡ must_be_there g o at
-must-same f g n a None at h = refl
-must-same f g n a (Some t) at h = a.same t at (h t refl)
+must-same f g n a o at h = search rules
 
 -- readers that agree inside agree on a member that may be absent
 pub optional-same : {X : Type 0} (f g : Reader X) (n : ℕ) → Agree n f g → (name : List ℕ) (ms : List Member) (at : Path) → Within n ms → optional f name ms at ≡ optional g name ms at

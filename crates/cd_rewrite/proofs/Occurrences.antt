@@ -1,5 +1,5 @@
 -- A text is cut around the first occurrence that a search finds, and what is replaced goes on behind it.
-use Rattle.std.proofs.Common.{◌≡◌, ℕ, zero, suc, ◌+◌, ◌-◌, ◌<◌, ◌≤◌, List, [], ◌∷◌, ◌++◌, true, false, Option, Some, None, length, take, drop, refl, sym, ap, ◌∙◌, arith, inl, inr, append_assoc, length-append, Err}
+use Rattle.std.proofs.Common.{◌≡◌, ℕ, zero, suc, ◌+◌, ◌-◌, ◌<◌, ◌≤◌, List, [], ◌∷◌, ◌++◌, true, false, Option, Some, None, length, take, drop, refl, sym, ap, ◌∙◌, arith, append_assoc, length-append, Err, rules}
 use Rattle.std.specs.Prelude.{nat_eq, nat_lt, option_map}
 use Rattle.std.specs.List.{starts_with}
 use Rattle.std.specs.Cmp.Lexicographic.{pointwise_decides}
@@ -25,20 +25,15 @@ occurs_first find text e =
     OccursAt-from_part text find 0 (omega (arith, ap length same, length-take {A = ℕ})) (sym same)
 
 not_begun : (find text : List ℕ) → ¬ OccursAt text find 0 → starts_with nat_eq text find ≡ false
-not_begun find text not_there = elim (cases_Bool (starts_with nat_eq text find)) [
-  | inl e ↦ absurd (not_there (occurs_first find text e))
-  | inr e ↦ e
-]
+not_begun find text not_there = search (rules, cases_Bool, occurs_first)
 
 -- ---- an occurrence behind the first byte
 
 behind : (byte : ℕ) (find text : List ℕ) (at : ℕ) → OccursAt text find at → OccursAt (byte ∷ text) find (suc at)
-behind byte find text at occurs =
-    OccursAt-from_part (byte ∷ text) find (suc at) (omega (arith, occurs.fits)) (OccursAt-part text find at occurs)
+behind byte find text at occurs = search (rules, OccursAt-from_part, OccursAt-part)
 
 without_first : (byte : ℕ) (find text : List ℕ) (at : ℕ) → OccursAt (byte ∷ text) find (suc at) → OccursAt text find at
-without_first byte find text at occurs =
-    OccursAt-from_part text find at (omega (arith, occurs.fits)) (OccursAt-part (byte ∷ text) find (suc at) occurs)
+without_first byte find text at occurs = search (rules, OccursAt-from_part, OccursAt-part)
 
 -- ---- the text around what was found
 
@@ -74,8 +69,7 @@ around_is find some (byte ∷ text) (Some (suc at)) h =
 -- without an occurrence nothing is
 pub none_replaced : (n : ℕ) (find replace text : List ℕ) → around find text ≡ None → replaced_up_to n find replace text ≡ text
 unfolding replaced_up_to
-none_replaced zero find replace text e = refl
-none_replaced (suc n) find replace text e = rw e refl
+none_replaced n find replace text e = search rules
 
 -- one occurrence is, and then those behind it
 pub one_replaced : (n : ℕ) (find replace text before rest : List ℕ) → around find text ≡ Some (before, rest)
@@ -97,8 +91,7 @@ rest_stays n find replace left made whole e is = is ∙ ap (λ rest. made ++ res
 pub enough_replaced : (most done : ℕ) (find replace left made whole : List ℕ) → most ≤ done → whole ≡ made ++ replaced_up_to (most - done) find replace left
     → whole ≡ made ++ left
 unfolding replaced_up_to
-enough_replaced most done find replace left made whole enough is =
-    let none : most - done ≡ 0 = omega arith in is ∙ ap (λ n. made ++ replaced_up_to n find replace left) none
+enough_replaced most done find replace left made whole enough is = search rules
 
 -- one more occurrence is replaced
 pub made_longer : (most done : ℕ) (find replace left before rest made longer whole : List ℕ) → done < most → around find left ≡ Some (before, rest)
@@ -114,6 +107,4 @@ made_longer most done find replace left before rest made longer whole under e is
 
 -- what was made so far is too long
 pub too_long : (made rest whole : List ℕ) → whole ≡ made ++ rest → nat_lt MAX_FILLED_BYTES (length made) ≡ true → bounded whole ≡ Err TooLong
-too_long made rest whole is long =
-    let more : MAX_FILLED_BYTES < length whole = rw is (omega (arith, ltb-true _ _ long, length-append made rest)) in
-    cond-true _ _ _ (lt-ltb _ _ more)
+too_long made rest whole is long = search (rules, ltb-true, length-append, cond-true, lt-ltb)

@@ -1,6 +1,6 @@
 -- What replacing means in the words of the rule: each text has a first occurrence or none.
-use Rattle.std.proofs.Common.{◌≡◌, ℕ, zero, suc, ◌+◌, ◌-◌, ◌<◌, ◌≤◌, List, [], ◌∷◌, ◌++◌, false, Option, Some, None, length, take, drop, refl, sym, ap, subst, ◌∙◌, arith, inl, inr, append_assoc, length-append, length-drop, take-append-drop}
-use Rattle.std.specs.Prelude.{nat_eq, option_map, ⊤, ◌==◌}
+use Rattle.std.proofs.Common.{◌≡◌, ℕ, zero, suc, ◌+◌, ◌-◌, ◌<◌, ◌≤◌, List, [], ◌∷◌, ◌++◌, Option, Some, None, length, take, drop, refl, sym, ap, subst, ◌∙◌, arith, inl, inr, append_assoc, length-append, length-drop, take-append-drop, rules}
+use Rattle.std.specs.Prelude.{nat_eq, option_map, ⊤}
 use Rattle.std.specs.List.{starts_with}
 use Rattle.std.proofs.lemmas.Bool.{cond-true, cond-false, cases_Bool}
 use Rattle.std.proofs.lemmas.Bool.Decides.{nat_tests}
@@ -12,8 +12,7 @@ use Rattle.cd_rewrite.proofs.Occurrences.{around_is, one_more, none_replaced, on
 
 -- an occurrence cuts the text
 cut : (find text : List ℕ) (at : ℕ) → OccursAt text find at → take at text ++ (find ++ drop (at + length find) text) ≡ text
-cut find text at occurs =
-    ap (λ rest. take at text ++ rest) (sym (OccursAt-split text find at occurs)) ∙ take-append-drop at text
+cut find text at occurs = search (rules, take, OccursAt-split, take-append-drop)
 
 -- a text without any is left alone
 pub absent_around : (find text : List ℕ) → 0 < length find → IsAbsent find text → around find text ≡ None
@@ -37,9 +36,7 @@ fits : (find before after : List ℕ) → length before + length find ≤ length
 fits find before after = omega (arith, length-append before (find ++ after), length-append find after)
 
 at_once : (find before after : List ℕ) → OccursAt (before ++ (find ++ after)) find (length before)
-at_once find before after =
-    OccursAt-from_part (before ++ (find ++ after)) find (length before) (fits find before after)
-    (ap (take (length find)) (drop_at before (find ++ after) (length before) refl) ∙ take_at find after (length find) refl)
+at_once find before after = search (rules, OccursAt-from_part, fits, drop_at, take_at)
 
 -- the first occurrence is the one that is cut at
 pub first_around : (find before after : List ℕ) → 0 < length find → IsBeforeFirst find before → around find (before ++ (find ++ after)) ≡ Some (before, after)
@@ -65,8 +62,7 @@ Shorter n None = ⊤
 Shorter n (Some parts) = length parts.1 < n
 
 shorter_behind : (byte n : ℕ) (found : Option (List ℕ × List ℕ)) → Shorter n found → Shorter (suc n) (option_map (one_more byte) found)
-shorter_behind byte n None h = tt
-shorter_behind byte n (Some parts) h = omega (arith, h)
+shorter_behind byte n found h = search rules
 
 shorter : (find text : List ℕ) → 0 < length find → Shorter (length text) (around find text)
 unfolding around
@@ -103,12 +99,10 @@ as_many find replace some (suc n) (suc m) text low high =
 
 looked_for : (find replace text : List ℕ) (limit : ℕ) → 0 < length find → substituted find replace limit text ≡ replaced_up_to (most limit text) find replace text
 unfolding substituted
-looked_for find replace text limit some =
-    let not_empty : (length find == 0) ≡ false = grind (arith, nat_tests) in cond-false _ _ _ not_empty
+looked_for find replace text limit some = search (rules, nat_tests, cond-false)
 
 limited : (text : List ℕ) (limit : ℕ) → 0 < limit → most limit text ≡ limit
-limited text limit some =
-    let not_zero : (limit == 0) ≡ false = grind (arith, nat_tests) in cond-false _ _ _ not_zero
+limited text limit some = search (rules, nat_tests, cond-false)
 
 pub each_replaced : (find replace before after : List ℕ) → 0 < length find → IsBeforeFirst find before
     → substituted find replace 0 (before ++ (find ++ after)) ≡ before ++ (replace ++ substituted find replace 0 after)
@@ -135,16 +129,11 @@ some_replaced find replace before after limit some first more =
 pub last_replaced : (find replace before after : List ℕ) → 0 < length find → IsBeforeFirst find before
     → substituted find replace 1 (before ++ (find ++ after)) ≡ before ++ (replace ++ after)
 unfolding replaced_up_to
-last_replaced find replace before after some first =
-    looked_for find replace (before ++ (find ++ after)) 1 some
-    ∙ one_replaced 0 find replace (before ++ (find ++ after)) before after (first_around find before after some first)
+last_replaced find replace before after some first = search (rules, looked_for, one_replaced, first_around)
 
 pub none_is_left : (find replace text : List ℕ) (limit : ℕ) → IsAbsent find text → substituted find replace limit text ≡ text
 unfolding substituted
-none_is_left [] replace text limit absent = refl
-none_is_left (byte ∷ find) replace text limit absent =
-    looked_for (byte ∷ find) replace text limit (omega arith)
-    ∙ none_replaced (most limit text) (byte ∷ find) replace text (absent_around (byte ∷ find) text (omega arith) absent)
+none_is_left find replace text limit absent = search (rules, looked_for, none_replaced, absent_around)
 
 pub nothing_replaced : (replace text : List ℕ) (limit : ℕ) → substituted [] replace limit text ≡ text
 unfolding substituted

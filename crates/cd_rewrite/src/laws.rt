@@ -6,7 +6,7 @@ ghost use Rattle.cd_rewrite.specs.Substrings.{IsAbsent, IsBeforeFirst, substitut
 /// replaced, and what follows it is treated by itself, with one less to be replaced where there is a limit. So no occurrence is
 /// left between two that were replaced, none overlaps another, and what is written in their place is never looked at. After the
 /// last one that a limit allows, everything stays as it is. So does a text without an occurrence, and every text where nothing
-/// is looked for. Each text is of one of these kinds, so no other replacing obeys this.
+/// is looked for.
 pub fn occurrences_are_replaced()
     ensures each { (find replace before after : List ℕ) → 0 < length find → IsBeforeFirst find before
         → substituted find replace 0 (before ++ (find ++ after)) ≡ before ++ (replace ++ substituted find replace 0 after) }

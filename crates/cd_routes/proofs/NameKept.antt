@@ -1,5 +1,5 @@
 -- A handler or a subroute has the name that it was read with.
-use Rattle.std.proofs.Common.{◌≡◌, ℕ, List, Bool, true, false, refl, Result, Ok, Err, rules}
+use Rattle.std.proofs.Common.{◌≡◌, ℕ, List, Bool, true, false, refl, Result, Ok, rules}
 use Rattle.std.specs.Prelude.{codes, if◌then◌else◌}
 use Rattle.std.specs.Str.{bytes_eq}
 use Rattle.std.proofs.lemmas.Slice.Eq.{bytes_eq-Decides}
@@ -26,12 +26,10 @@ handler-named : (h : Handler) → step_name (kind.Handler h) ≡ handler_name h
 handler-named h = search (rules, the_lemmas)
 
 subroute-so : (r : Result Subroute LoadFault) (read : Step) → (r ▷ λ s. Ok (kind.Subroute s)) ≡ Ok read → step_name read ≡ subroute_name
-subroute-so (Ok s) read e = let this : step_name (kind.Subroute s) ≡ subroute_name = subroute-named s in cc
-subroute-so (Err fault) read e = cc
+subroute-so r read e = search (rules, subroute-named)
 
 handler-so : (r : Result Handler LoadFault) (named : Result (List ℕ) LoadFault) (read : Step) → ((h : Handler) → r ≡ Ok h → named ≡ Ok (handler_name h)) → (r ▷ λ h. Ok (kind.Handler h)) ≡ Ok read → named ≡ Ok (step_name read)
-handler-so (Ok h) named read kept e = let has : named ≡ Ok (handler_name h) = kept h refl in let this : step_name (kind.Handler h) ≡ handler_name h = handler-named h in cc
-handler-so (Err fault) named read kept e = cc
+handler-so r named read kept e = search (rules, handler-named)
 
 either-so : (inner : Reader (List Route)) (t : Tree) (at : Path) (read : Step) (name : List ℕ) (is : Bool) → bytes_eq name subroute_name ≡ is → name_of (codes "handler") t at ≡ Ok name →
     (if is then (subroute inner t at ▷ λ s. Ok (kind.Subroute s)) else (handler t at ▷ λ h. Ok (kind.Handler h))) ≡ Ok read →
@@ -45,8 +43,7 @@ either-so inner t at read name false same named e = handler-so (handler t at) (n
 name-first : (inner : Reader (List Route)) (r : Result (List ℕ) LoadFault) (t : Tree) (at : Path) (read : Step) → name_of (codes "handler") t at ≡ r →
     (r ▷ λ name. if bytes_eq name (codes "subroute") then (subroute inner t at ▷ λ s. Ok (kind.Subroute s)) else (handler t at ▷ λ h. Ok (kind.Handler h))) ≡ Ok read →
     name_of (codes "handler") t at ≡ Ok (step_name read)
-name-first inner (Ok name) t at read named e = either-so inner t at read name (bytes_eq name subroute_name) refl named e
-name-first inner (Err fault) t at read named e = cc
+name-first inner r t at read named e = search (rules, either-so)
 
 pub step_name_kept : (inner : Reader (List Route)) (t : Tree) (at : Path) (read : Step) → step inner t at ≡ Ok read → name_of (codes "handler") t at ≡ Ok (step_name read)
 unfolding step

@@ -1,5 +1,5 @@
 -- The names of servers rise where the keys of their object do.
-use Rattle.std.proofs.Common.{◌≡◌, ℕ, List, [], ◌∷◌, Bool, true, false, ◌&&◌, map, refl, ap, sym, ◌∙◌, Result, Ok}
+use Rattle.std.proofs.Common.{◌≡◌, ℕ, List, [], ◌∷◌, Bool, true, false, ◌&&◌, map, refl, ap, sym, ◌∙◌, Result, Ok, rules}
 use Rattle.std.specs.Prelude.{codes, if◌then◌else◌}
 use Rattle.std.specs.List.{list_all}
 use Rattle.std.proofs.lemmas.Bool.{and_parts}
@@ -67,12 +67,7 @@ rise-all (m ∷ ms) at read keys e =
     rise-one m ms at read (is_setting m) (λ xs is. rise-all ms at xs parts.1 is) parts.0 e
 
 rise-layer : (x : Tree-F Tree Member) (at : Path) (read : List Server) → layer_ordered x ≡ true → object_layer is_setting server x at ≡ Ok read → Rise read
-rise-layer Tree-F.Null at read ordered e = cc
-rise-layer (Tree-F.Bool b) at read ordered e = cc
-rise-layer (Tree-F.Num n) at read ordered e = cc
-rise-layer (Tree-F.Text t) at read ordered e = cc
-rise-layer (Tree-F.Items items) at read ordered e = cc
-rise-layer (Tree-F.Object ms) at read ordered e = rise-all ms at read (and_parts (keys_rise (map ordered_member ms)) _ ordered).0 e
+rise-layer x at read ordered e = search (rules, rise-all, and_parts)
 
 pub names_rise_there : (t : Tree) (at : Path) (read : List Server) → IsSound t → object_of server t at ≡ Ok read → names_rise (names_of read) ≡ true
 names_rise_there t at read sound e = rise-layer (out-Tree t) at read (sym (is_ordered-out t) ∙ (parts_of t sound).ordered) e

@@ -1,35 +1,25 @@
 -- The routes of a subroute are read as all routes are.
-use Rattle.std.proofs.Common.{◌≡◌, ℕ, List, Bool, true, false, refl, arith}
-use Rattle.std.specs.Prelude.{codes, if◌then◌else◌}
+use Rattle.std.proofs.Common.{◌≡◌, ℕ, List, refl, arith, rules}
+use Rattle.std.specs.Prelude.{codes}
 use Rattle.std.specs.Str.{bytes_eq}
 use Rattle.cd_tree.specs.Tree.{depth}
 use Rattle.cd_tree.specs.declared.path.Path.{Path}
 use Rattle.cd_tree.specs.declared.tree.Tree.{Tree}
 use Rattle.cd_module.specs.Settings.{Reader, text, list_of, optional, name_of}
 use Rattle.cd_module.proofs.Recursion.{Agree, Inward, unfolds, ▷-same, list_of-same, optional-same}
+use Rattle.cd_module.proofs.Bare.{if_same}
 use Rattle.cd_module.proofs.Inside.{members-same}
 use Rattle.cd_match.specs.Matchers.{route_sets}
 use Rattle.cd_routes.specs.Reading.{routes, route, step, subroute, error_routes}
 use Rattle.cd_routes.specs.declared.route.Route.{Route}
 
-pub if_same : {A : Type 0} (b : Bool) (x y z w : A) → x ≡ y → z ≡ w → (if b then x else z) ≡ (if b then y else w)
-if_same true x y z w e f = e
-if_same false x y z w e f = f
-
 errors-same : (f g : Reader (List Route)) (n : ℕ) → Agree n f g → Agree n (error_routes f) (error_routes g)
 unfolding error_routes
-errors-same f g n a = record {
-  same = λ s p h. members-same n (codes "routes") s p _ _ (omega arith) (λ ms w.
-      ▷-same (optional f (codes "routes") ms p) (optional g (codes "routes") ms p) _ _ (optional-same f g n a (codes "routes") ms p w) (λ found. refl));
-}
+errors-same f g n a = search (rules, members-same, ▷-same, optional-same)
 
 subroute-same : (f g : Reader (List Route)) (n : ℕ) → Agree n f g → Agree n (subroute f) (subroute g)
 unfolding subroute
-subroute-same f g n a = record {
-  same = λ s p h. members-same n (codes "handler routes errors") s p _ _ (omega arith) (λ ms w.
-      ▷-same (optional f (codes "routes") ms p) (optional g (codes "routes") ms p) _ _ (optional-same f g n a (codes "routes") ms p w) (λ found.
-      ▷-same (optional (error_routes f) (codes "errors") ms p) (optional (error_routes g) (codes "errors") ms p) _ _ (optional-same (error_routes f) (error_routes g) n (errors-same f g n a) (codes "errors") ms p w) (λ caught. refl)));
-}
+subroute-same f g n a = search (rules, members-same, ▷-same, optional-same, errors-same)
 
 step-same : (f g : Reader (List Route)) (n : ℕ) → Agree n f g → Agree n (step f) (step g)
 unfolding step

@@ -22,7 +22,6 @@ use Rattle.cd_standard.specs.Acting.{acts_of, acts_of_tree, acts_in, plan_of_tre
 use Rattle.cd_standard.specs.Configuration.{configuration}
 use Rattle.cd_standard.specs.Loading.{accepted, judged, limits, loaded, nothing_said, of_ids, of_object, of_settings, planned, all_distinct}
 use Rattle.cd_standard.specs.Plans.{admin_plans, app_modules, app_plan, app_name, app_addresses, apps_of, modules_of, addresses_of, root}
-use Rattle.cd_legal.specs.declared.plan.Plan.{Plan}
 use Rattle.cd_legal.specs.declared.plan.PlanApp.{PlanApp}
 use Rattle.cd_standard.specs.declared.app.App.{App}
 use Rattle.cd_standard.specs.declared.admin.Admin.{Admin}

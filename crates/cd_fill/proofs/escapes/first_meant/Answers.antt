@@ -9,5 +9,4 @@ pub returns-in-Some : goal.returns-in-Some
 returns-in-Some c = rw (c.rest_from.ensures, c.in-Some.ensures.1) (meant_escape c.args.raw.now c.in-Some.ensures.0, escape_length c.args.raw.now c.in-Some.ensures.0)
 
 pub returns-in-None : goal.returns-in-None
-returns-in-None c =
-    rw (c.rest_from-in-None.ensures, c.space_for_plus.ensures) (meant_plain c.args.raw.now c.in-None.ensures (search rules), some_length c.args.raw.now (search rules))
+returns-in-None c = search (rules, meant_plain, some_length)

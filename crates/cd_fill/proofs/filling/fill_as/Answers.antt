@@ -1,4 +1,4 @@
-use Rattle.std.proofs.Common.{◌≡◌, ◌++◌, arith}
+use Rattle.std.proofs.Common.{rules, ◌≡◌, ◌++◌, arith}
 use Rattle.cd_fill.specs.Filling.{filled_as}
 use Rattle.cd_fill.proofs.Pieces.{piece_written, too_long, last_written, gives_that}
 use Rattle.cd_fill.proofs.filling.fill_as.Goals as goal
@@ -16,6 +16,4 @@ loop-piece-preserved c =
     piece_written c.args.form c.args.scene.now _ c.loop-piece.out c.loop-piece.rest.now c.in-Some.piece.now _ _ c.loop-piece.invariant c.in-Some.ensures.0 c.in-Some.ensures.1 c.in-Some.ensures.2 c.in_ok-put_closed.ensures
 
 pub returns : goal.returns
-returns c =
-    let whole = last_written c.args.form c.args.scene.now c.args.text.now c.loop-piece.out c.loop-piece.rest.now c.put_written.new.out c.loop-piece.invariant c.in_default.ensures c.in_ok-put_written.ensures in
-    rw (whole, ← c.bounded.ensures) (gives_that c.bounded.result)
+returns c = search (rules, last_written, gives_that)

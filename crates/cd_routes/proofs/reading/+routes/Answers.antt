@@ -1,9 +1,9 @@
 use Rattle.std.proofs.Common.{rules, arith, ◌≡◌, ◌<◌, ap, sym, ◌∙◌, map, length, get_or}
-use Rattle.std.proofs.lemmas.Result.{err_from_is_err_and}
 use Rattle.cd_module.proofs.Inside.{members_depth, get_depth, element_depth, each_step}
 use Rattle.cd_tree.specs.Tree.{depth, largest}
 use Rattle.cd_routes.specs.Reading.{route, routes, subroute}
 use Rattle.cd_routes.proofs.Routes.{routes_are}
+use Rattle.cd_handlers.proofs.Readers.{step_failed}
 use Rattle.cd_routes.proofs.reading.+routes.Goals as goal
 
 pub read_routes-returns : goal.read_routes-returns
@@ -11,33 +11,23 @@ read_routes-returns t c = rw routes_are c.read_route_list.ensures
 
 pub read_route-returns-in_err-fields : goal.read_route-returns-in_err-fields
 unfolding route
-read_route-returns-in_err-fields t c =
-    let p = err_from_is_err_and c.from_residual.result c.from_residual.ensures.1 in
-    rw (p.1, p.2) (λ ne. rw (c.in_err-fields.ensures ne))
+read_route-returns-in_err-fields t c = step_failed _ _ _ c.from_residual.ensures.1 (λ ne. rw (c.in_err-fields.ensures ne))
 
 pub read_route-returns-in_err-group : goal.read_route-returns-in_err-group
 unfolding route
-read_route-returns-in_err-group t c =
-    let p = err_from_is_err_and c.from_residual-in_err-group.result c.from_residual-in_err-group.ensures.1 in
-    rw (p.1, p.2) (λ ne. rw (c.in_ok-fields.ensures, c.in_err-group.ensures ne))
+read_route-returns-in_err-group t c = step_failed _ _ _ c.from_residual-in_err-group.ensures.1 (λ ne. rw (c.in_ok-fields.ensures, c.in_err-group.ensures ne))
 
 pub read_route-returns-in_err-matching : goal.read_route-returns-in_err-matching
 unfolding route
-read_route-returns-in_err-matching t c =
-    let p = err_from_is_err_and c.from_residual-in_err-matching.result c.from_residual-in_err-matching.ensures.1 in
-    rw (p.1, p.2) (λ ne. rw (c.in_ok-fields.ensures, c.in_ok-group.ensures, c.in_err-matching.ensures ne))
+read_route-returns-in_err-matching t c = step_failed _ _ _ c.from_residual-in_err-matching.ensures.1 (λ ne. rw (c.in_ok-fields.ensures, c.in_ok-group.ensures, c.in_err-matching.ensures ne))
 
 pub read_route-returns-in_err-handle : goal.read_route-returns-in_err-handle
 unfolding route
-read_route-returns-in_err-handle t c =
-    let p = err_from_is_err_and c.from_residual-in_err-handle.result c.from_residual-in_err-handle.ensures.1 in
-    rw (p.1, p.2) (λ ne. rw (c.in_ok-fields.ensures, c.in_ok-group.ensures, c.in_ok-matching.ensures, c.in_err-handle.ensures ne))
+read_route-returns-in_err-handle t c = step_failed _ _ _ c.from_residual-in_err-handle.ensures.1 (λ ne. rw (c.in_ok-fields.ensures, c.in_ok-group.ensures, c.in_ok-matching.ensures, c.in_err-handle.ensures ne))
 
 pub read_route-returns-in_err-terminal : goal.read_route-returns-in_err-terminal
 unfolding route
-read_route-returns-in_err-terminal t c =
-    let p = err_from_is_err_and c.from_residual-in_err-terminal.result c.from_residual-in_err-terminal.ensures.1 in
-    rw (p.1, p.2) (λ ne. rw (c.in_ok-fields.ensures, c.in_ok-group.ensures, c.in_ok-matching.ensures, c.in_ok-handle.ensures, c.in_err-terminal.ensures ne))
+read_route-returns-in_err-terminal t c = step_failed _ _ _ c.from_residual-in_err-terminal.ensures.1 (λ ne. rw (c.in_ok-fields.ensures, c.in_ok-group.ensures, c.in_ok-matching.ensures, c.in_ok-handle.ensures, c.in_err-terminal.ensures ne))
 
 pub read_route-returns : goal.read_route-returns
 unfolding route
@@ -45,21 +35,15 @@ read_route-returns t c = rw (c.in_ok-fields.ensures, c.in_ok-group.ensures, c.in
 
 pub read_subroute-returns-in_err-fields : goal.read_subroute-returns-in_err-fields
 unfolding subroute
-read_subroute-returns-in_err-fields t c =
-    let p = err_from_is_err_and c.from_residual.result c.from_residual.ensures.1 in
-    rw (p.1, p.2) (λ ne. rw (c.in_err-fields.ensures ne))
+read_subroute-returns-in_err-fields t c = step_failed _ _ _ c.from_residual.ensures.1 (λ ne. rw (c.in_err-fields.ensures ne))
 
 pub read_subroute-returns-in_err-routes : goal.read_subroute-returns-in_err-routes
 unfolding subroute
-read_subroute-returns-in_err-routes t c =
-    let p = err_from_is_err_and c.from_residual-in_err-routes.result c.from_residual-in_err-routes.ensures.1 in
-    rw (p.1, p.2) (λ ne. rw (c.in_ok-fields.ensures, c.in_err-routes.ensures ne))
+read_subroute-returns-in_err-routes t c = step_failed _ _ _ c.from_residual-in_err-routes.ensures.1 (λ ne. rw (c.in_ok-fields.ensures, c.in_err-routes.ensures ne))
 
 pub read_subroute-returns-in_err-errors : goal.read_subroute-returns-in_err-errors
 unfolding subroute
-read_subroute-returns-in_err-errors t c =
-    let p = err_from_is_err_and c.from_residual-in_err-errors.result c.from_residual-in_err-errors.ensures.1 in
-    rw (p.1, p.2) (λ ne. rw (c.in_ok-fields.ensures, c.in_ok-routes.ensures, c.in_err-errors.ensures ne))
+read_subroute-returns-in_err-errors t c = step_failed _ _ _ c.from_residual-in_err-errors.ensures.1 (λ ne. rw (c.in_ok-fields.ensures, c.in_ok-routes.ensures, c.in_err-errors.ensures ne))
 
 pub read_subroute-returns : goal.read_subroute-returns
 unfolding subroute

@@ -1,37 +1,27 @@
 use Rattle.std.proofs.Common.{rules}
-use Rattle.std.proofs.lemmas.Result.{err_from_is_err_and}
 use Rattle.cd_routes.specs.Server.{timeouts}
+use Rattle.cd_handlers.proofs.Readers.{step_failed}
 use Rattle.cd_routes.proofs.server.read_timeouts.Goals as goal
 
 pub returns-in_err-optional-2 : goal.returns-in_err-optional-2
 unfolding timeouts
-returns-in_err-optional-2 c =
-    let p = err_from_is_err_and c.from_residual-in_err-optional-2.result c.from_residual-in_err-optional-2.ensures.1 in
-    rw (p.1, p.2) (λ ne. rw (c.in_ok-optional.ensures, c.in_err-optional-2.ensures ne))
+returns-in_err-optional-2 c = step_failed _ _ _ c.from_residual-in_err-optional-2.ensures.1 (λ ne. rw (c.in_ok-optional.ensures, c.in_err-optional-2.ensures ne))
 
 pub returns-in_err-optional-3 : goal.returns-in_err-optional-3
 unfolding timeouts
-returns-in_err-optional-3 c =
-    let p = err_from_is_err_and c.from_residual-in_err-optional-3.result c.from_residual-in_err-optional-3.ensures.1 in
-    rw (p.1, p.2) (λ ne. rw (c.in_ok-optional.ensures, c.in_ok-optional-2.ensures, c.in_err-optional-3.ensures ne))
+returns-in_err-optional-3 c = step_failed _ _ _ c.from_residual-in_err-optional-3.ensures.1 (λ ne. rw (c.in_ok-optional.ensures, c.in_ok-optional-2.ensures, c.in_err-optional-3.ensures ne))
 
 pub returns-in_err-optional-4 : goal.returns-in_err-optional-4
 unfolding timeouts
-returns-in_err-optional-4 c =
-    let p = err_from_is_err_and c.from_residual-in_err-optional-4.result c.from_residual-in_err-optional-4.ensures.1 in
-    rw (p.1, p.2) (λ ne. rw (c.in_ok-optional.ensures, c.in_ok-optional-2.ensures, c.in_ok-optional-3.ensures, c.in_err-optional-4.ensures ne))
+returns-in_err-optional-4 c = step_failed _ _ _ c.from_residual-in_err-optional-4.ensures.1 (λ ne. rw (c.in_ok-optional.ensures, c.in_ok-optional-2.ensures, c.in_ok-optional-3.ensures, c.in_err-optional-4.ensures ne))
 
 pub returns-in_err-optional-5 : goal.returns-in_err-optional-5
 unfolding timeouts
-returns-in_err-optional-5 c =
-    let p = err_from_is_err_and c.from_residual-in_err-optional-5.result c.from_residual-in_err-optional-5.ensures.1 in
-    rw (p.1, p.2) (λ ne. rw (c.in_ok-optional.ensures, c.in_ok-optional-2.ensures, c.in_ok-optional-3.ensures, c.in_ok-optional-4.ensures, c.in_err-optional-5.ensures ne))
+returns-in_err-optional-5 c = step_failed _ _ _ c.from_residual-in_err-optional-5.ensures.1 (λ ne. rw (c.in_ok-optional.ensures, c.in_ok-optional-2.ensures, c.in_ok-optional-3.ensures, c.in_ok-optional-4.ensures, c.in_err-optional-5.ensures ne))
 
 pub returns-in_err-optional-6 : goal.returns-in_err-optional-6
 unfolding timeouts
-returns-in_err-optional-6 c =
-    let p = err_from_is_err_and c.from_residual-in_err-optional-6.result c.from_residual-in_err-optional-6.ensures.1 in
-    rw (p.1, p.2) (λ ne. rw (c.in_ok-optional.ensures, c.in_ok-optional-2.ensures, c.in_ok-optional-3.ensures, c.in_ok-optional-4.ensures, c.in_ok-optional-5.ensures, c.in_err-optional-6.ensures ne))
+returns-in_err-optional-6 c = step_failed _ _ _ c.from_residual-in_err-optional-6.ensures.1 (λ ne. rw (c.in_ok-optional.ensures, c.in_ok-optional-2.ensures, c.in_ok-optional-3.ensures, c.in_ok-optional-4.ensures, c.in_ok-optional-5.ensures, c.in_err-optional-6.ensures ne))
 
 pub returns : goal.returns
 unfolding timeouts
