@@ -7,8 +7,6 @@
 #![tactic(auto)]
 
 mod lanes;
-#[cfg(test)]
-mod tests;
 mod words;
 
 use cd_doorway::{DoorFixtures, Doorway};

@@ -15,8 +15,6 @@ mod console;
 mod lines;
 mod moving;
 mod streams;
-#[cfg(test)]
-mod tests;
 
 pub use announced::Announced;
 pub use config_file::{ConfigFile, ConfigSource};
