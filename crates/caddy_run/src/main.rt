@@ -1,9 +1,9 @@
 //! The program: it gives `caddy_main` of `cd_program` the real forms of the outside.
 //!
 //! `run` serves the lanes of a doorway, over TCP, by the forms of `cd_doorway`. `stdio` serves standard input and output, by those
-//! of `cd_edge`; words that serve nothing get forms in memory. lanes.rt says how many lanes there are, and words.rt reads the
-//! words and finds the file of the configuration. No contract speaks of what a stream, a socket or a file holds: what the program
-//! does with them is proved of `caddy_main`, and tests/loopback looks at the program from outside.
+//! of `cd_edge`; words that serve nothing get the same lane, and it comes back untouched. lanes.rt says how many lanes there are,
+//! and words.rt reads the words and finds the file of the configuration. No contract speaks of what a stream, a socket or a file
+//! holds: what the program does with them is proved of `caddy_main`, and tests/loopback looks at the program from outside.
 #![tactic(auto)]
 
 mod lanes;
@@ -11,7 +11,7 @@ mod words;
 
 use cd_doorway::{DoorFixtures, Doorway};
 use cd_edge::{Announced, Console, StreamLane};
-use cd_outside::{MemoryFixtures, MemoryLane};
+use cd_outside::MemoryFixtures;
 use cd_program::caddy_main;
 use cd_text::List;
 use lanes::{door_lanes, one_lane};
@@ -47,7 +47,7 @@ fn main(rt: HostRuntime) -> ExitCode {
         let mut out = Console::new(rt.stderr());
         caddy_main(&rt, alloc, words, &mut config, &mut out, fixtures, lanes).status
     } else {
-        let lane = MemoryLane::new(alloc, List::new(alloc), List::new(alloc));
+        let lane = StreamLane::new(alloc, rt.stdin(), rt.stdout());
         let Ok(lanes) = one_lane(alloc, lane) else {
             return ExitCode::from(5);
         };
