@@ -1,9 +1,11 @@
 //! A conversation with the program, as a row says it.
+ghost use Rattle.std.specs.Prelude.{◌≡◌, ◌≤◌, false, length, is_some, All};
 ghost use Rattle.cd_tree.specs.Tree.{IsSound};
 
 use crate::ending::{Shown, text_of};
 use crate::handles::Handles;
 use crate::laning::{lanes_of, numbers_of, pieces};
+use crate::resting::RestingLane;
 use cd_outside::{MemoryFixtures, MemorySink, MemorySource};
 use cd_program::caddy_main;
 use cd_rows::{Kinds, Outcome, RowFault, bytes_at, find, has, is_true, needed, number_of, only};
@@ -84,11 +86,38 @@ fn ended<R: Threads + Wait + Sync>(
 ) -> Result<Octets, RowFault>
     requires { IsSound row.now }
 {
+    let shown = shown_of(row)?;
     let words = words_of(alloc, row)?;
-    let mut config = source_of(alloc, row)?;
-    let mut out = MemorySink::new(alloc, failing(alloc, row, "output")?);
+    let config = source_of(alloc, row)?;
+    let out = MemorySink::new(alloc, failing(alloc, row, "output")?);
     let fixtures = MemoryFixtures::new(alloc, failing(alloc, row, "fixtures")?)?;
     let lanes = lanes_of(alloc, row, size)?;
+    ended_over(rt, alloc, words, config, out, fixtures, lanes, shown)
+}
+
+fn shown_of(row: &Tree) -> Result<Shown, RowFault> {
+    Ok(Shown {
+        rests: is_true(row, "rests")?,
+        calls: is_true(row, "calls")?,
+        lanes: has(row, "lanes"),
+    })
+}
+
+// How the program ends over all that it is handed. All of it is made before, so that nothing is let go of on the way.
+fn ended_over<R: Threads + Wait + Sync>(
+    rt: &R,
+    alloc: Global,
+    words: List<Text>,
+    mut config: MemorySource,
+    mut out: MemorySink,
+    fixtures: MemoryFixtures,
+    lanes: List<RestingLane>,
+    shown: Shown,
+) -> Result<Octets, RowFault>
+    requires some { 1 ≤ length lanes }
+    requires few { length lanes ≤ 63 }
+    requires idle { All (λ lane. is_some lane.lane.current ≡ false) lanes }
+{
     let ended = caddy_main(
         rt,
         alloc,
@@ -98,11 +127,6 @@ fn ended<R: Threads + Wait + Sync>(
         fixtures,
         lanes,
     );
-    let shown = Shown {
-        rests: is_true(row, "rests")?,
-        calls: is_true(row, "calls")?,
-        lanes: has(row, "lanes"),
-    };
     text_of(alloc, &ended, &out, shown)
 }
 
