@@ -1,5 +1,7 @@
 //! What `main` hands over goes to `caddy_main` here, since a function that owns many values over many exits is slow to check.
-ghost use Rattle.std.specs.Prelude.{◌≡◌, ◌≤◌, false, length, All};
+ghost use Rattle.std.specs.Prelude.{◌≡◌, ◌≤◌, ◌↔◌, false, length, All, IfOk};
+ghost use Rattle.cd_program.specs.Words.{command, has_file};
+ghost use Rattle.cd_program.specs.declared.command.Command.TheVariants.{Unknown};
 
 use crate::lanes::one_lane;
 use cd_edge::StreamLane;
@@ -30,6 +32,9 @@ pub fn over_lanes<
     requires some { 1 ≤ length lanes }
     requires few { length lanes ≤ 63 }
     requires idle { All (λ lane. L.busy lane ≡ false) lanes }
+    ensures known { result ≤ 5 }
+    ensures usage { (result ≡ 2) ↔ (command words.now ≡ Unknown) }
+    ensures unread { has_file (command words.now) ≡ false → config.new ≡ config.old }
 {
     caddy_main(rt, alloc, words, config, &mut out, fixtures, lanes).status
 }
@@ -50,6 +55,9 @@ pub fn over_streams<
     lane: StreamLane<I, W>,
 ) -> Result<u8, NoMemory>
     requires { lane.connected ≡ false }
+    ensures known { IfOk result (λ status. status ≤ 5) }
+    ensures usage { IfOk result (λ status. (status ≡ 2) ↔ (command words.now ≡ Unknown)) }
+    ensures unread { has_file (command words.now) ≡ false → config.new ≡ config.old }
 {
     let fixtures = MemoryFixtures::new(alloc, List::new(alloc))?;
     let lanes = one_lane(alloc, lane)?;
