@@ -13,7 +13,7 @@ use crate::endpoint::{Endpoint, action_at, endpoint_of};
 use crate::fields::{are_json, values_of};
 use cd_path::Verb;
 use cd_tree::{Tree, TreeFault, read};
-use cd_wire::{Field, Request};
+use cd_wire::{Fields, Request};
 use std::alloc::Global;
 
 /// What a request asks for, or how it ends before its tree is looked at.
@@ -22,11 +22,11 @@ pub(crate) fn asked_by(alloc: Global, request: &Request) -> Result<Asked, Ending
     ensures exact { Gives Ending.NoMemory result (asked request.now) }
     ensures sound { IfOk result (λ asked. ForSome asked.body IsSound) }
 {
-    let place = endpoint_of(alloc, request.path.as_slice())?;
-    let action = action_at(&place, request.method.as_str())?;
+    let place = endpoint_of(alloc, request.path())?;
+    let action = action_at(&place, request.method())?;
     no_halt(&place)?;
-    acceptable(alloc, action, request.fields.as_slice())?;
-    let body = body_for(alloc, action, request.body.as_slice())?;
+    acceptable(alloc, action, request.fields())?;
+    let body = body_for(alloc, action, request.body())?;
     Ok(Asked {
         place,
         action,
@@ -54,13 +54,14 @@ fn no_halt(place: &Endpoint) -> Result<(), Ending>
 }
 
 #[tactic(auto, unfolding(crate::specs::Asking::acceptable))]
-fn acceptable(alloc: Global, action: Action, fields: &[Field]) -> Result<(), Ending>
-    ensures { Gives Ending.NoMemory result (acceptable action fields.now) }
+fn acceptable(alloc: Global, action: Action, fields: Fields<'_>) -> Result<(), Ending>
+    ensures { Gives Ending.NoMemory result (acceptable action fields.entry) }
 {
     if !takes_body(action) {
         return Ok(());
     }
-    let types = values_of(alloc, fields, "content-type")?;
+    let fields = fields.list(alloc)?;
+    let types = values_of(alloc, fields.as_slice(), "content-type")?;
     if are_json(alloc, types.as_slice())? {
         Ok(())
     } else {

@@ -11,7 +11,6 @@ ghost use Rattle.cd_admin.specs.Decisions.{IsServed, IsBy, said};
 use crate::administered::Administered;
 use crate::answers::{done, refusal, shown};
 use crate::asking::asked_by;
-use crate::copying::copy_request;
 use crate::decision::Decision;
 use crate::denial::Denial;
 use crate::ending::Ending;
@@ -51,7 +50,7 @@ pub fn decide<M: Administered>(
     changes_are_decided::<M>();
     match replaced::<M>(alloc, tree, request) {
         Ok(loaded) => {
-            let change = Change::Request(copy_request(alloc, request)?);
+            let change = Change::Request(request.copy(alloc)?);
             Ok(Decision::Replace(loaded, change))
         }
         Err(ending) => ended(alloc, ending),
@@ -71,7 +70,8 @@ fn replaced<M: Administered>(
         (replaced M.plan tree.now request.now) }
 {
     let asked = asked_by(alloc, request)?;
-    let made = make(alloc, tree, request.fields.as_slice(), &asked)?;
+    let fields = request.fields().list(alloc)?;
+    let made = make(alloc, tree, fields.as_slice(), &asked)?;
     load(alloc, made)
 }
 

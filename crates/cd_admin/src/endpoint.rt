@@ -70,7 +70,7 @@ fn id_at(alloc: Global, rest: &[u8]) -> Result<Endpoint, Ending>
 
 /// What a method asks for at an endpoint (RFC 9110, section 9.3).
 #[tactic(auto, unfolding(crate::specs::Endpoints::action_at))]
-pub(crate) fn action_at(place: &Endpoint, method: &str) -> Result<Action, Ending>
+pub(crate) fn action_at(place: &Endpoint, method: &[u8]) -> Result<Action, Ending>
     ensures { Gives Ending.NoMemory result (action_at place.now method.now) }
 {
     match place {
@@ -79,24 +79,30 @@ pub(crate) fn action_at(place: &Endpoint, method: &str) -> Result<Action, Ending
     }
 }
 
-fn any_method(method: &str) -> Result<Action, Ending>
+fn any_method(method: &[u8]) -> Result<Action, Ending>
     ensures { Gives Ending.NoMemory result (any_method method.now) }
 {
-    match method {
-        "GET" => Ok(Action::Look),
-        "POST" => Ok(Action::Change(Verb::Post)),
-        "PUT" => Ok(Action::Change(Verb::Put)),
-        "PATCH" => Ok(Action::Change(Verb::Patch)),
-        "DELETE" => Ok(Action::Change(Verb::Delete)),
-        _ => Err(Ending::Denied(Denial::OtherMethod(Methods::All))),
+    if method == b"GET".as_slice() {
+        Ok(Action::Look)
+    } else if method == b"POST".as_slice() {
+        Ok(Action::Change(Verb::Post))
+    } else if method == b"PUT".as_slice() {
+        Ok(Action::Change(Verb::Put))
+    } else if method == b"PATCH".as_slice() {
+        Ok(Action::Change(Verb::Patch))
+    } else if method == b"DELETE".as_slice() {
+        Ok(Action::Change(Verb::Delete))
+    } else {
+        Err(Ending::Denied(Denial::OtherMethod(Methods::All)))
     }
 }
 
-fn post_alone(method: &str) -> Result<Action, Ending>
+fn post_alone(method: &[u8]) -> Result<Action, Ending>
     ensures { Gives Ending.NoMemory result (post_alone method.now) }
 {
-    match method {
-        "POST" => Ok(Action::Change(Verb::Post)),
-        _ => Err(Ending::Denied(Denial::OtherMethod(Methods::PostAlone))),
+    if method == b"POST".as_slice() {
+        Ok(Action::Change(Verb::Post))
+    } else {
+        Err(Ending::Denied(Denial::OtherMethod(Methods::PostAlone)))
     }
 }

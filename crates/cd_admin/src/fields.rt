@@ -12,14 +12,14 @@ use std::alloc::Global;
 /// The values of the fields of a name in lower case, in their order.
 pub(crate) fn values_of<'a>(
     alloc: Global,
-    fields: &'a [Field],
+    fields: &'a [Field<'_>],
     name: &str,
 ) -> Result<Vec<&'a [u8]>, NoMemory>
     ensures { IfOk result (λ found. map (λ value. value.now) found.items ≡ values name.now fields.now) }
 {
     let mut found = Vec::new(alloc);
     for field in fields {
-        if field.name.equals(name) {
+        if field.name.equals(name.as_bytes()) {
             found.push(field.value.as_slice())?;
         }
     }
@@ -72,16 +72,16 @@ fn semicolon(value: &[u8]) -> Option<usize>
 // ---- Cache-Control
 
 /// Whether some field Cache-Control has the member `must-revalidate`, in any case.
-pub(crate) fn must_revalidate(fields: &[Field]) -> bool
+pub(crate) fn must_revalidate(fields: &[Field<'_>]) -> bool
     ensures { result ≡ must_revalidate fields.now }
 {
     fields.iter().any(|field| is_revalidating(field))
 }
 
-fn is_revalidating(field: &Field) -> bool
+fn is_revalidating(field: &Field<'_>) -> bool
     ensures { result ≡ is_revalidating field.now }
 {
-    field.name.equals("cache-control") && has_must_revalidate(field.value.as_slice())
+    field.name.equals(b"cache-control") && has_must_revalidate(field.value.as_slice())
 }
 
 fn has_must_revalidate(value: &[u8]) -> bool

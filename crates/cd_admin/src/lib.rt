@@ -19,7 +19,6 @@ mod administered;
 mod answers;
 mod asked;
 mod asking;
-mod copying;
 mod deciding;
 mod decision;
 mod denial;

@@ -30,7 +30,7 @@ use std::alloc::Global;
 pub(crate) fn make(
     alloc: Global,
     tree: &Tree,
-    fields: &[Field],
+    fields: &[Field<'_>],
     asked: &Asked,
 ) -> Result<Tree, Ending>
     requires sound { IsSound tree.now }
@@ -147,7 +147,7 @@ fn tag_of(alloc: Global, tree: &Tree, path: &Path, value: &Tree) -> Result<Text,
 // ---- If-Match
 
 #[tactic(auto, unfolding(crate::specs::Deciding::matches))]
-fn matches(alloc: Global, tree: &Tree, place: &Endpoint, fields: &[Field]) -> Result<(), Ending>
+fn matches(alloc: Global, tree: &Tree, place: &Endpoint, fields: &[Field<'_>]) -> Result<(), Ending>
     requires { IsSound tree.now }
     ensures { Gives Ending.NoMemory result (matches tree.now place.now fields.now) }
 {
@@ -218,7 +218,7 @@ fn edited(
 }
 
 #[tactic(auto, unfolding(crate::specs::Deciding::differs))]
-fn differs(fields: &[Field], old: &Tree, new: &Tree) -> Result<(), Ending>
+fn differs(fields: &[Field<'_>], old: &Tree, new: &Tree) -> Result<(), Ending>
     requires old { IsSound old.now }
     requires new { IsSound new.now }
     ensures { Gives Ending.NoMemory result (differs fields.now old.now new.now) }

@@ -8,11 +8,12 @@ use std::alloc::Global;
 pub fn said(
     alloc: Global,
     whole: bool,
-    answer: &Answer,
+    answer: &Answer<'_>,
     request: &Request,
 ) -> Result<Outcome, RowFault> {
     if whole {
-        let bytes = render(alloc, answer, request.method.equals("HEAD"), request.close)?;
+        let head = request.method() == b"HEAD".as_slice();
+        let bytes = render(alloc, answer, head, request.close())?;
         Ok(Outcome {
             member: "answered",
             bytes,
@@ -24,8 +25,8 @@ pub fn said(
 
 // A success without fields and a body is that nothing changes. An answer with a tag is a value: its tag, a newline, and the body.
 // All else is a refusal.
-fn in_short(alloc: Global, answer: &Answer) -> Result<Outcome, RowFault> {
-    if answer.status == 200 && answer.fields.is_empty() && answer.body.is_empty() {
+fn in_short(alloc: Global, answer: &Answer<'_>) -> Result<Outcome, RowFault> {
+    if answer.status == 200 && answer.fields.is_empty() && answer.body.as_slice().is_empty() {
         return says(alloc, "ends", "unchanged");
     }
     match value_of(answer, "etag") {
@@ -45,7 +46,7 @@ fn tagged(alloc: Global, tag: &[u8], body: &[u8]) -> Result<Octets, NoMemory> {
 }
 
 // The status, the words, and which methods are taken instead.
-fn refused(alloc: Global, answer: &Answer) -> Result<Outcome, RowFault> {
+fn refused(alloc: Global, answer: &Answer<'_>) -> Result<Outcome, RowFault> {
     let tree = tree_of(alloc, answer.body.as_slice())?;
     let words = text_of(&tree, "error")?;
     let status = decimal(alloc, u64::from(answer.status))?;
@@ -59,7 +60,7 @@ fn refused(alloc: Global, answer: &Answer) -> Result<Outcome, RowFault> {
     })
 }
 
-fn put_allowed(answer: &Answer, out: &mut Octets) -> Result<(), NoMemory> {
+fn put_allowed(answer: &Answer<'_>, out: &mut Octets) -> Result<(), NoMemory> {
     match value_of(answer, "allow") {
         Some(methods) => {
             out.append(b"; allowed are ")?;
@@ -70,9 +71,9 @@ fn put_allowed(answer: &Answer, out: &mut Octets) -> Result<(), NoMemory> {
 }
 
 // The value of the first field of a name in lower case.
-fn value_of<'a>(answer: &'a Answer, name: &str) -> Option<&'a [u8]> {
+fn value_of<'a>(answer: &'a Answer<'_>, name: &str) -> Option<&'a [u8]> {
     for field in answer.fields.as_slice() {
-        if field.name.equals(name) {
+        if field.name.equals(name.as_bytes()) {
             return Some(field.value.as_slice());
         }
     }

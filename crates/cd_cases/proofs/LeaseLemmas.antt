@@ -5,38 +5,17 @@ use Rattle.std.specs.Option.{IsSome}
 use Rattle.cd_pool.specs.declared.lease.Leased.{Leased}
 use Rattle.cd_pool.specs.Pairs.{pair_at, without}
 use Rattle.cd_pool.specs.Numbers.{uses, times}
-use Rattle.cd_pool.proofs.Numbers.{uses-without}
+use Rattle.cd_pool.proofs.Numbers.{uses-append, times-append, once_more, step, uses-without}
 use Rattle.cd_cases.specs.Leases.{AreLeases}
-
--- one more of a sum is one more of its first part
-one_more : (b : Bool) (k m : ℕ) → cond b (1 + (k + m)) (k + m) ≡ cond b (1 + k) k + m
-one_more true k m = omega arith
-one_more false k m = refl
-
-uses-append : (n : ℕ) (hs gs : List Leased) → uses n (hs ++ gs) ≡ uses n hs + uses n gs
-uses-append n [] gs = omega arith
-uses-append n (h ∷ hs) gs = rw (uses-append n hs gs) (one_more (h.number == n) (uses n hs) (uses n gs))
-
-times-append : (n : ℕ) (ms ks : List ℕ) → times n (ms ++ ks) ≡ times n ms + times n ks
-times-append n [] ks = omega arith
-times-append n (m ∷ ms) ks = rw (times-append n ms ks) (one_more (m == n) (times n ms) (times n ks))
 
 -- a pair more and its lease more
 pub taken : (held held' : List Leased) (ls ls' : List ℕ) (h : Leased) → held' ≡ held ++ h ∷ [] → ls' ≡ ls ++ h.number ∷ [] → AreLeases ls held → AreLeases ls' held'
 taken held held' ls ls' h added more fit n = rw (added, more, uses-append n held (h ∷ []), times-append n ls (h.number ∷ []), fit n) refl
 
 -- a number that is taken out of a list
-last : (b : Bool) (k : ℕ) → k + cond b (1 + 0) 0 ≡ cond b (1 + k) k
-last true k = omega arith
-last false k = omega arith
-
-step : (b : Bool) (k j m : ℕ) → j + m ≡ k → cond b (1 + j) j + m ≡ cond b (1 + k) k
-step true k j m e = omega arith
-step false k j m e = e
-
 times-remove : (n at : ℕ) (ls : List ℕ) (l : ℕ) → at < length ls → l ≡ slice_index_or ls at l → times n (remove ls at) + times n (l ∷ []) ≡ times n ls
 times-remove n at [] l lt e = absurd (omega arith)
-times-remove n zero (x ∷ ls) l lt e = rw e (last (x == n) (times n ls))
+times-remove n zero (x ∷ ls) l lt e = rw e (once_more (x == n) (times n ls))
 times-remove n (suc at) (x ∷ ls) l lt e = step (x == n) (times n ls) (times n (remove ls at)) (times n (l ∷ [])) (times-remove n at ls l (omega arith) e)
 
 -- a number that is used names a pair

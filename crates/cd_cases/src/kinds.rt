@@ -12,7 +12,7 @@ use crate::pools::pool_outcome;
 use crate::storms::storm_outcome;
 use crate::tags::{holds_outcome, if_match_outcome, tag_outcome};
 use crate::texts::{decimal_outcome, number_outcome, parts_outcome, rising_outcome};
-use crate::trees::{need_outcome, nesting_outcome, read_outcome};
+use crate::trees::{json_fault_outcome, need_outcome, nesting_outcome, read_outcome};
 use crate::wire::{fields_outcome, input_outcome, refusal_outcome, render_outcome};
 use cd_rows::{Kinds, Outcome, RowFault, has};
 use cd_tree::Tree;
@@ -46,6 +46,8 @@ fn of_trees(alloc: Global, row: &Tree) -> Result<Outcome, RowFault>
         read_outcome(alloc, row)
     } else if has(row, "nesting") {
         nesting_outcome(alloc, row)
+    } else if has(row, "json_fault") {
+        json_fault_outcome(alloc, row)
     } else if has(row, "need") {
         need_outcome(alloc, row)
     } else {

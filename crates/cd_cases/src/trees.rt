@@ -2,6 +2,7 @@
 //!
 //!     {"read": BYTES, "gives_text": BYTES}      or "refused": FAULT
 //!     {"nesting": BYTES, "gives": NUMBER}
+//!     {"json_fault": BYTES, "found": "line LINE column COLUMN"}      or "found": "JSON"
 //!     {"need": NAME, "names": NAMES, "at": PATH, "tree": TREE, "gives": TREE}      or "refused": WORDS
 //!
 //! What is read is printed, read again and copied, and has to be the same tree with the same text. The names of `names` are
@@ -12,7 +13,11 @@ ghost use Rattle.cd_tree.specs.Tree.{IsSound};
 use cd_rows::{
     Outcome, RowFault, bytes_at, gives, needed, only, path_at, refuses, says, text_of, tree_of,
 };
-use cd_tree::{FieldFault, Fields, Path, Tree, TreeFault, copy, equal, nesting, print, read};
+use cd_text::Text;
+use cd_tree::{
+    FieldFault, Fields, Path, Place, Tree, TreeFault, copy, equal, nesting, place_of_json_fault,
+    print, read,
+};
 use std::alloc::Global;
 
 pub fn read_outcome(alloc: Global, row: &Tree) -> Result<Outcome, RowFault> {
@@ -56,15 +61,49 @@ pub fn nesting_outcome(alloc: Global, row: &Tree) -> Result<Outcome, RowFault> {
     says(alloc, "gives", text.as_str())
 }
 
+/// Where a text stops being JSON.
+pub fn json_fault_outcome(alloc: Global, row: &Tree) -> Result<Outcome, RowFault> {
+    only(alloc, row, "json_fault found")?;
+    let bytes = bytes_at(alloc, row, "json_fault")?;
+    match place_of_json_fault(alloc, bytes.as_slice())? {
+        None => says(alloc, "found", "JSON"),
+        Some(place) => {
+            let (line, column) = (place.line, place.column);
+            let words = format!(in alloc; "line {line} column {column}")?;
+            says(alloc, "found", words.as_str())
+        }
+    }
+}
+
 pub fn need_outcome(alloc: Global, row: &Tree) -> Result<Outcome, RowFault>
     requires { IsSound row.now }
 {
     only(alloc, row, "need names at tree gives gives_text refused")?;
     let at = path_at(alloc, row, "at")?;
     let tree = needed(alloc, row, "tree")?;
-    match needed_of(alloc, row, tree, &at)? {
+    match needed_below(alloc, row, tree, at.parts.as_slice(), &Place::top())? {
         Ok(found) => gives(alloc, found),
         Err(fault) => refused_at(alloc, &fault),
+    }
+}
+
+// What is needed of a tree that stands at these parts below a place.
+fn needed_below<'a>(
+    alloc: Global,
+    row: &Tree,
+    tree: &'a Tree,
+    parts: &[Text],
+    at: &Place<'_>,
+) -> Result<Result<&'a Tree, FieldFault>, RowFault>
+    requires { IsSound tree.now }
+    ensures { IfOk result (λ answer. IfOk answer (λ found. IsSound found.now)) }
+{
+    match parts {
+        [] => needed_of(alloc, &*row, tree, &*at),
+        [part, others @ ..] => {
+            let here = (&*at).member(part.as_str());
+            needed_below(alloc, &*row, tree, others, &here)
+        }
     }
 }
 
@@ -72,7 +111,7 @@ fn needed_of<'a>(
     alloc: Global,
     row: &Tree,
     tree: &'a Tree,
-    at: &Path,
+    at: &Place<'_>,
 ) -> Result<Result<&'a Tree, FieldFault>, RowFault>
     requires { IsSound tree.now }
     ensures { IfOk result (λ answer. IfOk answer (λ found. IsSound found.now)) }

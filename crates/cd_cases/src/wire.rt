@@ -14,7 +14,7 @@
 use cd_rows::{Outcome, RowFault, bytes_at, bytes_of, find, is_true, number_of, only};
 use cd_text::{List, NoMemory, Octets, Text};
 use cd_tree::Tree;
-use cd_wire::{Answer, Field, Intake, Next, Request, refusal, render};
+use cd_wire::{Answer, Field, Fields, Intake, Lent, Next, Request, refusal, render};
 use std::alloc::Global;
 
 fn found(bytes: Octets) -> Outcome {
@@ -133,21 +133,18 @@ fn put_next(alloc: Global, out: &mut Octets, next: &Next) -> Result<bool, NoMemo
 }
 
 fn put_request(out: &mut Octets, request: &Request) -> Result<(), NoMemory> {
-    let query = match &request.query {
-        Some(query) => query.as_slice(),
-        None => b"-",
-    };
-    let minor: &[u8] = if request.minor == 0 { b"0" } else { b"1" };
-    let close: &[u8] = if request.close { b"close" } else { b"keep" };
+    let query = request.query().unwrap_or(b"-");
+    let minor: &[u8] = if request.minor() == 0 { b"0" } else { b"1" };
+    let close: &[u8] = if request.close() { b"close" } else { b"keep" };
     let parts: [&[u8]; 8] = [
-        request.method.as_str().as_bytes(),
-        request.target.as_slice(),
-        request.path.as_slice(),
+        request.method(),
+        request.target(),
+        request.path(),
         query,
-        request.host.as_slice(),
+        request.host(),
         minor,
         close,
-        request.body.as_slice(),
+        request.body(),
     ];
     for part in parts {
         out.append(part)?;
@@ -160,7 +157,7 @@ pub fn fields_outcome(alloc: Global, row: &Tree) -> Result<Outcome, RowFault> {
     only(alloc, row, "fields found")?;
     let bytes = bytes_at(alloc, row, "fields")?;
     match first_request(alloc, bytes.as_slice())? {
-        Some(request) => Ok(found(fields_of(alloc, request.fields.as_slice())?)),
+        Some(request) => Ok(found(fields_of(alloc, request.fields())?)),
         None => Err(RowFault::Malformed("no request")),
     }
 }
@@ -174,16 +171,16 @@ fn first_request(alloc: Global, bytes: &[u8]) -> Result<Option<Request>, NoMemor
     }
 }
 
-fn fields_of(alloc: Global, fields: &[Field]) -> Result<Octets, NoMemory> {
+fn fields_of(alloc: Global, fields: Fields<'_>) -> Result<Octets, NoMemory> {
     let mut out = Octets::new(alloc);
     for field in fields {
-        put_field(&mut out, field)?;
+        put_field(&mut out, &field)?;
     }
     Ok(out)
 }
 
-fn put_field(out: &mut Octets, field: &Field) -> Result<(), NoMemory> {
-    out.append(field.name.as_str().as_bytes())?;
+fn put_field(out: &mut Octets, field: &Field<'_>) -> Result<(), NoMemory> {
+    out.append(field.name.as_slice())?;
     out.push(b'=')?;
     out.append(field.value.as_slice())?;
     out.push(b'|')
@@ -197,17 +194,17 @@ pub fn render_outcome(alloc: Global, row: &Tree) -> Result<Outcome, RowFault> {
     }
 }
 
-fn rendered(alloc: Global, row: &Tree, answer: &Answer) -> Result<Outcome, RowFault> {
+fn rendered(alloc: Global, row: &Tree, answer: &Answer<'_>) -> Result<Outcome, RowFault> {
     let head = is_true(row, "head")?;
     let close = is_true(row, "close")?;
     Ok(answered(render(alloc, answer, head, close)?))
 }
 
-fn answer_of(alloc: Global, tree: &Tree) -> Result<Answer, RowFault> {
+fn answer_of(alloc: Global, tree: &Tree) -> Result<Answer<'static>, RowFault> {
     only(alloc, tree, "status fields body close")?;
     let status = status_of(find(tree, "status"))?;
     let close = is_true(tree, "close")?;
-    let body = bytes_at(alloc, tree, "body")?;
+    let body = Lent::octets(bytes_at(alloc, tree, "body")?);
     let fields = answer_fields(alloc, find(tree, "fields"))?;
     Ok(Answer {
         status,
@@ -224,7 +221,7 @@ fn status_of(tree: Option<&Tree>) -> Result<u16, RowFault> {
     }
 }
 
-fn answer_fields(alloc: Global, pairs: Option<&Tree>) -> Result<List<Field>, RowFault> {
+fn answer_fields(alloc: Global, pairs: Option<&Tree>) -> Result<List<Field<'static>>, RowFault> {
     let mut fields = List::new(alloc);
     if let Some(Tree::Items(pairs)) = pairs {
         for pair in pairs.as_slice() {
@@ -234,7 +231,7 @@ fn answer_fields(alloc: Global, pairs: Option<&Tree>) -> Result<List<Field>, Row
     Ok(fields)
 }
 
-fn field_of(alloc: Global, pair: &Tree) -> Result<Field, RowFault> {
+fn field_of(alloc: Global, pair: &Tree) -> Result<Field<'static>, RowFault> {
     let Tree::Items(pair) = pair else {
         return Err(RowFault::Malformed("a field that is no pair"));
     };
@@ -244,10 +241,10 @@ fn field_of(alloc: Global, pair: &Tree) -> Result<Field, RowFault> {
     }
 }
 
-fn named(alloc: Global, name: &Text, value: &Tree) -> Result<Field, RowFault> {
-    let value = bytes_of(alloc, value)?;
+fn named(alloc: Global, name: &Text, value: &Tree) -> Result<Field<'static>, RowFault> {
+    let value = Lent::octets(bytes_of(alloc, value)?);
     Ok(Field {
-        name: name.copy(alloc)?,
+        name: Lent::text(name.copy(alloc)?),
         value,
     })
 }

@@ -120,6 +120,11 @@ impl<'d, R: Wait + Clock> Lane for DoorLane<'d, R> {
         }
     }
 
+    /// Nothing is kept here: the answer is `All`.
+    fn keep<W: Wait>(&mut self, _rt: &W, _serial: u32, _text: &[u8]) -> Given {
+        Given::All
+    }
+
     fn end(&mut self) {
         if let Some(held) = self.held.take() {
             let Held { guest, parting, .. } = held;

@@ -1,9 +1,10 @@
-ghost use Rattle.std.specs.Prelude.{◌≡◌, ◌<◌, ◌≤◌, length, take, drop, IsTrue, IfSome};
+ghost use Rattle.std.specs.Prelude.{◌≡◌, ◌<◌, ◌≤◌, length, take, IsTrue, IfSome};
 ghost use Rattle.std.specs.Io.KnownBytes.{Appends};
 ghost use Rattle.cd_doorway.specs.Got.{IsGotWithin, GetsBytes};
 
 use crate::clock::now;
 use crate::{PATIENCE_BYTES_PER_MILLI, PATIENCE_MILLIS};
+use cd_text::rest_from;
 use std::io;
 use std::io::{ErrorKind, Read, Write};
 use std::net::TcpStream;
@@ -88,14 +89,6 @@ fn write_once<S: Write>(stream: &mut S, piece: &[u8]) -> Option<usize>
         Err(error) if error.kind() == ErrorKind::Interrupted => Some(0),
         Err(_) => None,
     }
-}
-
-// What follows the first bytes.
-fn rest_from(bytes: &[u8], count: usize) -> &[u8]
-    requires { count ≤ length bytes.now }
-    ensures { result.now ≡ drop count bytes.now }
-{
-    &bytes[count..]
 }
 
 // Whether the time for a piece of so many bytes is over, where so many are left. It begins with the first such question that is

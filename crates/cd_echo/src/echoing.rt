@@ -1,19 +1,19 @@
-ghost use Rattle.std.specs.Prelude.{◌≡◌, IfOk};
+ghost use Rattle.std.specs.Prelude.{◌≡◌};
 ghost use Rattle.cd_echo.specs.Echo.{echo_answer};
 
-use cd_text::{List, NoMemory};
-use cd_wire::{Answer, Request};
+use cd_text::List;
+use cd_wire::{Answer, Lent, Request};
 use std::alloc::Global;
 
-/// What the app answers to a request: status 200, no fields, and the body of the request. There is no other error than that
-/// memory ran out.
-pub fn echo_answer(alloc: Global, request: &Request) -> Result<Answer, NoMemory>
-    ensures { IfOk result (λ answer. answer ≡ echo_answer request.now) }
+/// What the app answers to a request: status 200, no fields, and the body of the request, which the request lends. It takes no
+/// memory.
+pub fn echo_answer<'a>(alloc: Global, request: &'a Request) -> Answer<'a>
+    ensures { result ≡ echo_answer request.now }
 {
-    Ok(Answer {
+    Answer {
         status: 200,
         fields: List::new(alloc),
-        body: request.body.copy(alloc)?,
+        body: Lent::shared(request.body()),
         close: false,
-    })
+    }
 }

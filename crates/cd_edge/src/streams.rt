@@ -14,6 +14,7 @@ use cd_outside::{Accepted, Address, Given, Key, Lane, Taken};
 use cd_text::Text;
 use std::alloc::Global;
 use std::io::{Read, Write};
+use std::sync::Wait;
 
 /// A lane whose only connection is a reader and a writer of the system, as standard input and output are.
 #[derive(Drop)]
@@ -119,6 +120,11 @@ impl<I: Read, O: Write> Lane for StreamLane<I, O> {
     fn log(&mut self, _key: &Key, _line: &Text) -> Given {
         self.faults = self.faults.saturating_add(1);
         Given::Failed
+    }
+
+    /// Nothing is kept here: the answer is `All`.
+    fn keep<R: Wait>(&mut self, _rt: &R, _serial: u32, _text: &[u8]) -> Given {
+        Given::All
     }
 
     fn end(&mut self) {

@@ -1,4 +1,3 @@
-pub mod Lent
 pub mod Scene
 pub mod Values
 pub mod Escapes

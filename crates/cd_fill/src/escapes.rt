@@ -6,8 +6,8 @@ ghost use Rattle.form_urlencoded.specs.Form.{decode, plus_to_space};
 ghost use Rattle.cd_fill.specs.Escapes.{begins_escape, escape_value};
 ghost use Rattle.cd_fill.specs.Values.{decoded};
 
-use crate::parts::rest_from;
 use bstr::decode_lossy;
+use cd_text::rest_from;
 
 // The most bytes that a character has in UTF-8.
 const MAX_LEN_UTF8: usize = 4;

@@ -5,10 +5,9 @@ ghost use Rattle.cd_text.specs.Gives.{Gives};
 ghost use Rattle.cd_fill.specs.declared.fault.FillFault.{FillFault};
 ghost use Rattle.cd_fill.specs.Filling.{open_brace, closed_piece, bounded, fill_as, fill};
 
-use crate::parts::split_at_byte;
 use crate::treating::{put_named, put_written};
 use crate::{FillFault, Form, MAX_FILLED_BYTES, Scene};
-use cd_text::{NoMemory, Octets, Text};
+use cd_text::{NoMemory, Octets, Text, split_at_byte};
 use std::alloc::Global;
 
 fn last_open(piece: &[u8]) -> Option<usize>

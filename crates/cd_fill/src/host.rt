@@ -2,7 +2,7 @@ ghost use Rattle.std.specs.Prelude.{◌≡◌, ◌==◌};
 ghost use Rattle.std.specs.List.{before_first};
 ghost use Rattle.cd_fill.specs.Values.{bare_host};
 
-use crate::parts::split_at_byte;
+use cd_text::split_at_byte;
 
 fn before_byte(text: &[u8], byte: u8) -> &[u8]
     ensures { result.now ≡ before_first (λ other. other == byte) text.now }

@@ -3,7 +3,7 @@ ghost use Rattle.std.specs.Prelude.{◌≡◌, ◌++◌, ◌∷◌, OnOk, if◌t
 ghost use Rattle.cd_fill.specs.Values.{with_commas, header_values};
 
 use cd_text::{NoMemory, Octets};
-use cd_wire::Field;
+use cd_wire::Fields;
 
 /// Writes one more value.
 pub(crate) fn put_next(out: &mut Octets, is_first: bool, value: &[u8]) -> Result<(), NoMemory>
@@ -18,8 +18,8 @@ pub(crate) fn put_next(out: &mut Octets, is_first: bool, value: &[u8]) -> Result
 
 /// Writes the values of the fields of that name, in any case.
 #[tactic(auto, unfolding(crate::specs::Values::header_values, crate::specs::Values::with_commas))]
-pub(crate) fn put_header(out: &mut Octets, name: &[u8], fields: &[Field]) -> Result<(), NoMemory>
-    ensures { OnOk result (out.new ≡ out.old ++ with_commas (header_values name.now fields.now)) }
+pub(crate) fn put_header(out: &mut Octets, name: &[u8], fields: Fields<'_>) -> Result<(), NoMemory>
+    ensures { OnOk result (out.new ≡ out.old ++ with_commas (header_values name.now fields.entry)) }
 {
     let mut is_first = true;
     for field in fields {

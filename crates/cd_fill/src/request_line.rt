@@ -1,7 +1,7 @@
 ghost use Rattle.std.specs.Prelude.{◌≡◌, [], IfOk, unwrap_or};
 
-use crate::Lent;
-use cd_text::{NoMemory, Octets};
+use cd_text::NoMemory;
+use cd_wire::{Lent, Request};
 use std::alloc::Global;
 
 /// What is asked for, which handlers may rewrite. What they leave is lent by the request.
@@ -18,11 +18,11 @@ pub struct RequestLine<'r> {
 }
 
 /// The query of a request, where there is one.
-pub(crate) fn lent_query<'r>(query: &'r Option<Octets>) -> Option<Lent<'r, u8>>
-    ensures { result ≡ query.now }
+pub(crate) fn lent_query<'r>(request: &'r Request) -> Option<Lent<'r, u8>>
+    ensures { result ≡ request.now.query }
 {
-    match query {
-        Some(query) => Some(Lent::shared(query.as_slice())),
+    match request.query() {
+        Some(query) => Some(Lent::shared(query)),
         None => None,
     }
 }

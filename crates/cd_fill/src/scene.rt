@@ -3,9 +3,9 @@ ghost use Rattle.cd_fill.specs.Scene.{line_of, server_field, scene_of, original_
 
 use crate::request_line::lent_query;
 use crate::uri::uri_of;
-use crate::{Failure, Lent, RequestLine, Variable};
-use cd_text::{List, NoMemory, Octets, Text};
-use cd_wire::{Field, Request};
+use crate::{Failure, RequestLine, Variable};
+use cd_text::{List, NoMemory, Text};
+use cd_wire::{Field, Lent, Request, RequestFields};
 use std::alloc::Global;
 
 /// The state of a request on its way through the routes. What handlers have not changed is lent by the request.
@@ -20,7 +20,7 @@ pub struct Scene<'r> {
     /// The second number of the version: 1 for HTTP/1.1.
     pub minor: u8,
     /// The fields of the request.
-    pub fields: Lent<'r, Field>,
+    pub fields: RequestFields<'r>,
     /// The body of the request.
     pub body: Lent<'r, u8>,
     /// The variables that were set.
@@ -28,7 +28,7 @@ pub struct Scene<'r> {
     /// The groups of which a route was taken.
     pub groups: List<Text>,
     /// The fields that the answer is to have.
-    pub response: List<Field>,
+    pub response: List<Field<'r>>,
     /// Why a handler failed, in error routes alone.
     pub error: Option<Failure>,
 }
@@ -36,30 +36,30 @@ pub struct Scene<'r> {
 fn line_of<'r>(alloc: Global, request: &'r Request) -> Result<RequestLine<'r>, NoMemory>
     ensures { IfOk result (λ line. line ≡ line_of request.now) }
 {
-    let uri = uri_of(alloc, request.target.as_slice())?;
+    let uri = uri_of(alloc, request.target())?;
     Ok(RequestLine {
-        method: Lent::shared(request.method.as_str().as_bytes()),
-        path: Lent::shared(request.path.as_slice()),
-        query: lent_query(&request.query),
+        method: Lent::shared(request.method()),
+        path: Lent::shared(request.path()),
+        query: lent_query(request),
         uri,
     })
 }
 
 // The field that names this server.
-fn server_field(alloc: Global) -> Result<Field, NoMemory>
-    ensures { IfOk result (λ field. field ≡ server_field) }
+fn server_field<'r>() -> Field<'r>
+    ensures { result ≡ server_field }
 {
-    Ok(Field {
-        name: Text::from_str(alloc, "server")?,
-        value: Octets::from_slice(alloc, b"Caddy")?,
-    })
+    Field {
+        name: Lent::shared(b"server"),
+        value: Lent::shared(b"Caddy"),
+    }
 }
 
-fn first_response(alloc: Global) -> Result<List<Field>, NoMemory>
+fn first_response<'r>(alloc: Global) -> Result<List<Field<'r>>, NoMemory>
     ensures { IfOk result (λ fields. fields ≡ server_field ∷ []) }
 {
     let mut fields = List::new(alloc);
-    fields.push(server_field(alloc)?)?;
+    fields.push(server_field())?;
     Ok(fields)
 }
 
@@ -73,10 +73,10 @@ impl<'r> Scene<'r> {
         Ok(Scene {
             current,
             original: None,
-            host: Lent::shared(request.host.as_slice()),
-            minor: request.minor,
-            fields: Lent::shared(request.fields.as_slice()),
-            body: Lent::shared(request.body.as_slice()),
+            host: Lent::shared(request.host()),
+            minor: request.minor(),
+            fields: RequestFields::lent(request.fields()),
+            body: Lent::shared(request.body()),
             variables: List::new(alloc),
             groups: List::new(alloc),
             response,
@@ -105,7 +105,7 @@ pub fn let_go(scene: Scene<'_>) -> NoMemory {
 }
 
 /// The fields that the answer is to have, of which alone the scene is still wanted.
-pub fn response_of(scene: Scene<'_>) -> List<Field>
+pub fn response_of<'r>(scene: Scene<'r>) -> List<Field<'r>>
     ensures { result ≡ scene.entry.response }
 {
     scene.response

@@ -2,9 +2,8 @@
 ghost use Rattle.std.specs.Prelude.{◌≡◌, IfOk};
 ghost use Rattle.cd_fill.specs.Scene.{with_slash, uri_of};
 
-use crate::Lent;
 use cd_text::{NoMemory, Octets};
-use cd_wire::{has_scheme, local_part};
+use cd_wire::{Lent, has_scheme, local_part};
 use std::alloc::Global;
 
 /// The text, with a `/` in front where none stands.

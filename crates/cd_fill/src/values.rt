@@ -2,7 +2,6 @@
 ghost use Rattle.std.specs.Prelude.{◌≡◌, ◌++◌, [], true, false, MatchOption, IfOk, OnOk, IfSome, Some, is_some, unwrap_or, decimal};
 ghost use Rattle.std.specs.Option.{option_copied};
 ghost use Rattle.std.specs.Str.{bytes_eq};
-ghost use Rattle.cd_wire.specs.Render.{phrase_of, reason_of};
 ghost use Rattle.cd_fill.specs.Values.{begins, behind, proto, kept_value, request_value, error_value, error_named, value};
 
 use crate::host::host_without_port;
@@ -11,7 +10,7 @@ use crate::query::put_query;
 use crate::variable::value_of_variable;
 use crate::{Failure, Scene};
 use cd_text::{NoMemory, Octets};
-use http::StatusCode;
+use cd_wire::reason_of;
 use std::alloc::Global;
 
 fn is(name: &[u8], word: &str) -> bool
@@ -84,7 +83,7 @@ fn put_request_value(
         return Ok(true);
     }
     if let Some(field) = after(name, "header.") {
-        put_header(out, field, scene.fields.as_slice())?;
+        put_header(out, field, scene.fields.look())?;
         return Ok(true);
     }
     match kept_value(scene, name) {
@@ -93,23 +92,6 @@ fn put_request_value(
             Ok(true)
         }
         None => Ok(false),
-    }
-}
-
-#[tactic(auto, unfolding(cd_wire::specs::Render::phrase_of))]
-fn phrase_of(status: StatusCode) -> &'static str
-    ensures { result.now ≡ phrase_of status }
-{
-    status.canonical_reason().unwrap_or("")
-}
-
-#[tactic(auto, unfolding(cd_wire::specs::Render::reason_of))]
-fn reason_of(status: u16) -> &'static str
-    ensures { result.now ≡ reason_of status }
-{
-    match StatusCode::from_u16(status) {
-        Ok(status) => phrase_of(status),
-        Err(_) => "",
     }
 }
 

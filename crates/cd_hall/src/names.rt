@@ -55,15 +55,13 @@ impl<M: ModuleSet> Names<(Snapshot<Draft<M>>, Snapshot<Result<Step, Key>>)> for 
     ghost entry = { λ x. started_entry (held x.0.value) (failed_in x.1.value) };
 }
 
-pub(crate) struct NamesPublish<M> {
-    set: PhantomData<M>,
-}
+pub(crate) struct NamesPublish;
 
-impl<M: ModuleSet> Names<(Snapshot<Draft<M>>, u32, Snapshot<Change>)> for NamesPublish<M> {
+impl Names<(u64, u32, Snapshot<Change>)> for NamesPublish {
     ghost use Rattle.std.specs.Prelude.{◌+◌};
     ghost use Rattle.cd_legal.specs.declared.entry.Entry.TheVariants.{Publish};
 
-    ghost entry = { λ x. Publish x.0.value.left.number (x.1 + 1) x.1 x.2.value };
+    ghost entry = { λ x. Publish x.0 (x.1 + 1) x.1 x.2.value };
 }
 
 pub(crate) struct NamesAbandon;

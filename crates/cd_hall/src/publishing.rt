@@ -164,10 +164,10 @@ fn note_publish<M: ModuleSet, F: Fixtures>(
     ensures turn { InTurn (Stood F.calls F.faults M.plan M.change) gate.now turn.new pass.new }
     ensures seen { view pass.new ≡ noted (view pass.old) (Publish draft.left.number (serial + 1) serial change) }
 {
-    let drafted = Snapshot::of(&draft);
+    let drafted = draft.number();
     let asked = Snapshot::of(&change);
     turn.value.publish(draft, serial, change);
-    add::<Board<M, F>, (Snapshot<Draft<M>>, u32, Snapshot<Change>), NamesPublish<M>>(
+    add::<Board<M, F>, (u64, u32, Snapshot<Change>), NamesPublish>(
         gate,
         turn,
         pass,

@@ -21,10 +21,10 @@ use Rattle.cd_hall_cases.specs.contracts.fixed.Form as Form
 use Rattle.cd_hall_cases.specs.contracts.fixed.FixedModuleSet.TheImpl as fixed
 
 tree_send : IsSend Tree.the_row
-tree_send = search (trees.crosses, std.crosses, sendable) depth 60 fits 20000
+tree_send = search (trees.crosses_both, std.crosses, sendable) depth 60 fits 20000
 
 tree_sync : IsSync Tree.the_row
-tree_sync = search (trees.crosses, std.crosses, sendable) depth 60 fits 20000
+tree_sync = search (trees.crosses_both, std.crosses, sendable) depth 60 fits 20000
 
 desk_send : (F : RattleType) → IsSend F → IsSend (Desk.the_row F)
 desk_send F fs = declared_send (Desk.the_type F) (search (fs, sendable), (search (std.crosses, sendable) depth 60 fits 20000))

@@ -18,7 +18,7 @@ use cd_hall::{Hall, Kept, Ticket, tickets_keep_their_configurations};
 use cd_legal::Change;
 use cd_life::{Board, Draft};
 use cd_outside::{Key, MemoryFixtures};
-use cd_text::{List, NoMemory, Octets, Text};
+use cd_text::NoMemory;
 use cd_wire::Request;
 use std::alloc::Global;
 use std::sync::Wait;
@@ -267,18 +267,10 @@ fn change_after(
 }
 
 // A request for the wide configuration, or for the plain one.
+#[tactic(auto, unfolding(cd_wire::specs::Framing::request_of))]
 fn request(alloc: Global, wide: bool) -> Result<Request, NoMemory>
     ensures { IfOk result (λ request. request.close ≡ wide) }
 {
-    Ok(Request {
-        method: Text::from_str(alloc, "POST")?,
-        target: Octets::from_slice(alloc, b"/load")?,
-        path: Octets::from_slice(alloc, b"/load")?,
-        query: None,
-        host: Octets::new(alloc),
-        minor: 1,
-        fields: List::new(alloc),
-        body: Octets::new(alloc),
-        close: wide,
-    })
+    let minor = if wide { 0 } else { 1 };
+    Ok(Request::plain(alloc, b"POST", b"/load", minor)?)
 }

@@ -58,12 +58,12 @@ impl ModuleSet for Fixed {
         }
     }
 
-    fn answer(
+    fn answer<'a>(
         _alloc: Global,
-        _compiled: &Form,
+        _compiled: &'a Form,
         _at: &Address,
-        _request: &Request,
-    ) -> Result<Option<Answer>, NoMemory> {
+        _request: &'a Request,
+    ) -> Result<Option<Answer<'a>>, NoMemory> {
         Ok(None)
     }
 
@@ -72,7 +72,7 @@ impl ModuleSet for Fixed {
         _compiled: &Form,
         _at: &Address,
         _request: &Request,
-        _answer: &Answer,
+        _answer: &Answer<'_>,
     ) -> Result<List<Line>, NoMemory> {
         Ok(List::new(alloc))
     }

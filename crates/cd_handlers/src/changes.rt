@@ -64,22 +64,22 @@ fn has_star(patterns: &[Pattern]) -> bool
 }
 
 // Whether no deletion removes the field.
-fn stays(side: Side, field: &Field) -> bool
+fn stays(side: Side, field: &Field<'_>) -> bool
     ensures { result ≡ stays side field.now }
 {
     match side {
-        Side::Request => field.name.equals("host"),
+        Side::Request => field.name.equals(b"host"),
         Side::Answer => false,
     }
 }
 
-fn deletes(pattern: &Pattern, field: &Field) -> bool
+fn deletes(pattern: &Pattern, field: &Field<'_>) -> bool
     ensures { result ≡ deletes field.now pattern.now }
 {
-    !is_star(pattern) && pattern.fits_in_any_case(field.name.as_str().as_bytes())
+    !is_star(pattern) && pattern.fits_in_any_case(field.name.as_slice())
 }
 
-fn is_deleted(patterns: &[Pattern], field: &Field) -> bool
+fn is_deleted(patterns: &[Pattern], field: &Field<'_>) -> bool
     ensures { result ≡ list_any (deletes field.now) patterns.now }
 {
     for pattern in patterns {
@@ -91,8 +91,8 @@ fn is_deleted(patterns: &[Pattern], field: &Field) -> bool
 }
 
 // The fields that no deletion removes.
-fn staying(side: Side, fields: List<Field>) -> List<Field>
-    ensures { result ≡ filter (stays side) fields }
+fn staying<'r>(side: Side, fields: List<Field<'r>>) -> List<Field<'r>>
+    ensures { result ≡ filter (stays side) fields.entry }
 {
     let mut kept = fields.into_vec();
     kept.retain(|field| stays(side, field));
@@ -100,8 +100,8 @@ fn staying(side: Side, fields: List<Field>) -> List<Field>
 }
 
 // What is left before anything is added.
-fn cleared(side: Side, patterns: &[Pattern], fields: List<Field>) -> List<Field>
-    ensures { result ≡ cleared side patterns.now fields }
+fn cleared<'r>(side: Side, patterns: &[Pattern], fields: List<Field<'r>>) -> List<Field<'r>>
+    ensures { result ≡ cleared side patterns.now fields.entry }
 {
     if has_star(patterns) {
         staying(side, fields)
@@ -111,8 +111,8 @@ fn cleared(side: Side, patterns: &[Pattern], fields: List<Field>) -> List<Field>
 }
 
 // What is left at the end.
-fn remaining(side: Side, patterns: &[Pattern], fields: List<Field>) -> List<Field>
-    ensures { result ≡ remaining side patterns.now fields }
+fn remaining<'r>(side: Side, patterns: &[Pattern], fields: List<Field<'r>>) -> List<Field<'r>>
+    ensures { result ≡ remaining side patterns.now fields.entry }
 {
     let mut kept = fields.into_vec();
     kept.retain(|field| stays(side, field) || !is_deleted(patterns, field));
@@ -121,14 +121,14 @@ fn remaining(side: Side, patterns: &[Pattern], fields: List<Field>) -> List<Fiel
 
 /// The fields with these changes.
 #[tactic(auto, unfolding(crate::specs::Changes::changed_by))]
-pub(crate) fn changed_by(
+pub(crate) fn changed_by<'r>(
     alloc: Global,
     side: Side,
     values: FilledValues,
     delete: &[Pattern],
-    fields: List<Field>,
-) -> Result<List<Field>, NoMemory>
-    ensures { IfOk result (λ made. made ≡ changed_by side values delete.now fields) }
+    fields: List<Field<'r>>,
+) -> Result<List<Field<'r>>, NoMemory>
+    ensures { IfOk result (λ made. made ≡ changed_by side values delete.now fields.entry) }
 {
     let FilledValues { add, set } = values;
     let fields = cleared(side, delete, fields);
@@ -138,12 +138,12 @@ pub(crate) fn changed_by(
 }
 
 /// The fields of an answer with the changes that a handler left for it.
-pub fn changed(
+pub fn changed<'r>(
     alloc: Global,
     changes: FilledChanges<'_>,
-    fields: List<Field>,
-) -> Result<List<Field>, NoMemory>
-    ensures { IfOk result (λ made. made ≡ changed changes.entry fields) }
+    fields: List<Field<'r>>,
+) -> Result<List<Field<'r>>, NoMemory>
+    ensures { IfOk result (λ made. made ≡ changed changes.entry fields.entry) }
 {
     let FilledChanges { values, delete } = changes;
     changed_by(alloc, Side::Answer, values, delete.as_slice(), fields)

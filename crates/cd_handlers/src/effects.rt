@@ -15,11 +15,11 @@ use std::alloc::Global;
 /// What a handler does with a request in that scene, and the changes that it leaves for the answer of what follows it, where the
 /// request goes on. They are filled in the scene that it found.
 #[tactic(auto, unfolding(crate::specs::Effect::effect, crate::specs::Effect::deferred))]
-pub fn deed<'a, 'r>(
+pub fn deed<'r>(
     alloc: Global,
-    handler: &'a Handler,
+    handler: &'r Handler,
     scene: Scene<'r>,
-) -> Result<Deed<'a, 'r>, NoMemory>
+) -> Result<Deed<'r, 'r>, NoMemory>
     ensures effect { IfOk result (λ deed. deed.effect ≡ effect handler.now scene.entry) }
     ensures changes { IfOk result (λ deed. has_gone_on deed.effect ≡ true → deed.changes ≡ deferred handler.now scene.entry) }
 {
@@ -35,7 +35,7 @@ pub fn deed<'a, 'r>(
 /// What a handler does by itself with a request in that scene.
 pub fn effect<'r>(
     alloc: Global,
-    handler: &Handler,
+    handler: &'r Handler,
     scene: Scene<'r>,
 ) -> Result<Effect<'r>, NoMemory>
     ensures { IfOk result (λ made. made ≡ effect handler.now scene.entry) }

@@ -12,7 +12,7 @@ use crate::texts::no_text;
 use cd_fill::{Failure, Scene};
 use cd_module::{LoadFault, Settings, fields_of, optional};
 use cd_text::{NoMemory, Text};
-use cd_tree::{Path, Tree};
+use cd_tree::{Place, Tree};
 use std::alloc::Global;
 
 /// `error`: it fails, so that error routes answer (Caddy, JSON Config Structure, http.handlers.error).
@@ -28,7 +28,7 @@ impl Settings for StaticError {
     ghost reader = { static_error };
 
     #[tactic(auto, unfolding(crate::specs::Error::static_error))]
-    fn read(alloc: Global, tree: &Tree, at: &Path) -> Result<StaticError, LoadFault> {
+    fn read(alloc: Global, tree: &Tree, at: &Place<'_>) -> Result<StaticError, LoadFault> {
         let fields = fields_of(alloc, tree, at, "handler error status_code")?;
         let message = optional::<Text>(alloc, &fields, at, "error")?;
         let status = optional::<Status>(alloc, &fields, at, "status_code")?;

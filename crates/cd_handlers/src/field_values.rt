@@ -7,7 +7,7 @@ ghost use Rattle.cd_handlers.specs.FieldValues.{field_values, field_list, reques
 
 use cd_module::{LoadFault, LoadKind, Named, Settings, object_by_name};
 use cd_text::{List, NoMemory, Text};
-use cd_tree::{Path, Tree};
+use cd_tree::{Place, Tree};
 use http_header::is_token_char;
 use std::alloc::Global;
 
@@ -57,7 +57,7 @@ impl Named for FieldValues {
         alloc: Global,
         name: &Text,
         tree: &Tree,
-        at: &Path,
+        at: &Place<'_>,
     ) -> Result<FieldValues, LoadFault> {
         if !is_field_name(name.as_str().as_bytes()) {
             return Err(LoadFault::at(alloc, LoadKind::BadValue, at));
@@ -80,7 +80,7 @@ impl Settings for FieldList {
     ghost reader = { field_list };
 
     #[tactic(auto, unfolding(crate::specs::FieldValues::field_list))]
-    fn read(alloc: Global, tree: &Tree, at: &Path) -> Result<FieldList, LoadFault> {
+    fn read(alloc: Global, tree: &Tree, at: &Place<'_>) -> Result<FieldList, LoadFault> {
         let fields = object_by_name::<FieldValues>(alloc, tree, at)?;
         let fields = by_name(fields)?;
         Ok(FieldList { fields })
@@ -111,7 +111,7 @@ impl Named for RequestField {
         alloc: Global,
         name: &Text,
         tree: &Tree,
-        at: &Path,
+        at: &Place<'_>,
     ) -> Result<RequestField, LoadFault> {
         if name.as_str().eq_ignore_ascii_case("host") {
             return Err(LoadFault::at(alloc, LoadKind::BadValue, at));
@@ -142,7 +142,7 @@ impl Settings for RequestFieldList {
     ghost reader = { request_field_list };
 
     #[tactic(auto, unfolding(crate::specs::FieldValues::request_field_list))]
-    fn read(alloc: Global, tree: &Tree, at: &Path) -> Result<RequestFieldList, LoadFault> {
+    fn read(alloc: Global, tree: &Tree, at: &Place<'_>) -> Result<RequestFieldList, LoadFault> {
         let fields = object_by_name::<RequestField>(alloc, tree, at)?;
         let fields = by_name(bare(alloc, fields)?)?;
         Ok(RequestFieldList { fields })

@@ -5,7 +5,7 @@ ghost use Rattle.cd_wire.specs.Fields.{is_named};
 ghost use Rattle.cd_handlers.specs.Fields.{with_values, added, without, replaced};
 
 use cd_text::{List, NoMemory, Octets, Text};
-use cd_wire::Field;
+use cd_wire::{Field, Lent};
 use std::alloc::Global;
 
 /// A field with its filled values.
@@ -16,17 +16,18 @@ pub struct FilledField {
     pub values: List<Octets>,
 }
 
-fn put_values(
+fn put_values<'r>(
     alloc: Global,
-    fields: List<Field>,
+    fields: List<Field<'r>>,
     name: &Text,
     values: List<Octets>,
-) -> Result<List<Field>, NoMemory>
-    ensures { IfOk result (λ made. made ≡ fields ++ with_values name.now values) }
+) -> Result<List<Field<'r>>, NoMemory>
+    ensures { IfOk result (λ made. made ≡ fields.entry ++ with_values name.now values) }
 {
     let mut fields = fields;
     for value in values.into_vec() {
-        let name = name.copy(alloc)?;
+        let name = Lent::text(name.copy(alloc)?);
+        let value = Lent::octets(value);
         fields.push(Field { name, value })?;
     }
     Ok(fields)
@@ -34,31 +35,33 @@ fn put_values(
 
 // The same, where the name moves into the last field.
 #[tactic(auto, using(crate::proofs::FieldLemmas::with_last))]
-fn put_filled(
+fn put_filled<'r>(
     alloc: Global,
-    fields: List<Field>,
+    fields: List<Field<'r>>,
     name: Text,
     values: List<Octets>,
-) -> Result<List<Field>, NoMemory>
-    ensures { IfOk result (λ made. made ≡ fields ++ with_values name values) }
+) -> Result<List<Field<'r>>, NoMemory>
+    ensures { IfOk result (λ made. made ≡ fields.entry ++ with_values name values) }
 {
     let mut values = values;
     let Some(value) = values.pop() else {
         return Ok(fields);
     };
     let mut fields = put_values(alloc, fields, &name, values)?;
+    let name = Lent::text(name);
+    let value = Lent::octets(value);
     fields.push(Field { name, value })?;
     Ok(fields)
 }
 
 /// The fields with further ones behind them.
 #[tactic(auto, unfolding(crate::specs::Fields::added))]
-pub(crate) fn added(
+pub(crate) fn added<'r>(
     alloc: Global,
     changes: List<FilledField>,
-    fields: List<Field>,
-) -> Result<List<Field>, NoMemory>
-    ensures { IfOk result (λ made. made ≡ added changes fields) }
+    fields: List<Field<'r>>,
+) -> Result<List<Field<'r>>, NoMemory>
+    ensures { IfOk result (λ made. made ≡ added changes fields.entry) }
 {
     let mut now = fields;
     for change in changes.into_vec() {
@@ -68,22 +71,22 @@ pub(crate) fn added(
     Ok(now)
 }
 
-fn without(name: &Text, fields: List<Field>) -> List<Field>
-    ensures { result ≡ without name.now fields }
+fn without<'r>(name: &Text, fields: List<Field<'r>>) -> List<Field<'r>>
+    ensures { result ≡ without name.now fields.entry }
 {
     let mut kept = fields.into_vec();
-    kept.retain(|field| !field.name.equals(name.as_str()));
+    kept.retain(|field| !field.name.equals(name.as_str().as_bytes()));
     List::from_vec(kept)
 }
 
 /// The fields with one after another replaced.
 #[tactic(auto, unfolding(crate::specs::Fields::replaced))]
-pub(crate) fn replaced(
+pub(crate) fn replaced<'r>(
     alloc: Global,
     changes: List<FilledField>,
-    fields: List<Field>,
-) -> Result<List<Field>, NoMemory>
-    ensures { IfOk result (λ made. made ≡ replaced changes fields) }
+    fields: List<Field<'r>>,
+) -> Result<List<Field<'r>>, NoMemory>
+    ensures { IfOk result (λ made. made ≡ replaced changes fields.entry) }
 {
     let mut now = fields;
     for change in changes.into_vec() {
@@ -95,11 +98,11 @@ pub(crate) fn replaced(
 }
 
 /// Whether there is a field of that name.
-pub(crate) fn has_field(fields: &List<Field>, name: &str) -> bool
+pub(crate) fn has_field(fields: &List<Field<'_>>, name: &str) -> bool
     ensures { result ≡ list_any (is_named name.now) fields.now }
 {
     for field in fields.as_slice() {
-        if field.name.equals(name) {
+        if field.name.equals(name.as_bytes()) {
             return true;
         }
     }

@@ -6,8 +6,9 @@ ghost use Rattle.cd_handlers.specs.Filling.{text_filled, all_filled, fields_fill
 use crate::fault::HandlerFault;
 use crate::field_values::FieldValues;
 use crate::fields::FilledField;
-use cd_fill::{Scene, fill};
+use cd_fill::{Scene, fill, fill_lent};
 use cd_text::{List, Octets, Text};
+use cd_wire::Lent;
 use std::alloc::Global;
 
 #[tactic(auto, unfolding(crate::specs::Filling::text_filled))]
@@ -19,6 +20,19 @@ pub(crate) fn text_filled(
     ensures { Gives HandlerFault.NoMemory result (text_filled scene.now text.now) }
 {
     let filled = fill(alloc, text, scene)?;
+    Ok(filled)
+}
+
+/// The same, lent by a text that stands for itself.
+#[tactic(auto, unfolding(crate::specs::Filling::text_filled))]
+pub(crate) fn text_lent<'r>(
+    alloc: Global,
+    text: &'r Text,
+    scene: &Scene<'_>,
+) -> Result<Lent<'r, u8>, HandlerFault>
+    ensures { Gives HandlerFault.NoMemory result (text_filled scene.now text.now) }
+{
+    let filled = fill_lent(alloc, text, scene)?;
     Ok(filled)
 }
 

@@ -10,7 +10,7 @@ use crate::static_response::StaticResponse;
 use crate::vars::Vars;
 use cd_module::{LoadFault, Settings, name_of};
 use cd_text::Text;
-use cd_tree::{Path, Tree};
+use cd_tree::{Place, Tree};
 use std::alloc::Global;
 
 /// A handler that has no routes inside, with its settings. `subroute` is no name of one: the crate above reads it with its
@@ -26,7 +26,12 @@ pub enum Handler {
 
 // A handler that is known by its name.
 #[tactic(auto, unfolding(crate::specs::Handlers::handler_of))]
-fn read_kind(alloc: Global, kind: HandlerKind, tree: &Tree, at: &Path) -> Result<Handler, LoadFault>
+fn read_kind(
+    alloc: Global,
+    kind: HandlerKind,
+    tree: &Tree,
+    at: &Place<'_>,
+) -> Result<Handler, LoadFault>
     ensures { Gives LoadFault.NoMemory result (handler_of kind tree.now at.now) }
 {
     match kind {
@@ -53,7 +58,7 @@ fn read_kind(alloc: Global, kind: HandlerKind, tree: &Tree, at: &Path) -> Result
     }
 }
 
-fn read_named(alloc: Global, name: &Text, tree: &Tree, at: &Path) -> Result<Handler, LoadFault>
+fn read_named(alloc: Global, name: &Text, tree: &Tree, at: &Place<'_>) -> Result<Handler, LoadFault>
     ensures { Gives LoadFault.NoMemory result (known_handler name.now (kind_named name.now) tree.now at.now) }
 {
     match HandlerKind::named(name.as_str()) {
@@ -66,7 +71,7 @@ impl Settings for Handler {
     ghost reader = { handler };
 
     #[tactic(auto, unfolding(crate::specs::Handlers::handler))]
-    fn read(alloc: Global, tree: &Tree, at: &Path) -> Result<Handler, LoadFault> {
+    fn read(alloc: Global, tree: &Tree, at: &Place<'_>) -> Result<Handler, LoadFault> {
         let name = name_of(alloc, tree, at, "handler")?;
         read_named(alloc, &name, tree, at)
     }

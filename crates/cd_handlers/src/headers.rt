@@ -17,8 +17,8 @@ use crate::outcome::{Deed, Effect, alone};
 use cd_fill::{Lent, Scene, let_go};
 use cd_module::{LoadFault, Pattern, Settings, fields_of, optional};
 use cd_text::{List, NoMemory};
-use cd_tree::{Path, Tree};
-use cd_wire::Field;
+use cd_tree::{Place, Tree};
+use cd_wire::{Field, RequestFields};
 use std::alloc::Global;
 use std::mem::replace;
 
@@ -48,7 +48,7 @@ impl Settings for RequestChanges {
     ghost reader = { request_changes };
 
     #[tactic(auto, unfolding(crate::specs::Headers::request_changes))]
-    fn read(alloc: Global, tree: &Tree, at: &Path) -> Result<RequestChanges, LoadFault> {
+    fn read(alloc: Global, tree: &Tree, at: &Place<'_>) -> Result<RequestChanges, LoadFault> {
         let fields = fields_of(alloc, tree, at, "add set delete")?;
         let add = optional::<RequestFieldList>(alloc, &fields, at, "add")?;
         let set = optional::<RequestFieldList>(alloc, &fields, at, "set")?;
@@ -67,7 +67,7 @@ impl Settings for ResponseChanges {
     ghost reader = { response_changes };
 
     #[tactic(auto, unfolding(crate::specs::Headers::response_changes))]
-    fn read(alloc: Global, tree: &Tree, at: &Path) -> Result<ResponseChanges, LoadFault> {
+    fn read(alloc: Global, tree: &Tree, at: &Place<'_>) -> Result<ResponseChanges, LoadFault> {
         let fields = fields_of(alloc, tree, at, "add set delete deferred")?;
         let add = optional::<FieldList>(alloc, &fields, at, "add")?;
         let set = optional::<FieldList>(alloc, &fields, at, "set")?;
@@ -119,7 +119,7 @@ impl Settings for Headers {
     ghost reader = { headers };
 
     #[tactic(auto, unfolding(crate::specs::Headers::headers))]
-    fn read(alloc: Global, tree: &Tree, at: &Path) -> Result<Headers, LoadFault> {
+    fn read(alloc: Global, tree: &Tree, at: &Place<'_>) -> Result<Headers, LoadFault> {
         let fields = fields_of(alloc, tree, at, "handler request response")?;
         let request = optional::<RequestChanges>(alloc, &fields, at, "request")?;
         let response = optional::<ResponseChanges>(alloc, &fields, at, "response")?;
@@ -165,8 +165,8 @@ fn request_changed<'r>(
     alloc: Global,
     values: FilledValues,
     delete: &List<Pattern>,
-    fields: Lent<'r, Field>,
-) -> Result<Lent<'r, Field>, NoMemory>
+    fields: RequestFields<'r>,
+) -> Result<RequestFields<'r>, NoMemory>
     ensures { IfOk result (λ made. made ≡ changed_by side.Request values delete.now fields.entry) }
 {
     if changes_nothing(&values, delete) {
@@ -174,7 +174,7 @@ fn request_changed<'r>(
     }
     let fields = fields.into_list(alloc)?;
     let made = changed_by(alloc, Side::Request, values, delete.as_slice(), fields)?;
-    Ok(Lent::own(made))
+    Ok(RequestFields::own(made))
 }
 
 fn with_request_changes<'r>(
@@ -189,27 +189,14 @@ fn with_request_changes<'r>(
 {
     let mut scene = scene;
     let delete = &settings.request.delete;
-    let fields = replace(&mut scene.fields, Lent::shared(&[]));
+    let fields = replace(&mut scene.fields, RequestFields::own(List::new(alloc)));
     match request_changed(alloc, values, delete, fields) {
         Ok(fields) => {
-            scene.fields = fields;
+            let _ = replace(&mut scene.fields, fields);
             Ok(scene)
         }
         Err(NoMemory) => Err(let_go(scene)),
     }
-}
-
-fn response_changed(
-    alloc: Global,
-    values: FilledValues,
-    delete: &[Pattern],
-    fields: &mut List<Field>,
-) -> Result<(), NoMemory>
-    ensures { IfOk result (λ _. fields.new ≡ changed_by side.Answer values delete.now fields.old) }
-{
-    let now = replace(fields, List::new(alloc));
-    *fields = changed_by(alloc, Side::Answer, values, delete, now)?;
-    Ok(())
 }
 
 fn with_response_changes<'r>(
@@ -224,8 +211,12 @@ fn with_response_changes<'r>(
 {
     let mut scene = scene;
     let delete = settings.response.changes.delete.as_slice();
-    match response_changed(alloc, values, delete, &mut scene.response) {
-        Ok(()) => Ok(scene),
+    let now = replace(&mut scene.response, List::new(alloc));
+    match changed_by(alloc, Side::Answer, values, delete, now) {
+        Ok(fields) => {
+            let _ = replace(&mut scene.response, fields);
+            Ok(scene)
+        }
         Err(NoMemory) => Err(let_go(scene)),
     }
 }

@@ -11,7 +11,7 @@ pub enum Effect<'r> {
     /// The request goes on in this scene.
     Next(Scene<'r>),
     /// The request is answered.
-    Answered(Answer),
+    Answered(Answer<'r>),
     /// The handler fails in this scene, with a status and a message.
     Failed(Scene<'r>, u16, Octets),
 }

@@ -7,7 +7,7 @@ ghost use Rattle.cd_handlers.specs.Rewrite.{is_token, method_text, find_text, li
 use crate::texts::{has_brace, no_text};
 use cd_module::{LoadFault, LoadKind, Settings, fields_of, needed, optional};
 use cd_text::{List, Text};
-use cd_tree::{Num, Path, Tree};
+use cd_tree::{Num, Place, Tree};
 use http_header::is_token_char;
 use std::alloc::Global;
 
@@ -76,7 +76,7 @@ impl Settings for MethodText {
     ghost reader = { method_text };
 
     #[tactic(auto, unfolding(crate::specs::Rewrite::method_text))]
-    fn read(alloc: Global, tree: &Tree, at: &Path) -> Result<MethodText, LoadFault> {
+    fn read(alloc: Global, tree: &Tree, at: &Place<'_>) -> Result<MethodText, LoadFault> {
         let text = Text::read(alloc, tree, at)?;
         if is_method(text.as_str().as_bytes()) {
             Ok(MethodText { text })
@@ -90,7 +90,7 @@ impl Settings for FindText {
     ghost reader = { find_text };
 
     #[tactic(auto, unfolding(crate::specs::Rewrite::find_text))]
-    fn read(alloc: Global, tree: &Tree, at: &Path) -> Result<FindText, LoadFault> {
+    fn read(alloc: Global, tree: &Tree, at: &Place<'_>) -> Result<FindText, LoadFault> {
         let text = Text::read(alloc, tree, at)?;
         if text.len() == 0 {
             Err(LoadFault::at(alloc, LoadKind::BadValue, at))
@@ -104,7 +104,7 @@ impl Settings for Limit {
     ghost reader = { limit };
 
     #[tactic(auto, unfolding(crate::specs::Rewrite::limit))]
-    fn read(alloc: Global, tree: &Tree, at: &Path) -> Result<Limit, LoadFault> {
+    fn read(alloc: Global, tree: &Tree, at: &Place<'_>) -> Result<Limit, LoadFault> {
         let number = Num::read(alloc, tree, at)?;
         if number.negative {
             Err(LoadFault::at(alloc, LoadKind::BadValue, at))
@@ -127,7 +127,7 @@ impl Settings for Substring {
     ghost reader = { substring };
 
     #[tactic(auto, unfolding(crate::specs::Rewrite::substring))]
-    fn read(alloc: Global, tree: &Tree, at: &Path) -> Result<Substring, LoadFault> {
+    fn read(alloc: Global, tree: &Tree, at: &Place<'_>) -> Result<Substring, LoadFault> {
         let fields = fields_of(alloc, tree, at, "find replace limit")?;
         let find = needed::<FindText>(alloc, &fields, at, "find")?;
         let replace = optional::<Text>(alloc, &fields, at, "replace")?;
@@ -144,7 +144,7 @@ impl Settings for Rewrite {
     ghost reader = { rewrite };
 
     #[tactic(auto, unfolding(crate::specs::Rewrite::rewrite))]
-    fn read(alloc: Global, tree: &Tree, at: &Path) -> Result<Rewrite, LoadFault> {
+    fn read(alloc: Global, tree: &Tree, at: &Place<'_>) -> Result<Rewrite, LoadFault> {
         let names = "handler method uri strip_path_prefix strip_path_suffix uri_substring";
         let fields = fields_of(alloc, tree, at, names)?;
         let method = optional::<MethodText>(alloc, &fields, at, "method")?;

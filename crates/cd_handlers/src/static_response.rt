@@ -8,15 +8,15 @@ use crate::failing::failed;
 use crate::fault::HandlerFault;
 use crate::field_values::{FieldList, FieldValues, fields_or_none};
 use crate::fields::{FilledField, has_field, replaced};
-use crate::filling::{fields_filled, text_filled};
+use crate::filling::{fields_filled, text_lent};
 use crate::outcome::Effect;
 use crate::status::{Status, status_given, usual_status};
 use crate::texts::no_text;
 use cd_fill::{Scene, response_of};
 use cd_module::{LoadFault, Settings, fields_of, optional};
-use cd_text::{List, NoMemory, Octets, Text};
-use cd_tree::{Path, Tree};
-use cd_wire::{Answer, Field};
+use cd_text::{List, NoMemory, Text};
+use cd_tree::{Place, Tree};
+use cd_wire::{Answer, Field, Lent};
 use std::alloc::Global;
 
 /// `static_response`: an answer that the settings fix but for placeholders (Caddy, JSON Config Structure,
@@ -37,7 +37,7 @@ impl Settings for StaticResponse {
     ghost reader = { static_response };
 
     #[tactic(auto, unfolding(crate::specs::StaticResponse::static_response))]
-    fn read(alloc: Global, tree: &Tree, at: &Path) -> Result<StaticResponse, LoadFault> {
+    fn read(alloc: Global, tree: &Tree, at: &Place<'_>) -> Result<StaticResponse, LoadFault> {
         let names = "handler status_code headers body close";
         let fields = fields_of(alloc, tree, at, names)?;
         let status = optional::<Status>(alloc, &fields, at, "status_code")?;
@@ -55,28 +55,28 @@ impl Settings for StaticResponse {
 }
 
 #[tactic(auto, unfolding(crate::specs::StaticResponse::type_field))]
-fn type_field(alloc: Global, settings: &BodyText, body: &Octets) -> Result<Field, NoMemory>
+fn type_field<'r>(alloc: Global, settings: &BodyText, body: &[u8]) -> Result<Field<'r>, NoMemory>
     ensures { IfOk result (λ field. field ≡ type_field body.now) }
 {
-    let value: &[u8] = if settings.is_json_as(alloc, body.as_slice())? {
+    let value: &'static [u8] = if settings.is_json_as(alloc, body)? {
         b"application/json"
     } else {
         b"text/plain; charset=utf-8"
     };
     Ok(Field {
-        name: Text::from_str(alloc, "content-type")?,
-        value: Octets::from_slice(alloc, value)?,
+        name: Lent::shared(b"content-type"),
+        value: Lent::shared(value),
     })
 }
 
 #[tactic(auto, unfolding(crate::specs::StaticResponse::with_type))]
-fn with_type(
+fn with_type<'r>(
     alloc: Global,
     settings: &BodyText,
-    body: &Octets,
-    fields: List<Field>,
-) -> Result<List<Field>, NoMemory>
-    ensures { IfOk result (λ made. made ≡ with_type body.now fields) }
+    body: &[u8],
+    fields: List<Field<'r>>,
+) -> Result<List<Field<'r>>, NoMemory>
+    ensures { IfOk result (λ made. made ≡ with_type body.now fields.entry) }
 {
     if body.is_empty() || has_field(&fields, "content-type") {
         return Ok(fields);
@@ -88,24 +88,24 @@ fn with_type(
 
 /// What a static response fills in a scene.
 #[derive(Debug, Drop)]
-pub(crate) struct Parts {
+pub(crate) struct Parts<'r> {
     pub status: u16,
     pub headers: List<FilledField>,
-    pub body: Octets,
+    pub body: Lent<'r, u8>,
 }
 
 #[tactic(auto, unfolding(crate::specs::StaticResponse::parts_filled))]
-fn parts_filled(
+fn parts_filled<'r>(
     alloc: Global,
-    settings: &StaticResponse,
+    settings: &'r StaticResponse,
     scene: &Scene<'_>,
-) -> Result<Parts, HandlerFault>
+) -> Result<Parts<'r>, HandlerFault>
     ensures { Gives HandlerFault.NoMemory result (parts_filled settings.now scene.now) }
 {
     let usual = usual_status(&scene.error);
     let status = status_given(alloc, &settings.status, usual, scene)?;
     let headers = fields_filled(alloc, &settings.headers, scene)?;
-    let body = text_filled(alloc, settings.body.text(), scene)?;
+    let body = text_lent(alloc, settings.body.text(), scene)?;
     Ok(Parts {
         status,
         headers,
@@ -113,13 +113,13 @@ fn parts_filled(
     })
 }
 
-fn answered(
+fn answered<'r>(
     alloc: Global,
     settings: &StaticResponse,
-    response: List<Field>,
-    parts: Parts,
-) -> Result<Answer, NoMemory>
-    ensures { IfOk result (λ answer. answer ≡ answered settings.now response parts) }
+    response: List<Field<'r>>,
+    parts: Parts<'r>,
+) -> Result<Answer<'r>, NoMemory>
+    ensures { IfOk result (λ answer. answer ≡ answered settings.now response.entry parts.entry) }
 {
     let Parts {
         status,
@@ -127,7 +127,7 @@ fn answered(
         body,
     } = parts;
     let fields = replaced(alloc, headers, response)?;
-    let fields = with_type(alloc, &settings.body, &body, fields)?;
+    let fields = with_type(alloc, &settings.body, body.as_slice(), fields)?;
     Ok(Answer {
         status,
         fields,
@@ -140,7 +140,7 @@ fn answered(
 #[tactic(auto, unfolding(crate::specs::StaticResponse::static_effect))]
 pub(crate) fn static_effect<'r>(
     alloc: Global,
-    settings: &StaticResponse,
+    settings: &'r StaticResponse,
     scene: Scene<'r>,
 ) -> Result<Effect<'r>, NoMemory>
     ensures { IfOk result (λ made. made ≡ static_effect settings.now scene.entry) }

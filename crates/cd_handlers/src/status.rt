@@ -9,7 +9,7 @@ use crate::texts::has_brace;
 use cd_fill::{Failure, Scene};
 use cd_module::{LoadFault, LoadKind, Settings};
 use cd_text::Text;
-use cd_tree::{Num, Path, Tree};
+use cd_tree::{Num, Place, Tree};
 use std::alloc::Global;
 
 /// The status that a handler gives, from 200 to 999 (RFC 9110, section 15).
@@ -48,7 +48,7 @@ fn code_written(text: &[u8]) -> Option<u16>
     }
 }
 
-fn known(alloc: Global, code: Option<u16>, at: &Path) -> Result<Status, LoadFault>
+fn known(alloc: Global, code: Option<u16>, at: &Place<'_>) -> Result<Status, LoadFault>
     ensures { Gives LoadFault.NoMemory result (known code at.now) }
 {
     match code {
@@ -57,7 +57,7 @@ fn known(alloc: Global, code: Option<u16>, at: &Path) -> Result<Status, LoadFaul
     }
 }
 
-fn text_status(alloc: Global, text: &Text, at: &Path) -> Result<Status, LoadFault>
+fn text_status(alloc: Global, text: &Text, at: &Place<'_>) -> Result<Status, LoadFault>
     ensures { Gives LoadFault.NoMemory result (text_status text.now at.now) }
 {
     let bytes = text.as_str().as_bytes();
@@ -71,7 +71,7 @@ impl Settings for Status {
     ghost reader = { status };
 
     #[tactic(auto, unfolding(crate::specs::Status::status))]
-    fn read(alloc: Global, tree: &Tree, at: &Path) -> Result<Status, LoadFault> {
+    fn read(alloc: Global, tree: &Tree, at: &Place<'_>) -> Result<Status, LoadFault> {
         match tree {
             Tree::Num(number) => known(alloc, code_of(number), at),
             Tree::Text(text) => text_status(alloc, text, at),

@@ -10,7 +10,7 @@ use crate::outcome::Effect;
 use cd_fill::{Scene, Variable, let_go};
 use cd_module::{LoadFault, LoadKind, Named, Settings, object_by_name};
 use cd_text::{List, NoMemory, Octets, Text};
-use cd_tree::{Num, Path, Tree};
+use cd_tree::{Num, Place, Tree};
 use std::alloc::Global;
 
 /// `vars`: variables that are set for what follows (Caddy, JSON Config Structure, http.handlers.vars).
@@ -47,7 +47,7 @@ fn truth_text(truth: bool) -> &'static str
     if truth { "true" } else { "false" }
 }
 
-fn read_text(alloc: Global, tree: &Tree, at: &Path) -> Result<Text, LoadFault>
+fn read_text(alloc: Global, tree: &Tree, at: &Place<'_>) -> Result<Text, LoadFault>
     ensures { Gives LoadFault.NoMemory result (setting_text tree.now at.now) }
 {
     match tree {
@@ -65,7 +65,7 @@ impl Named for Setting {
         alloc: Global,
         name: &Text,
         tree: &Tree,
-        at: &Path,
+        at: &Place<'_>,
     ) -> Result<Setting, LoadFault> {
         let text = read_text(alloc, tree, at)?;
         let name = name.copy(alloc)?;
@@ -86,7 +86,7 @@ impl Settings for Vars {
     ghost reader = { vars };
 
     #[tactic(auto, unfolding(crate::specs::Vars::vars))]
-    fn read(alloc: Global, tree: &Tree, at: &Path) -> Result<Vars, LoadFault> {
+    fn read(alloc: Global, tree: &Tree, at: &Place<'_>) -> Result<Vars, LoadFault> {
         let settings = object_by_name::<Setting>(alloc, tree, at)?;
         Ok(Vars {
             settings: variables(settings),

@@ -18,10 +18,10 @@ use Rattle.cd_serve.proofs.lane_end.LaneEnd.TheSendSync as end
 use Rattle.cd_host.specs.contracts.slot.Slot as Slot
 
 tree_send : IsSend Tree.the_row
-tree_send = search (trees.crosses, std.crosses, sendable) depth 60 fits 20000
+tree_send = search (trees.crosses_both, std.crosses, sendable) depth 60 fits 20000
 
 tree_sync : IsSync Tree.the_row
-tree_sync = search (trees.crosses, std.crosses, sendable) depth 60 fits 20000
+tree_sync = search (trees.crosses_both, std.crosses, sendable) depth 60 fits 20000
 
 desk_send : (F : RattleType) → IsSend F → IsSend (Desk.the_row F)
 desk_send F fs = declared_send (Desk.the_type F) (search (fs, sendable), (search (std.crosses, sendable) depth 60 fits 20000))

@@ -8,7 +8,7 @@ ghost use Rattle.cd_ids.specs.Noting.{note};
 use crate::fault::IdFault;
 use crate::walk::walk;
 use cd_text::Text;
-use cd_tree::{Path, Tree};
+use cd_tree::{Path, Place, Tree};
 use indexmap::IndexMap;
 use std::alloc::Global;
 use std::marker::Model;
@@ -40,8 +40,8 @@ impl Index {
         ensures { Gives IdFault.NoMemory result (index_of tree.now) }
     {
         let mut index = Index::new(alloc);
-        let mut at = Path::root(alloc);
-        walk(alloc, tree, &mut at, &mut index)?;
+        let at = Place::top();
+        walk(alloc, tree, &at, &mut index)?;
         Ok(index)
     }
 
@@ -61,11 +61,11 @@ impl Index {
     }
 
     /// Notes an id, unless it is there already.
-    pub(crate) fn note(&mut self, alloc: Global, id: Text, at: &Path) -> Result<(), IdFault>
+    pub(crate) fn note(&mut self, alloc: Global, id: Text, at: &Place<'_>) -> Result<(), IdFault>
         ensures { Gives IdFault.NoMemory (result_map_both (λ _. self.new) (λ fault. fault) result)
             (note self.old id at.now) }
     {
-        let at = at.copy(alloc)?;
+        let at = at.to_path(alloc)?;
         if let Some(first) = self.find(&id) {
             return Err(IdFault::Repeated(id, first.copy(alloc)?, at));
         }

@@ -5,6 +5,13 @@ use crate::board::Draft;
 use cd_module_set::ModuleSet;
 
 impl<M: ModuleSet> Draft<M> {
+    /// Its number.
+    pub fn number(&self) -> u64
+        ensures { result ≡ self.now.left.number }
+    {
+        self.left.number
+    }
+
     /// How many of its instances are left to be made.
     pub fn modules_left(&self) -> u32
         ensures { result ≡ self.now.left.modules - self.now.left.made }

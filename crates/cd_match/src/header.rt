@@ -8,8 +8,8 @@ ghost use Rattle.cd_match.specs.Header.{field_test, header_matcher, some_fits, v
 use cd_fill::Scene;
 use cd_module::{LoadFault, Named, Pattern, Settings, object_by_name_with_nulls};
 use cd_text::{List, Text};
-use cd_tree::{Path, Tree};
-use cd_wire::Field;
+use cd_tree::{Place, Tree};
+use cd_wire::Fields;
 use std::alloc::Global;
 
 /// What the fields of a name are to be.
@@ -36,7 +36,7 @@ impl Named for FieldTest {
         alloc: Global,
         name: &Text,
         tree: &Tree,
-        at: &Path,
+        at: &Place<'_>,
     ) -> Result<FieldTest, LoadFault> {
         let patterns = match tree {
             Tree::Null => None,
@@ -53,7 +53,7 @@ impl Settings for HeaderMatcher {
     ghost reader = { header_matcher };
 
     #[tactic(auto, unfolding(crate::specs::Header::header_matcher))]
-    fn read(alloc: Global, tree: &Tree, at: &Path) -> Result<HeaderMatcher, LoadFault> {
+    fn read(alloc: Global, tree: &Tree, at: &Place<'_>) -> Result<HeaderMatcher, LoadFault> {
         let tests = object_by_name_with_nulls::<FieldTest>(alloc, tree, at)?;
         Ok(HeaderMatcher { tests })
     }
@@ -61,8 +61,8 @@ impl Settings for HeaderMatcher {
 
 // Whether the fields have the name.
 #[tactic(auto, unfolding(cd_fill::specs::Values::header_values))]
-fn has_field(name: &[u8], fields: &[Field]) -> bool
-    ensures { result ≡ not (length (header_values name.now fields.now) == 0) }
+fn has_field(name: &[u8], fields: Fields<'_>) -> bool
+    ensures { result ≡ not (length (header_values name.now fields.entry) == 0) }
 {
     for field in fields {
         if field.is_called(name) {
@@ -80,8 +80,8 @@ fn fits_one(patterns: &[Pattern], value: &[u8]) -> bool
 
 // Whether a field of the name has a value that fits one of the patterns.
 #[tactic(auto, unfolding(cd_fill::specs::Values::header_values))]
-fn has_fitting_field(name: &[u8], patterns: &[Pattern], fields: &[Field]) -> bool
-    ensures { result ≡ some_fits patterns.now (header_values name.now fields.now) }
+fn has_fitting_field(name: &[u8], patterns: &[Pattern], fields: Fields<'_>) -> bool
+    ensures { result ≡ some_fits patterns.now (header_values name.now fields.entry) }
 {
     for field in fields {
         if field.is_called(name) && fits_one(patterns, field.value.as_slice()) {
@@ -96,7 +96,7 @@ fn field_passes(scene: &Scene<'_>, test: &FieldTest) -> bool
     ensures { result ≡ field_passes scene.now test.now }
 {
     let name = test.name.as_str().as_bytes();
-    let fields = scene.fields.as_slice();
+    let fields = scene.fields.look();
     match &test.patterns {
         None => !has_field(name, fields),
         Some(patterns) => {

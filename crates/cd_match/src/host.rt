@@ -3,10 +3,10 @@ ghost use Rattle.std.specs.Prelude.{◌≡◌, length};
 ghost use Rattle.std.specs.List.{position_or_len};
 ghost use Rattle.cd_match.specs.Host.{host_matcher, is_dot, label_fits, host_fits, host_holds};
 
-use cd_fill::{Scene, host_without_port, split_at_byte};
+use cd_fill::{Scene, host_without_port};
 use cd_module::{LoadFault, Settings};
-use cd_text::{List, Text};
-use cd_tree::{Path, Tree};
+use cd_text::{List, Text, split_at_byte};
+use cd_tree::{Place, Tree};
 use std::alloc::Global;
 
 /// Holds where the host that is asked for, without its port, fits one of the patterns. A pattern fits a host with as many
@@ -20,7 +20,7 @@ impl Settings for HostMatcher {
     ghost reader = { host_matcher };
 
     #[tactic(auto, unfolding(crate::specs::Host::host_matcher))]
-    fn read(alloc: Global, tree: &Tree, at: &Path) -> Result<HostMatcher, LoadFault> {
+    fn read(alloc: Global, tree: &Tree, at: &Place<'_>) -> Result<HostMatcher, LoadFault> {
         let patterns = List::<Text>::read(alloc, tree, at)?;
         Ok(HostMatcher { patterns })
     }

@@ -6,7 +6,7 @@ use crate::is_listed;
 use cd_fill::Scene;
 use cd_module::{LoadFault, Settings};
 use cd_text::{List, Text};
-use cd_tree::{Path, Tree};
+use cd_tree::{Place, Tree};
 use std::alloc::Global;
 
 /// Holds where the method, as handlers have left it, is listed; case counts (RFC 9110, section 9.1). Without methods it never
@@ -20,7 +20,7 @@ impl Settings for MethodMatcher {
     ghost reader = { method_matcher };
 
     #[tactic(auto, unfolding(crate::specs::Method::method_matcher))]
-    fn read(alloc: Global, tree: &Tree, at: &Path) -> Result<MethodMatcher, LoadFault> {
+    fn read(alloc: Global, tree: &Tree, at: &Place<'_>) -> Result<MethodMatcher, LoadFault> {
         let methods = List::<Text>::read(alloc, tree, at)?;
         Ok(MethodMatcher { methods })
     }

@@ -6,7 +6,7 @@ use crate::matcher::MatcherSet;
 use crate::reading::read_not;
 use cd_module::{LoadFault, Settings};
 use cd_text::List;
-use cd_tree::{Path, Tree};
+use cd_tree::{Place, Tree};
 use std::alloc::Global;
 
 /// Holds where none of its sets holds.
@@ -19,7 +19,7 @@ pub struct NotMatcher {
 impl Settings for NotMatcher {
     ghost reader = { not_matcher sets };
 
-    fn read(alloc: Global, tree: &Tree, at: &Path) -> Result<NotMatcher, LoadFault> {
+    fn read(alloc: Global, tree: &Tree, at: &Place<'_>) -> Result<NotMatcher, LoadFault> {
         read_not(alloc, tree, at)
     }
 }

@@ -6,7 +6,7 @@ ghost use Rattle.cd_match.specs.Path.{is_star, path_pattern, path_matcher, path_
 use cd_fill::Scene;
 use cd_module::{LoadFault, LoadKind, Pattern, Settings};
 use cd_text::List;
-use cd_tree::{Path, Tree};
+use cd_tree::{Place, Tree};
 use std::alloc::Global;
 
 /// A pattern of a path, in which a `*` stands at its ends alone.
@@ -31,7 +31,7 @@ impl Settings for PathPattern {
     ghost reader = { path_pattern };
 
     #[tactic(auto, unfolding(crate::specs::Path::path_pattern))]
-    fn read(alloc: Global, tree: &Tree, at: &Path) -> Result<PathPattern, LoadFault> {
+    fn read(alloc: Global, tree: &Tree, at: &Place<'_>) -> Result<PathPattern, LoadFault> {
         let pattern = Pattern::read(alloc, tree, at)?;
         if has_star(pattern.literal()) {
             return Err(LoadFault::at(alloc, LoadKind::BadValue, at));
@@ -44,7 +44,7 @@ impl Settings for PathMatcher {
     ghost reader = { path_matcher };
 
     #[tactic(auto, unfolding(crate::specs::Path::path_matcher))]
-    fn read(alloc: Global, tree: &Tree, at: &Path) -> Result<PathMatcher, LoadFault> {
+    fn read(alloc: Global, tree: &Tree, at: &Place<'_>) -> Result<PathMatcher, LoadFault> {
         let patterns = List::<PathPattern>::read(alloc, tree, at)?;
         Ok(PathMatcher { patterns })
     }

@@ -8,7 +8,7 @@ ghost use Rattle.cd_match.specs.Query.{key_test, query_matcher, is_wanted, key_p
 use cd_fill::{Scene, stands_for};
 use cd_module::{LoadFault, Named, Settings, object_by_name};
 use cd_text::{List, Text};
-use cd_tree::{Path, Tree};
+use cd_tree::{Place, Tree};
 use form_urlencoded::raw_pairs;
 use std::alloc::Global;
 
@@ -35,7 +35,7 @@ impl Named for KeyTest {
         alloc: Global,
         name: &Text,
         tree: &Tree,
-        at: &Path,
+        at: &Place<'_>,
     ) -> Result<KeyTest, LoadFault> {
         let values = List::<Text>::read(alloc, tree, at)?;
         Ok(KeyTest {
@@ -49,7 +49,7 @@ impl Settings for QueryMatcher {
     ghost reader = { query_matcher };
 
     #[tactic(auto, unfolding(crate::specs::Query::query_matcher))]
-    fn read(alloc: Global, tree: &Tree, at: &Path) -> Result<QueryMatcher, LoadFault> {
+    fn read(alloc: Global, tree: &Tree, at: &Place<'_>) -> Result<QueryMatcher, LoadFault> {
         let tests = object_by_name::<KeyTest>(alloc, tree, at)?;
         Ok(QueryMatcher { tests })
     }

@@ -17,13 +17,18 @@ use crate::sets::Sets;
 use crate::vars::VarsMatcher;
 use cd_module::{LoadFault, LoadKind, Named, Settings, is_a_setting};
 use cd_text::{List, Text};
-use cd_tree::{Member, Path, Tree};
+use cd_tree::{Member, Place, Tree};
 use std::alloc::Global;
 
 // A matcher that is known by its name.
 #[cycle(sets)]
 #[tactic(auto, unfolding(crate::specs::Matchers::matcher_of))]
-fn read_kind(alloc: Global, kind: MatcherKind, tree: &Tree, at: &Path) -> Result<Matcher, LoadFault>
+fn read_kind(
+    alloc: Global,
+    kind: MatcherKind,
+    tree: &Tree,
+    at: &Place<'_>,
+) -> Result<Matcher, LoadFault>
     ensures { Gives LoadFault.NoMemory result (matcher_of sets kind tree.now at.now) }
 {
     match kind {
@@ -40,7 +45,7 @@ fn read_kind(alloc: Global, kind: MatcherKind, tree: &Tree, at: &Path) -> Result
 /// A `not`, with its sets.
 #[cycle(sets)]
 #[tactic(auto, unfolding(crate::specs::Not::not_matcher))]
-pub(crate) fn read_not(alloc: Global, tree: &Tree, at: &Path) -> Result<NotMatcher, LoadFault>
+pub(crate) fn read_not(alloc: Global, tree: &Tree, at: &Place<'_>) -> Result<NotMatcher, LoadFault>
     ensures { Gives LoadFault.NoMemory result (not_matcher sets tree.now at.now) }
 {
     let sets = read_sets(alloc, tree, at)?;
@@ -49,7 +54,12 @@ pub(crate) fn read_not(alloc: Global, tree: &Tree, at: &Path) -> Result<NotMatch
 
 #[cycle(sets)]
 #[tactic(auto, unfolding(crate::specs::Matchers::matcher))]
-fn read_matcher(alloc: Global, name: &Text, tree: &Tree, at: &Path) -> Result<Matcher, LoadFault>
+fn read_matcher(
+    alloc: Global,
+    name: &Text,
+    tree: &Tree,
+    at: &Place<'_>,
+) -> Result<Matcher, LoadFault>
     ensures { Gives LoadFault.NoMemory result (matcher sets name.now tree.now at.now) }
 {
     match MatcherKind::named(name.as_str()) {
@@ -59,7 +69,11 @@ fn read_matcher(alloc: Global, name: &Text, tree: &Tree, at: &Path) -> Result<Ma
 }
 
 #[cycle(sets)]
-fn read_matchers(alloc: Global, members: &[Member], at: &Path) -> Result<List<Matcher>, LoadFault>
+fn read_matchers(
+    alloc: Global,
+    members: &[Member],
+    at: &Place<'_>,
+) -> Result<List<Matcher>, LoadFault>
     ensures { Gives LoadFault.NoMemory result (each_member is_setting (matcher sets) members.now at.now) }
 {
     let mut matchers = List::new(alloc);
@@ -67,7 +81,7 @@ fn read_matchers(alloc: Global, members: &[Member], at: &Path) -> Result<List<Ma
         if !is_a_setting(member) {
             continue;
         }
-        let here = at.member(alloc, member.key.as_str())?;
+        let here = at.member(member.key.as_str());
         matchers.push(read_matcher(alloc, &member.key, &member.value, &here)?)?;
     }
     Ok(matchers)
@@ -75,7 +89,7 @@ fn read_matchers(alloc: Global, members: &[Member], at: &Path) -> Result<List<Ma
 
 #[cycle(sets)]
 #[tactic(auto, unfolding(crate::specs::Matchers::matcher_set))]
-fn read_set(alloc: Global, tree: &Tree, at: &Path) -> Result<MatcherSet, LoadFault>
+fn read_set(alloc: Global, tree: &Tree, at: &Place<'_>) -> Result<MatcherSet, LoadFault>
     ensures { Gives LoadFault.NoMemory result (matcher_set sets tree.now at.now) }
 {
     match tree {
@@ -88,19 +102,23 @@ fn read_set(alloc: Global, tree: &Tree, at: &Path) -> Result<MatcherSet, LoadFau
 }
 
 #[cycle(sets)]
-fn read_each_set(alloc: Global, items: &[Tree], at: &Path) -> Result<List<MatcherSet>, LoadFault>
+fn read_each_set(
+    alloc: Global,
+    items: &[Tree],
+    at: &Place<'_>,
+) -> Result<List<MatcherSet>, LoadFault>
     ensures { Gives LoadFault.NoMemory result (each (matcher_set sets) 0 items.now at.now) }
 {
     let mut found = List::new(alloc);
     for (place, item) in items.iter().enumerate() {
-        let here = at.element(alloc, place)?;
+        let here = at.element(place);
         found.push(read_set(alloc, item, &here)?)?;
     }
     Ok(found)
 }
 
 #[cycle(sets)]
-fn read_sets(alloc: Global, tree: &Tree, at: &Path) -> Result<List<MatcherSet>, LoadFault>
+fn read_sets(alloc: Global, tree: &Tree, at: &Place<'_>) -> Result<List<MatcherSet>, LoadFault>
     ensures { Gives LoadFault.NoMemory result (list_of (matcher_set sets) tree.now at.now) }
 {
     match tree {
@@ -116,7 +134,7 @@ impl Named for Matcher {
         alloc: Global,
         name: &Text,
         tree: &Tree,
-        at: &Path,
+        at: &Place<'_>,
     ) -> Result<Matcher, LoadFault> {
         read_matcher(alloc, name, tree, at)
     }
@@ -126,7 +144,7 @@ impl Settings for Sets {
     ghost reader = { route_sets };
 
     #[tactic(auto, unfolding(crate::specs::Matchers::route_sets))]
-    fn read(alloc: Global, tree: &Tree, at: &Path) -> Result<Sets, LoadFault> {
+    fn read(alloc: Global, tree: &Tree, at: &Place<'_>) -> Result<Sets, LoadFault> {
         let sets = read_sets(alloc, tree, at)?;
         Ok(Sets { sets })
     }

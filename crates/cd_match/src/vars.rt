@@ -7,7 +7,7 @@ use crate::is_listed;
 use cd_fill::{FillFault, Scene, fill, value_of_variable};
 use cd_module::{LoadFault, Named, Settings, object_by_name};
 use cd_text::{List, NoMemory, Text};
-use cd_tree::{Path, Tree};
+use cd_tree::{Place, Tree};
 use std::alloc::Global;
 
 /// What a variable is to be.
@@ -33,7 +33,7 @@ impl Named for VariableTest {
         alloc: Global,
         name: &Text,
         tree: &Tree,
-        at: &Path,
+        at: &Place<'_>,
     ) -> Result<VariableTest, LoadFault> {
         let values = List::<Text>::read(alloc, tree, at)?;
         Ok(VariableTest {
@@ -47,7 +47,7 @@ impl Settings for VarsMatcher {
     ghost reader = { vars_matcher };
 
     #[tactic(auto, unfolding(crate::specs::Vars::vars_matcher))]
-    fn read(alloc: Global, tree: &Tree, at: &Path) -> Result<VarsMatcher, LoadFault> {
+    fn read(alloc: Global, tree: &Tree, at: &Place<'_>) -> Result<VarsMatcher, LoadFault> {
         let tests = object_by_name::<VariableTest>(alloc, tree, at)?;
         Ok(VarsMatcher { tests })
     }

@@ -3,7 +3,7 @@ use Rattle.std.specs.Prelude.{ℕ, List, ◌++◌, codes}
 use Rattle.cd_tree.specs.Path.{written}
 use Rattle.cd_tree.specs.declared.path.Path.{Path}
 use Rattle.cd_module.specs.declared.fault.LoadKind.{LoadKind}
-use Rattle.cd_module.specs.declared.fault.LoadKind.TheVariants.{UnknownModule, UnknownMember, WrongKind, Missing, BadValue, BadAddress, RepeatedAddress, RepeatedId, LimitReached}
+use Rattle.cd_module.specs.declared.fault.LoadKind.TheVariants.{UnknownModule, UnknownMember, WrongKind, Missing, BadValue, BadAddress, RepeatedAddress, RepeatedId, LimitReached, NamedCycle}
 use Rattle.cd_module.specs.declared.fault.Refusal.{Refusal}
 
 -- the fixed words in front
@@ -17,6 +17,7 @@ front BadAddress = codes "bad address at "
 front RepeatedAddress = codes "repeated address "
 front RepeatedId = codes "repeated id "
 front LimitReached = codes "limit reached: "
+front NamedCycle = codes "named route cycle at "
 
 -- what is meant, and where
 abbrev pub about_at : List ℕ → Path → List ℕ
@@ -33,6 +34,7 @@ rest BadAddress r = written r.at
 rest RepeatedAddress r = about_at r.about r.at
 rest RepeatedId r = about_at r.about r.at ++ (codes " and " ++ written r.other)
 rest LimitReached r = r.about
+rest NamedCycle r = written r.at
 
 -- the words of a refusal
 abbrev pub words : Refusal → List ℕ

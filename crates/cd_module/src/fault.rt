@@ -3,7 +3,7 @@ ghost use Rattle.cd_module.specs.Faults.{refused, unknown_module, repeated_addre
 
 use crate::limits::Limit;
 use cd_text::{NoMemory, Text};
-use cd_tree::{FieldFault, Path};
+use cd_tree::{FieldFault, Path, Place};
 use std::alloc::{AllocError, AllocFailed, Global};
 
 /// The kinds of faults of a configuration.
@@ -25,8 +25,10 @@ pub enum LoadKind {
     RepeatedAddress,
     /// Two objects have the same id.
     RepeatedId,
-    /// There are more modules, addresses, servers or error subroutes than may be.
+    /// There are more modules, addresses, servers, error subroutes or expanded routes than may be.
     LimitReached,
+    /// A named route leads to itself.
+    NamedCycle,
 }
 
 /// Why a configuration is refused, and where. A field that its words do not use is empty.
@@ -35,7 +37,7 @@ pub struct Refusal {
     /// What is wrong.
     pub kind: LoadKind,
     /// Where. An unknown member's path ends in that member, a missing one's too; an unknown module's leads to the handler,
-    /// the writer, the app or the matcher.
+    /// the writer, the app or the matcher, and a cycle's to the least name of a route that leads to itself.
     pub at: Path,
     /// Where else: the second place of a repeated id.
     pub other: Path,
@@ -132,7 +134,7 @@ fn unknown_module(
     alloc: Global,
     namespace: &str,
     name: &str,
-    at: &Path,
+    at: &Place<'_>,
 ) -> Result<LoadFault, NoMemory>
     ensures { IfOk result (λ fault. fault ≡ unknown_module (namespace.now ++ name.now) at.now) }
 {
@@ -140,7 +142,7 @@ fn unknown_module(
     about.push_str(name)?;
     Ok(LoadFault::Refused(Refusal {
         kind: LoadKind::UnknownModule,
-        at: at.copy(alloc)?,
+        at: at.to_path(alloc)?,
         other: Path::root(alloc),
         about: Text::from_string(about),
     }))
@@ -159,18 +161,18 @@ impl LoadFault {
         })
     }
 
-    /// The same with a copy of the path; NoMemory where there is none.
-    pub fn at(alloc: Global, kind: LoadKind, at: &Path) -> LoadFault
+    /// The same at a place; NoMemory where there is no memory for its path.
+    pub fn at(alloc: Global, kind: LoadKind, at: &Place<'_>) -> LoadFault
         ensures { result ≢ LoadFault.NoMemory → result ≡ refused kind at.now }
     {
-        match at.copy(alloc) {
+        match at.to_path(alloc) {
             Ok(at) => LoadFault::refused(alloc, kind, at),
             Err(_) => LoadFault::NoMemory,
         }
     }
 
-    /// The fault of a name that no module of the namespace has. The namespace comes with its dot behind it.
-    pub fn unknown_module(alloc: Global, namespace: &str, name: &str, at: &Path) -> LoadFault
+    /// The fault of a name that no module of the namespace has. The namespace ends with its dot.
+    pub fn unknown_module(alloc: Global, namespace: &str, name: &str, at: &Place<'_>) -> LoadFault
         ensures { result ≢ LoadFault.NoMemory → result ≡ unknown_module (namespace.now ++ name.now) at.now }
     {
         or_no_memory(unknown_module(alloc, namespace, name, at))

@@ -4,7 +4,7 @@ ghost use Rattle.cd_module.specs.Ids.{id_of, is_id, dotted};
 ghost use Rattle.cd_module.specs.declared.id.ModuleId.{ModuleId};
 ghost use Rattle.cd_module.specs.Recursion.{Inward, recursive};
 ghost use Rattle.cd_module.specs.Settings.{Reader, list_of, object_of, object_with_nulls};
-ghost use Rattle.cd_module.specs.declared.limits.TheConstants.{MAX_MODULES, MAX_ADDRESSES, MAX_SERVERS, MAX_ERROR_SUBROUTES};
+ghost use Rattle.cd_module.specs.declared.limits.TheConstants.{MAX_MODULES, MAX_ADDRESSES, MAX_SERVERS, MAX_ERROR_SUBROUTES, MAX_EXPANDED_ROUTES};
 
 use crate::id::ModuleId;
 use crate::named::Named;
@@ -54,6 +54,7 @@ pub fn limits_of_configurations()
     ensures addresses { MAX_ADDRESSES ≡ 1024 }
     ensures servers { MAX_SERVERS ≡ 256 }
     ensures error_subroutes { MAX_ERROR_SUBROUTES ≡ 8 }
+    ensures expanded_routes { MAX_EXPANDED_ROUTES ≡ 65536 }
 {}
 
 /// What a text reads as is an id, and the text of an id reads as that id. A text that reads as an id is its text.

@@ -1,8 +1,8 @@
 //! Reading the settings of modules out of a tree: one vocabulary for every reader, and the first fault that is met.
 //!
-//! A reader takes a value of a tree and the path that leads to it, and gives settings or the first fault there. It is written
-//! twice in the same shape: as a definition, by the words of specs/Settings.antt, and as code, by the functions here. A
-//! contract says that the code gives what the definition gives, unless memory runs out.
+//! A reader takes a value of a tree and its place, and gives settings or the first fault there, with the path of that place.
+//! It is written twice in the same shape: as a definition, by the words of specs/Settings.antt, and as code, by the functions
+//! here. A contract says that the code gives what the definition gives, unless memory runs out.
 //!
 //! The order of faults is that of the words: an object's unknown members come before all else, then its members in the order
 //! in which they are read, each wholly; a list goes element by element, an object by name member by member. A null
@@ -36,7 +36,9 @@ pub use laws::{
     ids_are_not_seen, ids_read_back, limits_of_configurations, lists_see_no_ids,
     objects_see_no_ids, recursions_see_no_ids,
 };
-pub use limits::{Limit, MAX_ADDRESSES, MAX_ERROR_SUBROUTES, MAX_MODULES, MAX_SERVERS};
+pub use limits::{
+    Limit, MAX_ADDRESSES, MAX_ERROR_SUBROUTES, MAX_EXPANDED_ROUTES, MAX_MODULES, MAX_SERVERS,
+};
 pub use members::{fields_of, is_a_setting, name_of, needed, optional};
 pub use named::{Named, object_by_name, object_by_name_with_nulls};
 pub use pattern::{Pattern, ends_in_any_case, starts_in_any_case};

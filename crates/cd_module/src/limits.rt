@@ -19,6 +19,10 @@ pub const MAX_SERVERS: usize = 256;
 /// How many subroutes with error routes a server may have.
 pub const MAX_ERROR_SUBROUTES: usize = 8;
 
+/// How much the routes and the error routes of a server may weigh together: one for each route and each handler, those of
+/// subroutes too, and at each `invoke` what its named route weighs.
+pub const MAX_EXPANDED_ROUTES: usize = 65_536;
+
 /// What there may be only so much of.
 #[derive(Clone, Copy, Debug, PartialEq, Eq)]
 pub enum Limit {
@@ -26,6 +30,7 @@ pub enum Limit {
     Addresses,
     Servers,
     ErrorSubroutes,
+    ExpandedRoutes,
 }
 
 impl Limit {
@@ -38,6 +43,7 @@ impl Limit {
             Limit::Addresses => MAX_ADDRESSES,
             Limit::Servers => MAX_SERVERS,
             Limit::ErrorSubroutes => MAX_ERROR_SUBROUTES,
+            Limit::ExpandedRoutes => MAX_EXPANDED_ROUTES,
         }
     }
 
@@ -50,6 +56,7 @@ impl Limit {
             Limit::Addresses => "addresses",
             Limit::Servers => "servers",
             Limit::ErrorSubroutes => "error subroutes",
+            Limit::ExpandedRoutes => "expanded routes",
         }
     }
 

@@ -6,7 +6,7 @@ ghost use Rattle.cd_module.specs.Settings.{members, optional as optional_of, nee
 use crate::fault::{LoadFault, LoadKind};
 use crate::settings::Settings;
 use cd_text::Text;
-use cd_tree::{Fields, Member, Path, Tree};
+use cd_tree::{Fields, Member, Place, Tree};
 use std::alloc::Global;
 
 /// The members of an object that has no others than these, whose names single spaces join, and `@id`.
@@ -14,7 +14,7 @@ use std::alloc::Global;
 pub fn fields_of<'a>(
     alloc: Global,
     tree: &'a Tree,
-    at: &Path,
+    at: &Place<'_>,
     names: &str,
 ) -> Result<Fields<'a>, LoadFault>
     ensures { Gives LoadFault.NoMemory (result_map_both (λ fields. fields.members.now) (λ fault. fault) result)
@@ -31,7 +31,7 @@ pub fn fields_of<'a>(
 pub fn optional<T: Settings>(
     alloc: Global,
     fields: &Fields<'_>,
-    at: &Path,
+    at: &Place<'_>,
     name: &str,
 ) -> Result<Option<T>, LoadFault>
     ensures { Gives LoadFault.NoMemory result (optional_of T.reader name.now fields.now.members.now at.now) }
@@ -39,7 +39,7 @@ pub fn optional<T: Settings>(
     match fields.get(name) {
         None => Ok(None),
         Some(tree) => {
-            let here = at.member(alloc, name)?;
+            let here = at.member(name);
             Ok(Some(T::read(alloc, tree, &here)?))
         }
     }
@@ -50,13 +50,13 @@ pub fn optional<T: Settings>(
 pub fn needed<T: Settings>(
     alloc: Global,
     fields: &Fields<'_>,
-    at: &Path,
+    at: &Place<'_>,
     name: &str,
 ) -> Result<T, LoadFault>
     ensures { Gives LoadFault.NoMemory result (needed_of T.reader name.now fields.now.members.now at.now) }
 {
     match fields.need(alloc, at, name) {
-        Ok(tree) => T::read(alloc, tree, &at.member(alloc, name)?),
+        Ok(tree) => T::read(alloc, tree, &at.member(name)),
         Err(fault) => Err(LoadFault::of_field(alloc, fault)),
     }
 }
@@ -73,7 +73,7 @@ pub fn is_a_setting(member: &Member) -> bool
 
 /// The text of the member that names a module, which is read before anything else of its object.
 #[tactic(auto, unfolding(crate::specs::Settings::name_of))]
-pub fn name_of(alloc: Global, tree: &Tree, at: &Path, member: &str) -> Result<Text, LoadFault>
+pub fn name_of(alloc: Global, tree: &Tree, at: &Place<'_>, member: &str) -> Result<Text, LoadFault>
     ensures { Gives LoadFault.NoMemory result (name_there member.now tree.now at.now) }
 {
     match tree {

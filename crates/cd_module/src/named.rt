@@ -9,20 +9,29 @@ ghost use Rattle.cd_tree.specs.declared.tree.Tree.{Tree};
 use crate::fault::{LoadFault, LoadKind};
 use crate::members::is_a_setting;
 use cd_text::{List, Text};
-use cd_tree::{Member, Path, Tree};
+use cd_tree::{Member, Place, Shared, Tree};
 use std::alloc::Global;
 
 /// Settings that a member of an object by name gives.
 pub trait Named: Sized + Drop {
     ghost named: { List ℕ → Tree → Path → Result Self LoadFault };
 
-    /// The settings of the member of this name, whose value this path leads to, or the first fault there.
-    fn read_named(alloc: Global, name: &Text, tree: &Tree, at: &Path) -> Result<Self, LoadFault>
+    /// The settings of the member of this name, whose value is at this place, or the first fault there.
+    fn read_named(
+        alloc: Global,
+        name: &Text,
+        tree: &Tree,
+        at: &Place<'_>,
+    ) -> Result<Self, LoadFault>
         ensures { Gives LoadFault.NoMemory result (named name.now tree.now at.now) };
 }
 
 /// Reads an object by name, member by member in their order. A null member counts as absent, and `@id` is none.
-pub fn object_by_name<T: Named>(alloc: Global, tree: &Tree, at: &Path) -> Result<List<T>, LoadFault>
+pub fn object_by_name<T: Named>(
+    alloc: Global,
+    tree: &Tree,
+    at: &Place<'_>,
+) -> Result<List<T>, LoadFault>
     ensures { Gives LoadFault.NoMemory result (object_of T.named tree.now at.now) }
 {
     match tree {
@@ -33,8 +42,8 @@ pub fn object_by_name<T: Named>(alloc: Global, tree: &Tree, at: &Path) -> Result
 
 fn read_each_member<T: Named>(
     alloc: Global,
-    members: &List<Member>,
-    at: &Path,
+    members: &Shared<Member>,
+    at: &Place<'_>,
 ) -> Result<List<T>, LoadFault>
     ensures { Gives LoadFault.NoMemory result (each_member is_setting T.named members.now at.now) }
 {
@@ -43,7 +52,7 @@ fn read_each_member<T: Named>(
         if !is_a_setting(member) {
             continue;
         }
-        let here = at.member(alloc, member.key.as_str())?;
+        let here = at.member(member.key.as_str());
         found.push(T::read_named(alloc, &member.key, &member.value, &here)?)?;
     }
     Ok(found)
@@ -53,7 +62,7 @@ fn read_each_member<T: Named>(
 pub fn object_by_name_with_nulls<T: Named>(
     alloc: Global,
     tree: &Tree,
-    at: &Path,
+    at: &Place<'_>,
 ) -> Result<List<T>, LoadFault>
     ensures { Gives LoadFault.NoMemory result (object_with_nulls T.named tree.now at.now) }
 {
@@ -71,8 +80,8 @@ fn is_no_id(member: &Member) -> bool
 
 fn read_each_with_nulls<T: Named>(
     alloc: Global,
-    members: &List<Member>,
-    at: &Path,
+    members: &Shared<Member>,
+    at: &Place<'_>,
 ) -> Result<List<T>, LoadFault>
     ensures { Gives LoadFault.NoMemory result (each_member is_no_id T.named members.now at.now) }
 {
@@ -81,7 +90,7 @@ fn read_each_with_nulls<T: Named>(
         if !is_no_id(member) {
             continue;
         }
-        let here = at.member(alloc, member.key.as_str())?;
+        let here = at.member(member.key.as_str());
         found.push(T::read_named(alloc, &member.key, &member.value, &here)?)?;
     }
     Ok(found)

@@ -7,7 +7,7 @@ ghost use Rattle.cd_module.specs.Patterns.{star_first, star_last, but_last, behi
 use crate::fault::{LoadFault, LoadKind};
 use crate::settings::Settings;
 use cd_text::{NoMemory, Octets};
-use cd_tree::{Path, Tree};
+use cd_tree::{Place, Tree};
 use std::alloc::Global;
 
 /// A text in which a `*` at the start, at the end or at both stands for any bytes, as in Caddy's matchers `path` and `header`.
@@ -180,7 +180,7 @@ impl Settings for Pattern {
     ghost reader = { pattern };
 
     #[tactic(auto, unfolding(crate::specs::Patterns::pattern))]
-    fn read(alloc: Global, tree: &Tree, at: &Path) -> Result<Pattern, LoadFault> {
+    fn read(alloc: Global, tree: &Tree, at: &Place<'_>) -> Result<Pattern, LoadFault> {
         match tree {
             Tree::Text(text) => Ok(Pattern::of(alloc, text.as_str().as_bytes())?),
             _ => Err(LoadFault::at(alloc, LoadKind::WrongKind, at)),

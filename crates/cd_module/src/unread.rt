@@ -3,7 +3,7 @@ ghost use Rattle.cd_module.specs.Settings.{unread_list, unread_object};
 
 use crate::fault::{LoadFault, LoadKind};
 use crate::settings::Settings;
-use cd_tree::{Path, Tree};
+use cd_tree::{Place, Tree};
 use std::alloc::Global;
 
 /// A list, with any elements.
@@ -17,7 +17,7 @@ pub struct UnreadObject;
 impl Settings for UnreadList {
     ghost reader = { unread_list };
 
-    fn read(alloc: Global, tree: &Tree, at: &Path) -> Result<UnreadList, LoadFault> {
+    fn read(alloc: Global, tree: &Tree, at: &Place<'_>) -> Result<UnreadList, LoadFault> {
         match tree {
             Tree::Items(_) => Ok(UnreadList),
             _ => Err(LoadFault::at(alloc, LoadKind::WrongKind, at)),
@@ -28,7 +28,7 @@ impl Settings for UnreadList {
 impl Settings for UnreadObject {
     ghost reader = { unread_object };
 
-    fn read(alloc: Global, tree: &Tree, at: &Path) -> Result<UnreadObject, LoadFault> {
+    fn read(alloc: Global, tree: &Tree, at: &Place<'_>) -> Result<UnreadObject, LoadFault> {
         match tree {
             Tree::Object(_) => Ok(UnreadObject),
             _ => Err(LoadFault::at(alloc, LoadKind::WrongKind, at)),

@@ -20,6 +20,7 @@ fn front(kind: LoadKind) -> &'static str
         LoadKind::RepeatedAddress => "repeated address ",
         LoadKind::RepeatedId => "repeated id ",
         LoadKind::LimitReached => "limit reached: ",
+        LoadKind::NamedCycle => "named route cycle at ",
     }
 }
 
@@ -40,7 +41,7 @@ fn add_about(text: &mut String, alloc: Global, refusal: &Refusal) -> Result<(), 
     add_path(text, alloc, &refusal.at)
 }
 
-// What stands behind the front.
+// What follows the front.
 fn add_rest(text: &mut String, alloc: Global, refusal: &Refusal) -> Result<(), NoMemory>
     ensures { OnOk result (string_bytes text.new ≡ string_bytes text.old ++ rest refusal.now.kind refusal.now) }
 {
@@ -58,6 +59,7 @@ fn add_rest(text: &mut String, alloc: Global, refusal: &Refusal) -> Result<(), N
             add_path(text, alloc, &refusal.other)
         }
         LoadKind::LimitReached => Ok(text.push_str(refusal.about.as_str())?),
+        LoadKind::NamedCycle => add_path(text, alloc, &refusal.at),
     }
 }
 

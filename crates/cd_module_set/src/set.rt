@@ -48,13 +48,14 @@ pub trait ModuleSet: Sized {
     fn target(compiled: &Self::Compiled, at: &Address) -> Target
         ensures { result ≡ (form compiled.now).target at.now };
 
-    /// The answer to a request at an address; none exactly where the address is none of an app.
-    fn answer(
+    /// The answer to a request at an address; none exactly where the address is none of an app. What it lends lives as long as the
+    /// compiled form and the request.
+    fn answer<'a>(
         alloc: Global,
-        compiled: &Self::Compiled,
+        compiled: &'a Self::Compiled,
         at: &Address,
-        request: &Request,
-    ) -> Result<Option<Answer>, NoMemory>
+        request: &'a Request,
+    ) -> Result<Option<Answer<'a>>, NoMemory>
         ensures { IfOk result (λ answer. answer ≡ answer_at (form compiled.now) at.now request.now) };
 
     /// The lines that are logged once a request at an address was answered.
@@ -63,7 +64,7 @@ pub trait ModuleSet: Sized {
         compiled: &Self::Compiled,
         at: &Address,
         request: &Request,
-        answer: &Answer,
+        answer: &Answer<'_>,
     ) -> Result<List<Line>, NoMemory>
         ensures { IfOk result (λ lines. lines ≡ (form compiled.now).lines at.now request.now answer.now) };
 }

@@ -1,5 +1,5 @@
 -- What fixtures in memory record of their calls.
-use Rattle.std.specs.Prelude.{◌≡◌, ℕ, Bool, true, false, List, Option, Some, None}
+use Rattle.std.specs.Prelude.{◌≡◌, Bool, true, false, List, Option, Some, None}
 use Rattle.cd_outside.specs.FixtureCall.{CallsGrow}
 use Rattle.cd_outside.specs.declared.fixtures.FixtureCall.{FixtureCall}
 
@@ -7,11 +7,6 @@ use Rattle.cd_outside.specs.declared.fixtures.FixtureCall.{FixtureCall}
 pub record Recorded : Type 0 where
   pub calls : List FixtureCall
   pub silent : Bool
-
--- the calls so far, and for how many more there is memory
-pub record Roomy : Type 0 where
-  pub calls : List FixtureCall
-  pub spare : ℕ
 
 -- the calls, unless one could not be recorded
 abbrev pub told_calls : Bool → List FixtureCall → Option (List FixtureCall)

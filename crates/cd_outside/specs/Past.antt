@@ -1,5 +1,5 @@
 -- How each call on a lane adds to its past.
-use Rattle.std.specs.Prelude.{◌++◌, ℕ, Bool, true, false, List, [], ◌∷◌, take, Some}
+use Rattle.std.specs.Prelude.{◌++◌, ℕ, Bool, true, false, List, [], ◌∷◌, length, take, Some}
 use Rattle.cd_outside.specs.Counts.{raised}
 use Rattle.cd_outside.specs.declared.taken.Taken.{Taken}
 use Rattle.cd_outside.specs.declared.taken.Taken.TheVariants as taken
@@ -19,7 +19,7 @@ is_connection accepted.Failed = false
 
 -- a connection of which nothing was read or put
 abbrev pub fresh : Address → Connection
-fresh address = record { address = address; taken = []; ended = false; put = []; lines = [] }
+fresh address = record { address = address; taken = []; ended = false; put = []; lines = []; keeps = [] }
 
 -- the list with its last value changed
 abbrev pub with_last : {A : Type 0} → (A → A) → List A → List A
@@ -51,3 +51,8 @@ abbrev pub after_line : Given → Key → List ℕ → Past → Past
 after_line given.All key line past =
     with_connection (λ connection. record connection { lines = connection.lines ++ record { key = key; line = line } ∷ [] }) past
 after_line given.Failed key line past = past
+
+abbrev pub after_keep : Given → ℕ → List ℕ → Past → Past
+after_keep given.All serial text past =
+    with_connection (λ connection. record connection { keeps = connection.keeps ++ record { put = length connection.put; serial = serial; text = text } ∷ [] }) past
+after_keep given.Failed serial text past = past

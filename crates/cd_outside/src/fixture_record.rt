@@ -1,10 +1,10 @@
-ghost use Rattle.std.specs.Prelude.{◌≡◌, ◌<◌, ◌≤◌, ◌+◌, ◌++◌, ◌∷◌, [], true, false, length, OnOk, OnErr, IfOk, IfNone, OnSome, Some, slice_get, remove, MatchOption};
+ghost use Rattle.std.specs.Prelude.{◌≡◌, ◌<◌, ◌≤◌, ◌+◌, ◌++◌, ◌∷◌, [], true, false, length, OnOk, OnErr, IfOk, IfNone, OnSome, Some, slice_get, remove, vec_len, MatchOption};
+ghost use Rattle.std.specs.Vec.{vec_capacity};
 ghost use Rattle.cd_outside.specs.declared.fixtures.FixtureCall.TheVariants as call;
 ghost use Rattle.cd_outside.specs.Keys.{has_key};
 ghost use Rattle.cd_outside.specs.FixtureCall.{open_keys, without_key, was_shut};
 ghost use Rattle.cd_outside.specs.FixtureRecord.{Adds};
 
-use crate::rooms::RoomyCalls;
 use crate::{FixtureCall, Key};
 use cd_text::{List, NoMemory};
 use std::alloc::Global;
@@ -12,12 +12,14 @@ use std::marker::Model;
 
 /// The calls of fixtures, as far as they could be recorded.
 ///
-/// The memory for the closing of each key that is open, and for the first shutting, is taken beforehand. No closing and no
-/// shutting takes any: one for which there is none, as of a key that is not open, is not recorded, nor is any call after it.
+/// The memory for the closing of each key that is open, and for the first shutting, is taken beforehand, as places of one
+/// vector. No closing and no shutting takes any: one for which there is none, as of a key that is not open, is not recorded,
+/// nor is any call after it.
 #[derive(Debug, Drop)]
 pub struct FixtureRecord {
     alloc: Global,
-    calls: RoomyCalls,
+    // with a place for the closing of each key that is open, and for the first shutting
+    calls: Vec<FixtureCall>,
     // a copy of each key that is open, in the order of their openings; it goes into the record of its closing
     held: List<Key>,
     // whether there was a shutting
@@ -27,15 +29,17 @@ pub struct FixtureRecord {
 }
 
 impl Model for FixtureRecord {
-    ghost use Rattle.std.specs.Prelude.{◌≡◌, ◌≤◌, ◌+◌, cond, length};
+    ghost use Rattle.std.specs.Prelude.{◌≡◌, ◌≤◌, ◌+◌, cond, length, vec_len};
+    ghost use Rattle.std.specs.Vec.{vec_capacity};
     ghost use Rattle.cd_outside.specs.FixtureCall.{open_keys, was_shut};
     ghost use Rattle.cd_outside.specs.FixtureRecord.{Recorded};
 
     ghost Value = { Recorded };
 
-    ghost view = { λ it. record { calls = it.calls.calls; silent = it.silent } };
+    ghost view = { λ it. record { calls = it.calls.items; silent = it.silent } };
 
-    ghost invariant = { λ it. (it.held ≡ open_keys it.calls.calls) × ((it.is_shut ≡ was_shut it.calls.calls) × (length it.held + cond it.is_shut 0 1 ≤ it.calls.spare)) };
+    ghost invariant = { λ it. (it.held ≡ open_keys it.calls.items) × ((it.is_shut ≡ was_shut it.calls.items)
+        × (vec_len it.calls + (length it.held + cond it.is_shut 0 1) ≤ vec_capacity it.calls)) };
 }
 
 impl FixtureRecord {
@@ -43,11 +47,9 @@ impl FixtureRecord {
     pub fn new(alloc: Global) -> Result<FixtureRecord, NoMemory>
         ensures { IfOk result (λ made. made ≡ record { calls = []; silent = false }) }
     {
-        let mut calls = RoomyCalls::new(alloc);
-        calls.reserve(1, 0)?;
         Ok(FixtureRecord {
             alloc,
-            calls,
+            calls: Vec::with_capacity(alloc, 1)?,
             held: List::new(alloc),
             is_shut: false,
             silent: false,
@@ -55,10 +57,10 @@ impl FixtureRecord {
     }
 
     /// The calls so far, as long as they could be recorded.
-    pub fn calls(&self) -> &List<FixtureCall>
-        ensures { result.now ≡ self.now.calls }
+    pub fn calls(&self) -> &Vec<FixtureCall>
+        ensures { result.now.items ≡ self.now.calls }
     {
-        self.calls.list()
+        &self.calls
     }
 
     /// Records an opening. `NoMemory` says that it could not, and that nothing is told any more.
@@ -78,7 +80,7 @@ impl FixtureRecord {
             self.silent = true;
             return Err(NoMemory);
         };
-        self.calls.push(FixtureCall::Opened(opened));
+        self.calls.push_reserved(FixtureCall::Opened(opened));
         Ok(())
     }
 
@@ -93,11 +95,11 @@ impl FixtureRecord {
             self.silent = true;
             return;
         };
-        let Ok(()) = self.calls.reserve(self.held.len(), 2) else {
+        let Ok(()) = self.calls.reserve(self.held.as_slice().len() + 2) else {
             self.silent = true;
             return;
         };
-        self.calls.push(FixtureCall::NotOpened(refused));
+        self.calls.push_reserved(FixtureCall::NotOpened(refused));
     }
 
     /// Records a closing, without taking memory.
@@ -109,7 +111,7 @@ impl FixtureRecord {
             return;
         }
         match take_key(&mut self.held, key) {
-            Some(kept) => self.calls.push(FixtureCall::Closed(kept)),
+            Some(kept) => self.calls.push_reserved(FixtureCall::Closed(kept)),
             None => self.silent = true,
         }
     }
@@ -127,7 +129,7 @@ impl FixtureRecord {
             return;
         }
         self.is_shut = true;
-        self.calls.push(FixtureCall::Shut);
+        self.calls.push_reserved(FixtureCall::Shut);
     }
 }
 
@@ -139,14 +141,16 @@ fn two_copies(alloc: Global, key: &Key) -> Result<(Key, Key), NoMemory>
     Ok((one, two))
 }
 
-// Adds the key to those that are open, and takes memory for the calls that are to come then.
-fn hold(calls: &mut RoomyCalls, held: &mut List<Key>, key: Key) -> Result<(), NoMemory>
-    ensures calls { calls.new.calls ≡ calls.old.calls }
-    ensures grows { calls.old.spare ≤ calls.new.spare }
-    ensures ok { OnOk result ((held.new ≡ held.old ++ key ∷ []) × (length held.old + 3 ≤ calls.new.spare)) }
+// Adds the key to those that are open, and takes memory for the calls that are to come then: its opening, a closing of each
+// open key, and a shutting.
+fn hold(calls: &mut Vec<FixtureCall>, held: &mut List<Key>, key: Key) -> Result<(), NoMemory>
+    ensures calls { calls.new.items ≡ calls.old.items }
+    ensures len { vec_len calls.new ≡ vec_len calls.old }
+    ensures grows { vec_capacity calls.old ≤ vec_capacity calls.new }
+    ensures ok { OnOk result ((held.new ≡ held.old ++ key ∷ []) × (vec_len calls.new + (length held.old + 3) ≤ vec_capacity calls.new)) }
     ensures err { OnErr result (held.new ≡ held.old) }
 {
-    calls.reserve(held.len(), 3)?;
+    calls.reserve(held.as_slice().len() + 3)?;
     held.push(key)?;
     Ok(())
 }

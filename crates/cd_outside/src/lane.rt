@@ -1,4 +1,4 @@
-ghost use Rattle.std.specs.Prelude.{◌≡◌, ◌<◌, ◌++◌, List, ℕ, Bool, true, false, length, Option, option_map};
+ghost use Rattle.std.specs.Prelude.{◌≡◌, ◌<◌, ◌≤◌, ◌++◌, List, ℕ, Bool, true, false, length, Option, option_map};
 ghost use Rattle.cd_outside.specs.declared.taken.Taken.TheVariants as taken;
 ghost use Rattle.cd_outside.specs.declared.given.Given.TheVariants as given;
 ghost use Rattle.cd_outside.specs.declared.accepted.Accepted.TheVariants as accepted;
@@ -6,10 +6,12 @@ ghost use Rattle.cd_outside.specs.declared.past.Past.{Past as Told};
 ghost use Rattle.cd_outside.specs.Counts.{Rises};
 ghost use Rattle.cd_outside.specs.Taken.{IsTakenWithin};
 ghost use Rattle.cd_outside.specs.Given.{IsGivenOf};
-ghost use Rattle.cd_outside.specs.Past.{after_accept, after_read, after_put, after_line, is_connection};
+ghost use Rattle.cd_outside.specs.Past.{after_accept, after_read, after_put, after_line, after_keep, is_connection};
 
+use crate::limits::MAX_KEPT_BYTES;
 use crate::{Accepted, Given, Key, Taken};
 use cd_text::Text;
+use std::sync::Wait;
 
 /// Where connections come from, one after another. At most one is there at a time.
 pub trait Lane {
@@ -60,6 +62,15 @@ pub trait Lane {
         requires { busy self.old ≡ true }
         ensures busy { busy self.new ≡ true }
         ensures past { past self.new ≡ option_map (after_line result key.now line.now) (past self.old) }
+        ensures cause { Rises (faults self.old) (faults self.new) (result ≡ given.Failed) };
+
+    /// Keeps the configuration of this serial, by its compact text, so that it outlasts the program. At `Failed` it may have
+    /// been kept or not. It may wait for another lane that keeps one.
+    fn keep<R: Wait>(&mut self, rt: &R, serial: u32, text: &[u8]) -> Given
+        requires busy { busy self.old ≡ true }
+        requires short { length text.now ≤ MAX_KEPT_BYTES }
+        ensures busy { busy self.new ≡ true }
+        ensures past { past self.new ≡ option_map (after_keep result serial text.now) (past self.old) }
         ensures cause { Rises (faults self.old) (faults self.new) (result ≡ given.Failed) };
 
     /// Ends the connection. It cannot fail.

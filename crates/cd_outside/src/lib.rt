@@ -1,12 +1,12 @@
 //! What stands outside the server, and the server's only ways to it.
 //!
 //! A `Source` gives bytes, a `Sink` takes them, `Fixtures` open and close what a configuration holds (a listening address, a
-//! log writer), and a `Lane` gives connections one after another. Each trait counts its faults; a call answers `Failed` only
-//! where that count rose in it. Each tells what it gave, holds or has seen, where it can: a form in memory does, a socket
-//! does not, and then nothing is claimed of the bytes.
+//! log writer), and a `Lane` gives connections one after another, takes log lines, and keeps configurations. Each trait counts
+//! its faults; a call answers `Failed` only where that count rose in it. Each tells what it gave, holds or has seen, where it
+//! can: a form in memory does, a socket does not, and then nothing is claimed of the bytes.
 //!
 //! The forms in memory play a script and fail at the calls that they are told to fail at, so that whole runs can be tested.
-//! Beside these they fail for want of memory alone, which counts as a fault too. The real forms stand in the program crate.
+//! Otherwise they fail only where memory runs out, which counts as a fault too. The real forms are in the crates above.
 #![tactic(auto)]
 
 mod accepted;
@@ -19,6 +19,7 @@ mod given;
 mod holder;
 mod key;
 mod lane;
+mod limits;
 mod memory_fixtures;
 mod memory_lane;
 mod memory_sink;
@@ -26,7 +27,6 @@ mod memory_source;
 mod past;
 mod pieces;
 mod recording;
-mod rooms;
 mod sink;
 mod source;
 mod taken;
@@ -41,11 +41,12 @@ pub use given::Given;
 pub use holder::{Holder, Pair};
 pub use key::Key;
 pub use lane::Lane;
+pub use limits::{MAX_KEPT_BYTES, limits_in_numbers};
 pub use memory_fixtures::MemoryFixtures;
 pub use memory_lane::MemoryLane;
 pub use memory_sink::MemorySink;
 pub use memory_source::MemorySource;
-pub use past::{Connection, Logged, Past};
+pub use past::{Connection, KeepRecord, Logged, Past};
 pub use pieces::Pieces;
 pub use sink::Sink;
 pub use source::Source;

@@ -37,8 +37,8 @@ impl MemoryFixtures {
     }
 
     /// The calls so far. Once nothing is told any more, those before the one that could not be recorded.
-    pub fn calls(&self) -> &List<FixtureCall>
-        ensures { result.now ≡ self.now.recorded.calls }
+    pub fn calls(&self) -> &Vec<FixtureCall>
+        ensures { result.now.items ≡ self.now.recorded.calls }
     {
         self.recorded.calls()
     }
@@ -61,7 +61,7 @@ impl Fixtures for MemoryFixtures {
         ensures tells { result ≡ opened.Ready → is_some (told self.old.recorded) ≡ true → is_some (told self.new.recorded) ≡ true }
         ensures cause { Rises self.old.faults.count self.new.faults.count (result ≡ opened.Failed) }
 
-        // where its number is none that fails, it fails for want of memory alone, and nothing is told from that call on
+        // where its number is none that fails, it fails only where memory runs out, and nothing is told from that call on
         ensures fails { IsDue self.old.faults → result ≡ opened.Failed }
         ensures only { result ≡ opened.Failed → IsDue self.old.faults ⊎ ((self.old.recorded.silent ≡ false) × (self.new.recorded.silent ≡ true)) }
         ensures stays { self.new.recorded.silent ≡ true → self.new.recorded.calls ≡ self.old.recorded.calls }

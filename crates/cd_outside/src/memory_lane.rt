@@ -2,17 +2,18 @@ ghost use Rattle.std.specs.Prelude.{◌≡◌, ◌<◌, ◌++◌, true, false, [
 ghost use Rattle.cd_outside.specs.declared.taken.Taken.TheVariants as taken;
 ghost use Rattle.cd_outside.specs.declared.given.Given.TheVariants as given;
 ghost use Rattle.cd_outside.specs.declared.accepted.Accepted.TheVariants as accepted;
-ghost use Rattle.cd_outside.specs.Counts.{Rises};
+ghost use Rattle.cd_outside.specs.Counts.{Rises, raised};
 ghost use Rattle.cd_outside.specs.Taken.{IsTakenWithin};
 ghost use Rattle.cd_outside.specs.Given.{IsGivenOf};
-ghost use Rattle.cd_outside.specs.Past.{after_accept, after_read, after_put, after_line, is_connection};
+ghost use Rattle.cd_outside.specs.Past.{after_accept, after_read, after_put, after_line, after_keep, is_connection};
 ghost use Rattle.cd_outside.specs.Faults.{IsDue, Counted};
 ghost use Rattle.cd_outside.specs.Script.{Plays, Draws};
 
-use crate::recording::{add_line, add_put, add_taken, begin, mark_ended, refuse};
+use crate::recording::{add_keep, add_line, add_put, add_taken, begin, mark_ended, refuse};
 use crate::{Accepted, Call, Faults, Given, Key, Lane, Past, Pieces, Taken};
 use cd_text::{List, Text};
 use std::alloc::Global;
+use std::sync::Wait;
 
 /// A lane in memory, which plays a script: its connections in order, and of each its pieces in order, where empty ones are
 /// passed over. A script that is used up answers `Ended`.
@@ -25,7 +26,8 @@ pub struct MemoryLane {
     pub script: List<Call>,
     /// What is left to be read from the connection that is there.
     pub current: Option<Pieces>,
-    /// Which calls fail. `accept`, `read`, `write` and `log` are counted together, in the order in which they are made.
+    /// Which calls fail. `accept`, `read`, `write` and `log` are counted together, in the order in which they are made; `keep`
+    /// has no number, so it fails only where memory runs out.
     pub faults: Faults,
     /// What has happened so far.
     pub past: Past,
@@ -81,7 +83,7 @@ impl Lane for MemoryLane {
         ensures past { Some self.new.past ≡ option_map (after_accept result) (Some self.old.past) }
         ensures cause { Rises self.old.faults.count self.new.faults.count (result ≡ accepted.Failed) }
 
-        // where its number is none that fails, it fails for want of memory alone
+        // where its number is none that fails, it fails only where memory runs out
         ensures fails { IsDue self.old.faults → result ≡ accepted.Failed }
         ensures plays { Plays result self.old.script self.new.script self.new.current }
         ensures ended { self.old.script ≡ [] → result ≡ accepted.Failed → IsDue self.old.faults }
@@ -116,7 +118,7 @@ impl Lane for MemoryLane {
         ensures cause { Rises self.old.faults.count self.new.faults.count (result ≡ taken.Failed) }
 
         // it gives what is left of the piece at hand, as far as there is room; where its number is none that fails, it fails
-        // for want of memory alone, and takes nothing either
+        // only where memory runs out; then it takes nothing either
         ensures fails { IsDue self.old.faults → result ≡ taken.Failed }
         ensures kept { result ≡ taken.Failed → self.new.current ≡ self.old.current }
         ensures draws { Draws result into.new self.old.current self.new.current }
@@ -151,7 +153,7 @@ impl Lane for MemoryLane {
         ensures past { (part : Values ℕ) × IsGivenOf result part piece.now × (Some self.new.past ≡ option_map (after_put part) (Some self.old.past)) }
         ensures cause { Rises self.old.faults.count self.new.faults.count (result ≡ given.Failed) }
 
-        // where its number is none that fails, it fails for want of memory alone
+        // where its number is none that fails, it fails only where memory runs out
         ensures fails { IsDue self.old.faults → result ≡ given.Failed }
         ensures nothing { result ≡ given.Failed → self.new.past ≡ self.old.past }
         ensures current { self.new.current ≡ self.old.current }
@@ -175,7 +177,7 @@ impl Lane for MemoryLane {
         ensures past { Some self.new.past ≡ option_map (after_line result key.now line.now) (Some self.old.past) }
         ensures cause { Rises self.old.faults.count self.new.faults.count (result ≡ given.Failed) }
 
-        // where its number is none that fails, it fails for want of memory alone
+        // where its number is none that fails, it fails only where memory runs out
         ensures fails { IsDue self.old.faults → result ≡ given.Failed }
         ensures current { self.new.current ≡ self.old.current }
         ensures script { self.new.script ≡ self.old.script }
@@ -186,6 +188,25 @@ impl Lane for MemoryLane {
             return Given::Failed;
         }
         if add_line(self.alloc, &mut self.past, key, line).is_err() {
+            self.faults.rise();
+            return Given::Failed;
+        }
+        Given::All
+    }
+
+    fn keep<R: Wait>(&mut self, rt: &R, serial: u32, text: &[u8]) -> Given
+        requires { is_some self.old.current ≡ true }
+        ensures busy { is_some self.new.current ≡ true }
+        ensures past { Some self.new.past ≡ option_map (after_keep result serial text.now) (Some self.old.past) }
+        ensures cause { Rises self.old.faults.count self.new.faults.count (result ≡ given.Failed) }
+
+        // it has no number, and fails only where memory runs out
+        ensures current { self.new.current ≡ self.old.current }
+        ensures script { self.new.script ≡ self.old.script }
+        ensures all { result ≡ given.All → self.new.faults ≡ self.old.faults }
+        ensures failed { result ≡ given.Failed → self.new.faults ≡ record self.old.faults { count = raised self.old.faults.count } }
+    {
+        if add_keep(self.alloc, &mut self.past, serial, text).is_err() {
             self.faults.rise();
             return Given::Failed;
         }

@@ -53,7 +53,7 @@ impl Sink for MemorySink {
         ensures bytes { (part : Values ℕ) × IsGivenOf result part piece.now × (Some self.new.bytes ≡ option_map (λ held. held ++ part) (Some self.old.bytes)) }
         ensures cause { Rises self.old.faults.count self.new.faults.count (result ≡ Failed) }
 
-        // where its number is none that fails, it fails for want of memory alone
+        // where its number is none that fails, it fails only where memory runs out
         ensures fails { IsDue self.old.faults → result ≡ Failed }
         ensures nothing { result ≡ Failed → self.new.bytes ≡ self.old.bytes }
         ensures counted { Counted (result ≡ Failed) self.old.faults self.new.faults }

@@ -8,6 +8,17 @@ pub struct Logged {
     pub line: Text,
 }
 
+/// A configuration that a lane kept.
+#[derive(Debug, Drop, PartialEq, Eq)]
+pub struct KeepRecord {
+    /// How many bytes had been put on the connection when it was kept.
+    pub put: u64,
+    /// Its number among the configurations of the run.
+    pub serial: u32,
+    /// Its compact text.
+    pub text: Octets,
+}
+
 /// What a lane tells of one connection.
 #[derive(Debug, Drop)]
 pub struct Connection {
@@ -21,6 +32,8 @@ pub struct Connection {
     pub put: Octets,
     /// The lines that were logged while it was there.
     pub lines: List<Logged>,
+    /// The configurations that were kept while it was there.
+    pub keeps: List<KeepRecord>,
 }
 
 /// What a lane tells of its past. The last connection is the one that is there, where one is.

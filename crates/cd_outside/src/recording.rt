@@ -1,9 +1,9 @@
 ghost use Rattle.std.specs.Prelude.{◌≡◌, ◌<◌, ◌++◌, ◌∷◌, [], true, length, OnOk, OnErr, IfOk};
 ghost use Rattle.cd_outside.specs.declared.accepted.Accepted.TheVariants.{Connection as Accepts, Failed};
 ghost use Rattle.cd_outside.specs.declared.given.Given.TheVariants.{All};
-ghost use Rattle.cd_outside.specs.Past.{fresh, with_connection, after_accept, after_put, after_line};
+ghost use Rattle.cd_outside.specs.Past.{fresh, with_connection, after_accept, after_put, after_line, after_keep};
 
-use crate::{Accepted, Address, Connection, Key, Logged, Past};
+use crate::{Accepted, Address, Connection, KeepRecord, Key, Logged, Past};
 use cd_text::{List, NoMemory, Octets, Text};
 use std::alloc::Global;
 use std::mem;
@@ -29,6 +29,7 @@ fn unread(alloc: Global, address: Address) -> Connection
         ended: false,
         put: Octets::new(alloc),
         lines: List::new(alloc),
+        keeps: List::new(alloc),
     }
 }
 
@@ -104,6 +105,23 @@ pub fn add_line(alloc: Global, past: &mut Past, key: &Key, line: &Text) -> Resul
     let last = connections.len() - 1;
     let connection = &mut connections[last];
     let added = connection.lines.push(logged);
+    past.connections = List::from_vec(connections);
+    added
+}
+
+// Records a configuration that was kept while the last connection was there. An `Err` changes nothing.
+pub fn add_keep(alloc: Global, past: &mut Past, serial: u32, text: &[u8]) -> Result<(), NoMemory>
+    requires { 0 < length past.old.connections }
+    ensures len { length past.new.connections ≡ length past.old.connections }
+    ensures ok { OnOk result (past.new ≡ after_keep All serial text.now past.old) }
+    ensures err { OnErr result (past.new ≡ past.old) }
+{
+    let text = Octets::from_slice(alloc, text)?;
+    let mut connections = mem::replace(&mut past.connections, List::new(alloc)).into_vec();
+    let last = connections.len() - 1;
+    let connection = &mut connections[last];
+    let put = connection.put.len() as u64;
+    let added = connection.keeps.push(KeepRecord { put, serial, text });
     past.connections = List::from_vec(connections);
     added
 }

@@ -16,10 +16,11 @@ use crate::position::place_of;
 use crate::too_deep::puts_too_deep;
 use crate::verb::Verb;
 use cd_text::{List, Text};
-use cd_tree::{MAX_DEPTH, MAX_TEXT_BYTES, Path, Tree, copy, nesting, print_ordered};
+use cd_tree::{MAX_DEPTH, MAX_TEXT_BYTES, Path, Shared, Tree, nesting, print_ordered};
 use std::alloc::Global;
 
-/// The tree that the verb makes of this one at a path. The old tree stays, and the new one shares nothing with it.
+/// The tree that the verb makes of this one at a path. The old tree stays, and the new one shares with it what the edit leaves
+/// as it is.
 ///
 /// At a key, POST appends to a list and sets anything else, PUT makes what is absent, PATCH replaces and DELETE removes what
 /// is present (Caddy documentation, "API", `/config/[path]`). At a position of a list, PUT inserts before it. At the empty
@@ -84,7 +85,7 @@ fn change_within(
         (change_of verb body.now parts.now tree.now ▷ within_limits) }
     ensures sound { IfOk result IsSound }
 {
-    if verb == Verb::Put && puts_too_deep(alloc, tree, parts) {
+    if verb == Verb::Put && puts_too_deep(alloc, tree, parts)? {
         return Err(EditFault::ResultTooDeep);
     }
     let made = change_ordered(alloc, verb, body, parts, tree)?;
@@ -125,15 +126,20 @@ fn change(
     };
     match tree {
         Tree::Object(members) => {
-            let (null, empty) = (Tree::Null, Tree::Object(List::new(alloc)));
+            let (null, empty) = (
+                Tree::Null,
+                Tree::Object(Shared::new(alloc, List::new(alloc))?),
+            );
             let old = enter(verb, member_of(members, part), &null, &empty);
             let made = change(alloc, verb, body, rest, old)?;
-            Ok(Tree::Object(set_member(alloc, members, part, Some(made))?))
+            let made = set_member(alloc, members, part, Some(made))?;
+            Ok(Tree::Object(Shared::new(alloc, made)?))
         }
         Tree::Items(items) => {
             let at = place_of(items.len(), part.as_str())?;
             let made = change(alloc, verb, body, rest, &items.as_slice()[at])?;
-            Ok(Tree::Items(with_replaced(alloc, items, at, made)?))
+            let made = with_replaced(alloc, items, at, made)?;
+            Ok(Tree::Items(Shared::new(alloc, made)?))
         }
         _ => Err(EditFault::NotTraversable),
     }

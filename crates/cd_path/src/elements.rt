@@ -1,13 +1,13 @@
 ghost use Rattle.std.specs.Prelude.{◌≡◌, ◌≤◌, ◌<◌, ◌++◌, ◌∷◌, [], length, insert, remove, slice_set, IfOk, OnOk};
 
 use cd_text::{List, NoMemory};
-use cd_tree::{Tree, copy};
+use cd_tree::{Shared, Tree, copy};
 use std::alloc::Global;
 
 /// Copies of the elements, with another one before that at `at`, or at the end.
 pub(crate) fn with_inserted(
     alloc: Global,
-    items: &List<Tree>,
+    items: &Shared<Tree>,
     at: usize,
     new: Tree,
 ) -> Result<List<Tree>, NoMemory>
@@ -25,7 +25,7 @@ pub(crate) fn with_inserted(
 /// Copies of the elements, with another one in the place of that at `at`.
 pub(crate) fn with_replaced(
     alloc: Global,
-    items: &List<Tree>,
+    items: &Shared<Tree>,
     at: usize,
     new: Tree,
 ) -> Result<List<Tree>, NoMemory>
@@ -43,7 +43,7 @@ pub(crate) fn with_replaced(
 /// Copies of the elements but that at `at`.
 pub(crate) fn with_removed(
     alloc: Global,
-    items: &List<Tree>,
+    items: &Shared<Tree>,
     at: usize,
 ) -> Result<List<Tree>, NoMemory>
     requires { at < length items.now }
@@ -59,8 +59,8 @@ pub(crate) fn with_removed(
 /// Copies of the elements, and then of others.
 pub(crate) fn joined(
     alloc: Global,
-    items: &List<Tree>,
-    more: &List<Tree>,
+    items: &Shared<Tree>,
+    more: &Shared<Tree>,
 ) -> Result<List<Tree>, NoMemory>
     ensures { IfOk result (λ made. made ≡ items.now ++ more.now) }
 {
@@ -73,7 +73,7 @@ pub(crate) fn joined(
 /// Copies of the elements, and then another one.
 pub(crate) fn with_appended(
     alloc: Global,
-    items: &List<Tree>,
+    items: &Shared<Tree>,
     new: Tree,
 ) -> Result<List<Tree>, NoMemory>
     ensures { IfOk result (λ made. made ≡ items.now ++ new ∷ []) }

@@ -11,7 +11,7 @@ use crate::members::set_member;
 use crate::position::place_of;
 use crate::verb::Verb;
 use cd_text::{List, NoMemory, Text};
-use cd_tree::{Tree, copy};
+use cd_tree::{Shared, Tree, copy};
 use std::alloc::Global;
 
 /// The tree that a last part names something in, edited there.
@@ -28,11 +28,13 @@ pub(crate) fn edit_last(
     match tree {
         Tree::Object(members) => {
             let value = edit_key(alloc, verb, body, member_of(members, part))?;
-            Ok(Tree::Object(set_member(alloc, members, part, value)?))
+            let made = set_member(alloc, members, part, value)?;
+            Ok(Tree::Object(Shared::new(alloc, made)?))
         }
         Tree::Items(items) => {
             let at = place_of(room(verb, items), part.as_str())?;
-            Ok(Tree::Items(edit_position(alloc, verb, body, items, at)?))
+            let made = edit_position(alloc, verb, body, items, at)?;
+            Ok(Tree::Items(Shared::new(alloc, made)?))
         }
         _ => Err(EditFault::NotTraversable),
     }
@@ -67,7 +69,7 @@ pub(crate) fn post_all(alloc: Global, body: &Tree, tree: &Tree) -> Result<Tree, 
     let Tree::Items(more) = body else {
         return Err(EditFault::BodyNotList);
     };
-    Ok(Tree::Items(joined(alloc, items, more)?))
+    Ok(Tree::Items(Shared::new(alloc, joined(alloc, items, more)?)?))
 }
 
 /// What a key has afterwards, from what it has.
@@ -95,13 +97,16 @@ fn post(alloc: Global, body: &Tree, old: &Tree) -> Result<Tree, NoMemory>
 {
     let body = copy(alloc, body)?;
     match old {
-        Tree::Items(items) => Ok(Tree::Items(with_appended(alloc, items, body)?)),
+        Tree::Items(items) => {
+            let made = with_appended(alloc, items, body)?;
+            Ok(Tree::Items(Shared::new(alloc, made)?))
+        },
         _ => Ok(body),
     }
 }
 
 /// How many positions the verb may name in a list: PUT also names its end.
-fn room(verb: Verb, items: &List<Tree>) -> usize
+fn room(verb: Verb, items: &Shared<Tree>) -> usize
     ensures { result ≡ bound verb items.now }
 {
     match verb {
@@ -115,7 +120,7 @@ fn edit_position(
     alloc: Global,
     verb: Verb,
     body: &Tree,
-    items: &List<Tree>,
+    items: &Shared<Tree>,
     at: usize,
 ) -> Result<List<Tree>, EditFault>
     requires { at < bound verb items.now }

@@ -3,7 +3,7 @@
 //! `look` lends the value at a path, takes no memory, and is exactly the definition of specs/Looking.antt; what it lends of a
 //! sound tree is sound. `edit` gives the tree that POST, PUT, PATCH or DELETE at a path makes: exactly the one of
 //! specs/Editing.antt, or the first refusal in the order there. The result is sound, the old tree stays, and `look` finds in
-//! the result what it found before at each path that is not the place, above it, below it, or at or below an element behind
+//! the result what it found before at each path that is not the place, above it, below it, or at or below an element after
 //! it in its list (specs/Apart.antt).
 //!
 //! The functions of `laws` do nothing: their contracts are laws of the definitions, as that two PUTs at different absent

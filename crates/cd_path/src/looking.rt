@@ -6,8 +6,8 @@ ghost use Rattle.cd_path.specs.Looking.{look as look_of, child, member_at, ends_
 
 use crate::fault::EditFault;
 use crate::position::place_of;
-use cd_text::{List, Text};
-use cd_tree::{Member, Path, Tree};
+use cd_text::Text;
+use cd_tree::{Member, Path, Shared, Tree};
 
 /// The value at the path, or `None` for an absent key of an object. It takes no memory, and never answers NoMemory.
 ///
@@ -65,7 +65,7 @@ fn child_of<'a>(tree: &'a Tree, part: &Text) -> Result<Option<&'a Tree>, EditFau
 }
 
 /// The value of a key, or `None` where it is absent.
-pub(crate) fn member_of<'a>(members: &'a List<Member>, key: &Text) -> Option<&'a Tree>
+pub(crate) fn member_of<'a>(members: &'a Shared<Member>, key: &Text) -> Option<&'a Tree>
     ensures { option_copied result ≡ member_at key.now members.now }
 {
     for member in members.as_slice() {

@@ -2,14 +2,14 @@ ghost use Rattle.std.specs.Prelude.{◌≡◌, ◌++◌, filter, IfOk, OnOk};
 ghost use Rattle.cd_path.specs.Members.{is_before, is_after, with_member};
 
 use cd_text::{List, NoMemory, Text};
-use cd_tree::{Member, Tree, copy};
+use cd_tree::{Member, Shared, Tree, copy_member};
 use std::alloc::Global;
 use std::cmp::Ordering;
 
 /// Copies of the members, with this value at the key, or none there.
 pub(crate) fn set_member(
     alloc: Global,
-    members: &List<Member>,
+    members: &Shared<Member>,
     key: &Text,
     value: Option<Tree>,
 ) -> Result<List<Member>, NoMemory>
@@ -56,12 +56,4 @@ fn append_after(
         }
     }
     Ok(())
-}
-
-fn copy_member(alloc: Global, member: &Member) -> Result<Member, NoMemory>
-    ensures { IfOk result (λ made. made ≡ member.now) }
-{
-    let key = member.key.copy(alloc)?;
-    let value = copy(alloc, &member.value)?;
-    Ok(Member { key, value })
 }

@@ -1,4 +1,4 @@
-ghost use Rattle.std.specs.Prelude.{◌≡◌, [], drop, false, IsTrue, IfSome};
+ghost use Rattle.std.specs.Prelude.{◌≡◌, [], drop, false, IsTrue, IfOk, IfSome};
 ghost use Rattle.std.specs.Option.{option_copied};
 ghost use Rattle.cd_tree.specs.declared.tree.Tree.{Object, out-Tree};
 ghost use Rattle.cd_tree.specs.declared.tree.Tree.TheOpen.{Tree-F};
@@ -9,22 +9,22 @@ ghost use Rattle.cd_path.specs.declared.verb.Verb.TheVariants.{Put};
 
 use crate::looking::{has_last_ellipsis, member_of};
 use crate::position::place_of;
-use cd_text::{List, Text};
-use cd_tree::{MAX_DEPTH, Member, Tree};
+use cd_text::{List, NoMemory, Text};
+use cd_tree::{MAX_DEPTH, Member, Shared, Tree};
 use std::alloc::Global;
 
 /// Whether a PUT at these parts makes more levels than a sound tree may have, as parts that the tree lacks are too many.
 ///
 /// It follows the parts in a loop. An edit that it lets pass goes down through the levels of its tree, and then through at
-/// most `MAX_DEPTH` more, so that no stack grows with the path.
-pub(crate) fn puts_too_deep(alloc: Global, tree: &Tree, parts: &[Text]) -> bool
-    ensures { IsTrue result → PutsTooDeep parts.now tree.now }
+/// most `MAX_DEPTH` more, so that no stack grows with the path. It takes memory for an empty object alone.
+pub(crate) fn puts_too_deep(alloc: Global, tree: &Tree, parts: &[Text]) -> Result<bool, NoMemory>
+    ensures { IfOk result (λ answer. IsTrue answer → PutsTooDeep parts.now tree.now) }
 {
-    let empty = Tree::Object(List::new(alloc));
     if has_last_ellipsis(parts) {
-        return false;
+        return Ok(false);
     }
-    follow(tree, parts, &empty)
+    let empty = Tree::Object(Shared::new(alloc, List::new(alloc))?);
+    Ok(follow(tree, parts, &empty))
 }
 
 fn follow(tree: &Tree, parts: &[Text], empty: &Tree) -> bool
@@ -79,7 +79,7 @@ fn way_into<'a>(tree: &'a Tree, part: &Text, empty: &'a Tree) -> Option<&'a Tree
     }
 }
 
-fn member_or<'a>(members: &'a List<Member>, part: &Text, empty: &'a Tree) -> &'a Tree
+fn member_or<'a>(members: &'a Shared<Member>, part: &Text, empty: &'a Tree) -> &'a Tree
     requires { empty.now ≡ Object [] }
     ensures { result.now ≡ entered Put (member_at part.now members.now) }
 {

@@ -15,12 +15,12 @@ one_more true k m = omega arith
 one_more false k m = refl
 
 -- how often a number is used in two lists of leases, one behind the other
-uses-append : (n : ℕ) (hs gs : List Leased) → uses n (hs ++ gs) ≡ uses n hs + uses n gs
+pub uses-append : (n : ℕ) (hs gs : List Leased) → uses n (hs ++ gs) ≡ uses n hs + uses n gs
 uses-append n [] gs = omega arith
 uses-append n (h ∷ hs) gs = rw (uses-append n hs gs) (one_more (h.number == n) (uses n hs) (uses n gs))
 
 -- how often a number stands in two lists, one behind the other
-times-append : (n : ℕ) (ms ks : List ℕ) → times n (ms ++ ks) ≡ times n ms + times n ks
+pub times-append : (n : ℕ) (ms ks : List ℕ) → times n (ms ++ ks) ≡ times n ms + times n ks
 times-append n [] ks = omega arith
 times-append n (m ∷ ms) ks = rw (times-append n ms ks) (one_more (m == n) (times n ms) (times n ks))
 
@@ -36,18 +36,19 @@ take_numbers held held' h free rest p q added popped same numbers n =
     rw (added, uses-append n held (h ∷ []), same) (moved (h.number == n) (uses n held) (times n rest) _ before)
 
 -- one more on both sides
-step : (b : Bool) (k j m : ℕ) → j + m ≡ k → cond b (1 + j) j + m ≡ cond b (1 + k) k
+pub step : (b : Bool) (k j m : ℕ) → j + m ≡ k → cond b (1 + j) j + m ≡ cond b (1 + k) k
 step true k j m e = omega arith
 step false k j m e = e
+
+-- one use more, where the number is this one
+pub once_more : (b : Bool) (k : ℕ) → k + cond b (1 + 0) 0 ≡ cond b (1 + k) k
+once_more true k = omega arith
+once_more false k = omega arith
 
 -- the first lease, for the lemma below
 used_once : (m n : ℕ) (h : Leased) (hs : List Leased) (b : Bool) → (h.number == m) ≡ b → (IsSome (pair_at m hs) → uses n (without m hs) + times n (m ∷ []) ≡ uses n hs) → IsSome (cond b (Some h.pair) (pair_at m hs))
     → uses n (cond b hs (h ∷ without m hs)) + times n (m ∷ []) ≡ cond (h.number == n) (1 + uses n hs) (uses n hs)
-used_once m n h hs true e rec some = rw (eqb-true h.number m e) (last (m == n) (uses n hs))
-  where
-    last : (b : Bool) (k : ℕ) → k + cond b (1 + 0) 0 ≡ cond b (1 + k) k
-    last true k = omega arith
-    last false k = omega arith
+used_once m n h hs true e rec some = rw (eqb-true h.number m e) (once_more (m == n) (uses n hs))
 used_once m n h hs false e rec some = step (h.number == n) (uses n hs) (uses n (without m hs)) (times n (m ∷ [])) (rec some)
 
 -- a number is used as often without a lease, and once more where the lease has it

@@ -9,9 +9,9 @@ ghost use Rattle.cd_rewrite.specs.Steps.{same_query, moved, method_changed, quer
 use crate::rewriting::{QueryChange, Replacement, Rewriting, Target};
 use crate::substrings::substituted;
 use crate::uri_text::uri_text;
-use cd_fill::{FillFault, Lent, RequestLine, rest_from, with_slash, with_slash_before};
+use cd_fill::{FillFault, Lent, RequestLine, with_slash, with_slash_before};
 use cd_module::{ends_in_any_case, starts_in_any_case};
-use cd_text::{List, NoMemory, Octets, Text};
+use cd_text::{List, NoMemory, Octets, Text, rest_from};
 use std::alloc::Global;
 
 fn same_query(query: &Option<Lent<'_, u8>>, other: &Option<Octets>) -> bool

@@ -8,7 +8,7 @@ use cd_addr::{AddrFault, AddressRange, read_range};
 use cd_module::{LoadFault, LoadKind, Settings};
 use cd_outside::Address;
 use cd_text::{List, Text};
-use cd_tree::{Path, Tree};
+use cd_tree::{Path, Place, Tree};
 use std::alloc::Global;
 
 /// The addresses that a text of `listen` names.
@@ -44,12 +44,12 @@ impl Settings for ListenText {
     ghost reader = { listen_text };
 
     #[tactic(auto, unfolding(crate::specs::Server::listen_text))]
-    fn read(alloc: Global, tree: &Tree, at: &Path) -> Result<ListenText, LoadFault> {
+    fn read(alloc: Global, tree: &Tree, at: &Place<'_>) -> Result<ListenText, LoadFault> {
         let text = Text::read(alloc, tree, at)?;
         match read_range(alloc, &text) {
             Ok(range) => Ok(ListenText {
                 range,
-                at: at.copy(alloc)?,
+                at: at.to_path(alloc)?,
             }),
             Err(AddrFault::NoMemory) => Err(LoadFault::NoMemory),
             Err(AddrFault::BadNetwork | AddrFault::BadPort | AddrFault::BadRange) => {
@@ -63,7 +63,7 @@ impl Settings for Listen {
     ghost reader = { listen };
 
     #[tactic(auto, unfolding(crate::specs::Server::listen))]
-    fn read(alloc: Global, tree: &Tree, at: &Path) -> Result<Listen, LoadFault> {
+    fn read(alloc: Global, tree: &Tree, at: &Place<'_>) -> Result<Listen, LoadFault> {
         let texts = List::<ListenText>::read(alloc, tree, at)?;
         if texts.is_empty() {
             return Err(LoadFault::at(alloc, LoadKind::Missing, at));

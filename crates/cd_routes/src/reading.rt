@@ -9,19 +9,19 @@ use cd_handlers::Handler;
 use cd_match::Sets;
 use cd_module::{LoadFault, LoadKind, Settings, fields_of, name_of, optional};
 use cd_text::{List, Text};
-use cd_tree::{Fields, Path, Tree};
+use cd_tree::{Fields, Place, Shared, Tree};
 use std::alloc::Global;
 
 /// A list of routes.
 #[cycle(routes)]
-fn read_routes(alloc: Global, tree: &Tree, at: &Path) -> Result<List<Route>, LoadFault>
+fn read_routes(alloc: Global, tree: &Tree, at: &Place<'_>) -> Result<List<Route>, LoadFault>
     ensures { Gives LoadFault.NoMemory result (routes tree.now at.now) }
 {
     read_route_list(alloc, tree, at)
 }
 
 #[cycle(routes)]
-fn read_route_list(alloc: Global, tree: &Tree, at: &Path) -> Result<List<Route>, LoadFault>
+fn read_route_list(alloc: Global, tree: &Tree, at: &Place<'_>) -> Result<List<Route>, LoadFault>
     ensures { Gives LoadFault.NoMemory result (list_of (route routes) tree.now at.now) }
 {
     match tree {
@@ -31,12 +31,16 @@ fn read_route_list(alloc: Global, tree: &Tree, at: &Path) -> Result<List<Route>,
 }
 
 #[cycle(routes)]
-fn read_each_route(alloc: Global, items: &List<Tree>, at: &Path) -> Result<List<Route>, LoadFault>
+fn read_each_route(
+    alloc: Global,
+    items: &Shared<Tree>,
+    at: &Place<'_>,
+) -> Result<List<Route>, LoadFault>
     ensures { Gives LoadFault.NoMemory result (each (route routes) 0 items.now at.now) }
 {
     let mut found = List::new(alloc);
     for (place, item) in items.as_slice().iter().enumerate() {
-        let here = at.element(alloc, place)?;
+        let here = at.element(place);
         found.push(read_route(alloc, item, &here)?)?;
     }
     Ok(found)
@@ -44,7 +48,7 @@ fn read_each_route(alloc: Global, items: &List<Tree>, at: &Path) -> Result<List<
 
 #[cycle(routes)]
 #[tactic(auto, unfolding(crate::specs::Reading::route))]
-fn read_route(alloc: Global, tree: &Tree, at: &Path) -> Result<Route, LoadFault>
+fn read_route(alloc: Global, tree: &Tree, at: &Place<'_>) -> Result<Route, LoadFault>
     ensures { Gives LoadFault.NoMemory result (route routes tree.now at.now) }
 {
     let fields = fields_of(alloc, tree, at, "group match handle terminal")?;
@@ -74,19 +78,19 @@ fn no_sets(alloc: Global) -> Sets
 fn read_steps_member(
     alloc: Global,
     fields: &Fields<'_>,
-    at: &Path,
+    at: &Place<'_>,
     name: &str,
 ) -> Result<Option<List<Step>>, LoadFault>
     ensures { Gives LoadFault.NoMemory result (optional_of (list_of (step routes)) name.now fields.now.members.now at.now) }
 {
     match fields.get(name) {
         None => Ok(None),
-        Some(tree) => Ok(Some(read_step_list(alloc, tree, &at.member(alloc, name)?)?)),
+        Some(tree) => Ok(Some(read_step_list(alloc, tree, &at.member(name))?)),
     }
 }
 
 #[cycle(routes)]
-fn read_step_list(alloc: Global, tree: &Tree, at: &Path) -> Result<List<Step>, LoadFault>
+fn read_step_list(alloc: Global, tree: &Tree, at: &Place<'_>) -> Result<List<Step>, LoadFault>
     ensures { Gives LoadFault.NoMemory result (list_of (step routes) tree.now at.now) }
 {
     match tree {
@@ -96,12 +100,16 @@ fn read_step_list(alloc: Global, tree: &Tree, at: &Path) -> Result<List<Step>, L
 }
 
 #[cycle(routes)]
-fn read_each_step(alloc: Global, items: &List<Tree>, at: &Path) -> Result<List<Step>, LoadFault>
+fn read_each_step(
+    alloc: Global,
+    items: &Shared<Tree>,
+    at: &Place<'_>,
+) -> Result<List<Step>, LoadFault>
     ensures { Gives LoadFault.NoMemory result (each (step routes) 0 items.now at.now) }
 {
     let mut found = List::new(alloc);
     for (place, item) in items.as_slice().iter().enumerate() {
-        let here = at.element(alloc, place)?;
+        let here = at.element(place);
         found.push(read_step(alloc, item, &here)?)?;
     }
     Ok(found)
@@ -109,7 +117,7 @@ fn read_each_step(alloc: Global, items: &List<Tree>, at: &Path) -> Result<List<S
 
 #[cycle(routes)]
 #[tactic(auto, unfolding(crate::specs::Reading::step))]
-fn read_step(alloc: Global, tree: &Tree, at: &Path) -> Result<Step, LoadFault>
+fn read_step(alloc: Global, tree: &Tree, at: &Place<'_>) -> Result<Step, LoadFault>
     ensures { Gives LoadFault.NoMemory result (step routes tree.now at.now) }
 {
     let name = name_of(alloc, tree, at, "handler")?;
@@ -122,7 +130,7 @@ fn read_step(alloc: Global, tree: &Tree, at: &Path) -> Result<Step, LoadFault>
 
 #[cycle(routes)]
 #[tactic(auto, unfolding(crate::specs::Reading::subroute))]
-fn read_subroute(alloc: Global, tree: &Tree, at: &Path) -> Result<Subroute, LoadFault>
+fn read_subroute(alloc: Global, tree: &Tree, at: &Place<'_>) -> Result<Subroute, LoadFault>
     ensures { Gives LoadFault.NoMemory result (subroute routes tree.now at.now) }
 {
     let fields = fields_of(alloc, tree, at, "handler routes errors")?;
@@ -140,14 +148,14 @@ fn read_subroute(alloc: Global, tree: &Tree, at: &Path) -> Result<Subroute, Load
 pub fn read_routes_member(
     alloc: Global,
     fields: &Fields<'_>,
-    at: &Path,
+    at: &Place<'_>,
     name: &str,
 ) -> Result<Option<List<Route>>, LoadFault>
     ensures { Gives LoadFault.NoMemory result (optional_of routes name.now fields.now.members.now at.now) }
 {
     match fields.get(name) {
         None => Ok(None),
-        Some(tree) => Ok(Some(read_routes(alloc, tree, &at.member(alloc, name)?)?)),
+        Some(tree) => Ok(Some(read_routes(alloc, tree, &at.member(name))?)),
     }
 }
 
@@ -157,20 +165,20 @@ pub fn read_routes_member(
 pub fn read_errors_member(
     alloc: Global,
     fields: &Fields<'_>,
-    at: &Path,
+    at: &Place<'_>,
     name: &str,
 ) -> Result<Option<List<Route>>, LoadFault>
     ensures { Gives LoadFault.NoMemory result (optional_of (error_routes routes) name.now fields.now.members.now at.now) }
 {
     match fields.get(name) {
         None => Ok(None),
-        Some(tree) => Ok(Some(read_errors(alloc, tree, &at.member(alloc, name)?)?)),
+        Some(tree) => Ok(Some(read_errors(alloc, tree, &at.member(name))?)),
     }
 }
 
 #[cycle(routes)]
 #[tactic(auto, unfolding(crate::specs::Reading::error_routes))]
-fn read_errors(alloc: Global, tree: &Tree, at: &Path) -> Result<List<Route>, LoadFault>
+fn read_errors(alloc: Global, tree: &Tree, at: &Place<'_>) -> Result<List<Route>, LoadFault>
     ensures { Gives LoadFault.NoMemory result (error_routes routes tree.now at.now) }
 {
     let fields = fields_of(alloc, tree, at, "routes")?;
@@ -181,7 +189,7 @@ fn read_errors(alloc: Global, tree: &Tree, at: &Path) -> Result<List<Route>, Loa
 impl Settings for Route {
     ghost reader = { route routes };
 
-    fn read(alloc: Global, tree: &Tree, at: &Path) -> Result<Route, LoadFault> {
+    fn read(alloc: Global, tree: &Tree, at: &Place<'_>) -> Result<Route, LoadFault> {
         read_route(alloc, tree, at)
     }
 }
@@ -189,7 +197,7 @@ impl Settings for Route {
 impl Settings for Step {
     ghost reader = { step routes };
 
-    fn read(alloc: Global, tree: &Tree, at: &Path) -> Result<Step, LoadFault> {
+    fn read(alloc: Global, tree: &Tree, at: &Place<'_>) -> Result<Step, LoadFault> {
         read_step(alloc, tree, at)
     }
 }
@@ -197,7 +205,7 @@ impl Settings for Step {
 impl Settings for Subroute {
     ghost reader = { subroute routes };
 
-    fn read(alloc: Global, tree: &Tree, at: &Path) -> Result<Subroute, LoadFault> {
+    fn read(alloc: Global, tree: &Tree, at: &Place<'_>) -> Result<Subroute, LoadFault> {
         read_subroute(alloc, tree, at)
     }
 }

@@ -13,14 +13,15 @@ use cd_fill::{Failure, Scene, let_go, response_of};
 use cd_handlers::{Deed, Effect, FilledChanges, Handler, changed, deed, usual_status};
 use cd_match::is_listed;
 use cd_text::{List, NoMemory, Octets, Text};
+use cd_wire::Answer;
 use std::alloc::Global;
 
 #[tactic(auto, unfolding(crate::specs::Running::nothing_left))]
-fn nothing_left<'r>(alloc: Global, scene: Scene<'r>) -> Outcome<'r>
+fn nothing_left<'r>(scene: Scene<'r>) -> Outcome<'r>
     ensures { result ≡ nothing_left scene.entry }
 {
     let status = usual_status(&scene.error);
-    Outcome::Answered(bare_answer(alloc, status, response_of(scene)))
+    Outcome::Answered(bare_answer(status, response_of(scene)))
 }
 
 fn is_taken(group: &Option<Text>, scene: &Scene<'_>) -> bool
@@ -75,9 +76,19 @@ fn with_changes<'r>(
 {
     match outcome {
         Outcome::Answered(answer) => {
-            let mut answer = answer;
-            answer.fields = changed(alloc, changes, answer.fields)?;
-            Ok(Outcome::Answered(answer))
+            let Answer {
+                status,
+                fields,
+                body,
+                close,
+            } = answer;
+            let fields = changed(alloc, changes, fields)?;
+            Ok(Outcome::Answered(Answer {
+                status,
+                fields,
+                body,
+                close,
+            }))
         }
         Outcome::Failed(scene, status, message) => Ok(Outcome::Failed(scene, status, message)),
     }
@@ -111,11 +122,11 @@ fn enters(alloc: Global, route: &Route, scene: &Scene<'_>) -> Result<bool, NoMem
 }
 
 // The routes from the first one on that is taken. What stands before it is passed over, and the scene stays where it is.
-fn from_first_taken<'a>(
+fn from_first_taken<'r>(
     alloc: Global,
-    routes: &'a [Route],
+    routes: &'r [Route],
     scene: &Scene<'_>,
-) -> Result<&'a [Route], NoMemory>
+) -> Result<&'r [Route], NoMemory>
     ensures same { IfOk result (λ left. (rest : Rest) → run_routes left.now rest scene.now ≡ run_routes routes.now rest scene.now) }
     ensures less { IfOk result (λ left. total (map route_weight left.now) ≤ total (map route_weight routes.now)) }
     ensures first { IfOk result (λ left. (r : RouteSettings) (others : List RouteSettings) → left.now ≡ r ∷ others
@@ -133,12 +144,12 @@ fn from_first_taken<'a>(
 
 // The steps of a route, and what follows them.
 #[tactic(auto, using(crate::proofs::Equations::done_push, crate::proofs::Equations::weight_push, crate::proofs::Equations::route_weight_is))]
-fn entered<'a, 'r>(
+fn entered<'r>(
     alloc: Global,
-    route: &'a Route,
-    rest: Vec<Work<'a>>,
+    route: &'r Route,
+    rest: Vec<Work<'r>>,
     scene: Scene<'r>,
-) -> Result<Progress<'a, 'r>, NoMemory>
+) -> Result<Progress<'r, 'r>, NoMemory>
     ensures meaning { IfOk result (λ progress. told progress
         ≡ run_steps (out-Route route.now).handle
         (if (out-Route route.now).terminal then nothing_left else done rest.entry.items)
@@ -154,12 +165,12 @@ fn entered<'a, 'r>(
 }
 
 // Routes, and what follows them.
-fn on_routes<'a, 'r>(
+fn on_routes<'r>(
     alloc: Global,
-    routes: &'a [Route],
-    rest: Vec<Work<'a>>,
+    routes: &'r [Route],
+    rest: Vec<Work<'r>>,
     scene: Scene<'r>,
-) -> Result<Progress<'a, 'r>, NoMemory>
+) -> Result<Progress<'r, 'r>, NoMemory>
     ensures meaning { IfOk result (λ progress. told progress ≡ run_routes routes.now (done rest.entry.items) scene.entry) }
     ensures less { IfOk result (λ progress. weight_left progress ≤ weight rest.entry.items + total (map route_weight routes.now)) }
 {
@@ -180,7 +191,7 @@ fn on_routes<'a, 'r>(
 
 // What follows a handler that has done this.
 #[tactic(auto, unfolding(crate::specs::Running::with_changes))]
-fn after<'a, 'r>(deed: Deed<'a, 'r>, rest: Vec<Work<'a>>) -> Progress<'a, 'r>
+fn after<'r>(deed: Deed<'r, 'r>, rest: Vec<Work<'r>>) -> Progress<'r, 'r>
     ensures meaning { told result ≡ after deed.entry.changes (done rest.entry.items) deed.entry.effect }
     ensures less { weight_left result ≤ weight rest.entry.items + 2 }
 {
@@ -199,12 +210,12 @@ fn after<'a, 'r>(deed: Deed<'a, 'r>, rest: Vec<Work<'a>>) -> Progress<'a, 'r>
 
 // A handler, and what follows it.
 #[tactic(auto, using(crate::proofs::Pushes::after_same))]
-fn handle<'a, 'r>(
+fn handle<'r>(
     alloc: Global,
-    handler: &'a Handler,
-    rest: Vec<Work<'a>>,
+    handler: &'r Handler,
+    rest: Vec<Work<'r>>,
     scene: Scene<'r>,
-) -> Result<Progress<'a, 'r>, NoMemory>
+) -> Result<Progress<'r, 'r>, NoMemory>
     ensures meaning { IfOk result (λ progress. told progress ≡ handled handler.now (done rest.entry.items) scene.entry) }
     ensures less { IfOk result (λ progress. weight_left progress ≤ weight rest.entry.items + 2) }
 {
@@ -215,12 +226,12 @@ fn handle<'a, 'r>(
 // Steps, and what follows them.
 #[cycle(run)]
 #[tactic(auto, unfolding(crate::specs::Running::in_order))]
-fn on_steps<'a, 'r>(
+fn on_steps<'r>(
     alloc: Global,
-    steps: &'a [Step],
-    rest: Vec<Work<'a>>,
+    steps: &'r [Step],
+    rest: Vec<Work<'r>>,
     scene: Scene<'r>,
-) -> Result<Progress<'a, 'r>, NoMemory>
+) -> Result<Progress<'r, 'r>, NoMemory>
     ensures meaning { IfOk result (λ progress. told progress ≡ run_steps steps.now (done rest.entry.items) scene.entry) }
     ensures less { IfOk result (λ progress. weight_left progress ≤ weight rest.entry.items + total (map step_weight steps.now)) }
 {
@@ -238,12 +249,12 @@ fn on_steps<'a, 'r>(
 
 // A step, and what follows it.
 #[cycle(run)]
-fn begin<'a, 'r>(
+fn begin<'r>(
     alloc: Global,
-    step: &'a Step,
-    rest: Vec<Work<'a>>,
+    step: &'r Step,
+    rest: Vec<Work<'r>>,
     scene: Scene<'r>,
-) -> Result<Progress<'a, 'r>, NoMemory>
+) -> Result<Progress<'r, 'r>, NoMemory>
     ensures meaning { IfOk result (λ progress. told progress ≡ run_step step.now (done rest.entry.items) scene.entry) }
     ensures less { IfOk result (λ progress. weight_left progress ≤ weight rest.entry.items + step_weight step.now) }
 {
@@ -254,11 +265,11 @@ fn begin<'a, 'r>(
 }
 
 // The same work with routes in front of it.
-fn in_front<'a>(
+fn in_front<'r>(
     alloc: Global,
-    routes: &'a [Route],
-    rest: &Vec<Work<'a>>,
-) -> Result<Vec<Work<'a>>, NoMemory>
+    routes: &'r [Route],
+    rest: &Vec<Work<'r>>,
+) -> Result<Vec<Work<'r>>, NoMemory>
     ensures { IfOk result (λ made. made.items ≡ rest.now.items ++ Routes routes.entry ∷ []) }
 {
     let mut tried = Vec::from_slice(alloc, rest.as_slice())?;
@@ -268,12 +279,12 @@ fn in_front<'a>(
 
 // A subroute, and what follows it.
 #[cycle(run)]
-fn nest<'a, 'r>(
+fn nest<'r>(
     alloc: Global,
-    subroute: &'a Subroute,
-    rest: Vec<Work<'a>>,
+    subroute: &'r Subroute,
+    rest: Vec<Work<'r>>,
     scene: Scene<'r>,
-) -> Result<Progress<'a, 'r>, NoMemory>
+) -> Result<Progress<'r, 'r>, NoMemory>
     ensures meaning { IfOk result (λ progress. told progress
         ≡ caught (option_map (map run_route) (out-Subroute subroute.now).errors) (done rest.entry.items)
         (run_routes (out-Subroute subroute.now).routes (done rest.entry.items) scene.entry)) }
@@ -307,17 +318,17 @@ fn nest<'a, 'r>(
 
 // Does the item that comes first.
 #[cycle(run)]
-fn advance<'a, 'r>(
+fn advance<'r>(
     alloc: Global,
-    work: Vec<Work<'a>>,
+    work: Vec<Work<'r>>,
     scene: Scene<'r>,
-) -> Result<Progress<'a, 'r>, NoMemory>
+) -> Result<Progress<'r, 'r>, NoMemory>
     ensures meaning { IfOk result (λ progress. told progress ≡ done work.entry.items scene.entry) }
     ensures less { IfOk result (λ progress. weight_left progress ≤ weight work.entry.items) }
 {
     let mut work = work;
     match take_next(&mut work) {
-        None => Ok(Progress::Ends(nothing_left(alloc, scene))),
+        None => Ok(Progress::Ends(nothing_left(scene))),
         Some(Work::Routes(routes)) => on_routes(alloc, routes, work, scene),
         Some(Work::Steps(steps)) => on_steps(alloc, steps, work, scene),
     }
@@ -325,9 +336,9 @@ fn advance<'a, 'r>(
 
 // Does all that is to be done. It calls itself at a subroute with errors alone.
 #[cycle(run)]
-fn run<'a, 'r>(
+fn run<'r>(
     alloc: Global,
-    work: Vec<Work<'a>>,
+    work: Vec<Work<'r>>,
     scene: Scene<'r>,
 ) -> Result<Outcome<'r>, NoMemory>
     ensures { IfOk result (λ outcome. outcome ≡ done work.entry.items scene.entry) }
@@ -352,7 +363,7 @@ fn run<'a, 'r>(
 #[tactic(auto, using(crate::proofs::Pushes::done_one))]
 pub fn run_routes<'r>(
     alloc: Global,
-    routes: &[Route],
+    routes: &'r [Route],
     scene: Scene<'r>,
 ) -> Result<Outcome<'r>, NoMemory>
     ensures { IfOk result (λ outcome. outcome ≡ run_routes routes.now nothing_left scene.entry) }

@@ -9,7 +9,7 @@ use cd_module::{
     LoadFault, Named, NumberOrText, UnreadList, UnreadObject, fields_of, needed, optional,
 };
 use cd_text::{List, Text};
-use cd_tree::{Fields, Path, Tree};
+use cd_tree::{Fields, Place, Tree};
 use std::alloc::Global;
 
 /// The settings of a server (Caddy, JSON Config Structure, `http.servers`).
@@ -25,7 +25,7 @@ pub struct Server {
 
 // Times and sizes, which have no effect so far.
 #[tactic(auto, unfolding(crate::specs::Server::timeouts))]
-fn read_timeouts(alloc: Global, fields: &Fields<'_>, at: &Path) -> Result<(), LoadFault>
+fn read_timeouts(alloc: Global, fields: &Fields<'_>, at: &Place<'_>) -> Result<(), LoadFault>
     ensures { Gives LoadFault.NoMemory result (timeouts fields.now.members.now at.now) }
 {
     let _ = optional::<NumberOrText>(alloc, fields, at, "read_timeout")?;
@@ -39,7 +39,7 @@ fn read_timeouts(alloc: Global, fields: &Fields<'_>, at: &Path) -> Result<(), Lo
 
 // What concerns TLS and the versions of HTTP, which has no effect so far.
 #[tactic(auto, unfolding(crate::specs::Server::protocols))]
-fn read_protocols(alloc: Global, fields: &Fields<'_>, at: &Path) -> Result<(), LoadFault>
+fn read_protocols(alloc: Global, fields: &Fields<'_>, at: &Place<'_>) -> Result<(), LoadFault>
     ensures { Gives LoadFault.NoMemory result (protocols fields.now.members.now at.now) }
 {
     let _ = optional::<UnreadObject>(alloc, fields, at, "automatic_https")?;
@@ -52,7 +52,12 @@ impl Named for Server {
     ghost named = { server };
 
     #[tactic(auto, unfolding(crate::specs::Server::server))]
-    fn read_named(alloc: Global, name: &Text, tree: &Tree, at: &Path) -> Result<Server, LoadFault> {
+    fn read_named(
+        alloc: Global,
+        name: &Text,
+        tree: &Tree,
+        at: &Place<'_>,
+    ) -> Result<Server, LoadFault> {
         let fields = fields_of(
             alloc,
             tree,

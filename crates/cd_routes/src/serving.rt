@@ -26,13 +26,13 @@ fn restored<'r>(scene: Scene<'r>) -> Scene<'r>
 }
 
 // What error routes answer. The first error's fields are kept for the case that they fail too.
-fn error_answer(
+fn error_answer<'r>(
     alloc: Global,
-    errors: &[Route],
-    scene: Scene<'_>,
+    errors: &'r [Route],
+    scene: Scene<'r>,
     status: u16,
     message: Octets,
-) -> Result<Answer, NoMemory>
+) -> Result<Answer<'r>, NoMemory>
     ensures { IfOk result (λ answer. answer
         ≡ error_answer scene.entry status (run_routes errors.now nothing_left (with_error status message (restored scene.entry)))) }
 {
@@ -44,27 +44,35 @@ fn error_answer(
         Outcome::Answered(answer) => Ok(answer),
         Outcome::Failed(again, _, _) => {
             let_go(again);
-            Ok(bare_answer(alloc, status, fields))
+            Ok(bare_answer(status, fields))
         }
     }
 }
 
 /// What the server answers to a request that has come to this scene.
 #[tactic(auto, unfolding(crate::specs::Serving::answer_from))]
-pub fn answer_from(alloc: Global, server: &Server, scene: Scene<'_>) -> Result<Answer, NoMemory>
+pub fn answer_from<'r>(
+    alloc: Global,
+    server: &'r Server,
+    scene: Scene<'r>,
+) -> Result<Answer<'r>, NoMemory>
     ensures { IfOk result (λ answer. answer ≡ answer_from server.now scene.entry) }
 {
     match run_routes(alloc, server.routes.as_slice(), scene)? {
         Outcome::Answered(answer) => Ok(answer),
         Outcome::Failed(scene, status, message) => match &server.errors {
-            None => Ok(bare_answer(alloc, status, response_of(scene))),
+            None => Ok(bare_answer(status, response_of(scene))),
             Some(errors) => error_answer(alloc, errors.as_slice(), scene, status, message),
         },
     }
 }
 
 /// What the server answers to a request: every request has an answer, and there is no other error than want of memory.
-pub fn server_answer(alloc: Global, server: &Server, request: &Request) -> Result<Answer, NoMemory>
+pub fn server_answer<'r>(
+    alloc: Global,
+    server: &'r Server,
+    request: &'r Request,
+) -> Result<Answer<'r>, NoMemory>
     ensures { IfOk result (λ answer. answer ≡ server_answer server.now request.now) }
 {
     let scene = Scene::new(alloc, request)?;

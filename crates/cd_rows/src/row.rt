@@ -5,7 +5,7 @@ ghost use Rattle.cd_tree.specs.Tree.{IsSound};
 
 use cd_path::look;
 use cd_text::{List, NoMemory, Octets, Text, decimal, parts_of};
-use cd_tree::{Fields, Num, Path, Tree, read};
+use cd_tree::{Fields, Num, Path, Place, Tree, read};
 use std::alloc::{AllocError, AllocFailed, Global};
 
 /// Why a row says nothing.
@@ -85,7 +85,7 @@ pub fn needed<'a>(alloc: Global, row: &'a Tree, name: &str) -> Result<&'a Tree, 
 
 /// Refuses a row with members of other names than these, which single spaces join.
 pub fn only(alloc: Global, row: &Tree, names: &str) -> Result<(), RowFault> {
-    match Fields::over(alloc, row, &Path::root(alloc), names) {
+    match Fields::over(alloc, row, &Place::top(), names) {
         Ok(_) => Ok(()),
         Err(_) => Err(RowFault::Malformed("a member that this kind has not")),
     }

@@ -3,6 +3,7 @@ ghost use Rattle.std.specs.Prelude.{◌≡◌, None, false, is_some};
 use crate::meeting::Meeting;
 use cd_outside::{Accepted, Given, Key, Lane, MemoryLane, Taken};
 use cd_text::Text;
+use std::sync::Wait;
 
 /// A lane in memory that counts how often it may rest. Where the row says so, it waits for other lanes before its first read.
 #[derive(Drop)]
@@ -99,6 +100,10 @@ impl Lane for RestingLane {
 
     fn log(&mut self, key: &Key, line: &Text) -> Given {
         self.lane.log(key, line)
+    }
+
+    fn keep<R: Wait>(&mut self, rt: &R, serial: u32, text: &[u8]) -> Given {
+        self.lane.keep(rt, serial, text)
     }
 
     fn end(&mut self) {

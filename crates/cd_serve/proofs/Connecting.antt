@@ -112,6 +112,7 @@ connection-ends m k at seen longer replies own left ended answered again fixed w
     own = ap (λ (o : List Placed). o ++ joined again) s.own_is;
     put = refl;
     lines = refl;
+    keeps = refl;
     ends = ends before front;
     answered = refl;
   };

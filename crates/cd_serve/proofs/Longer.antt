@@ -48,6 +48,7 @@ serves-longer m k history more before c e s = record {
   own = s.own;
   put = s.put;
   lines = s.lines;
+  keeps = s.keeps;
   ends = ends-longer m k history more (before ++ e.own) c.address c.ended s.replies s.rest s.again s.fixed e.way s.ends;
   answered = s.answered;
 }

@@ -94,7 +94,7 @@ pub record Ending : Type 0 where
   pub answered : ℕ
 
 -- Pass k served the connection, after these entries, so: its bytes are the requests that it replied to, and then a rest; its
--- entries are those of their episodes; what was sent and logged for them is what was sent and logged.
+-- entries are those of their episodes; what was sent and logged for them is what was sent and logged, and no configuration was kept.
 pub record Serves (m : Meaning) (k : ℕ) (history : List Signed) (before : List Placed) (c : Connection) (e : Ending) : Type 0 where
   pub replies : List Reply
   pub rest : List ℕ
@@ -105,6 +105,7 @@ pub record Serves (m : Meaning) (k : ℕ) (history : List Signed) (before : List
   pub own : e.own ≡ owns replies ++ joined again
   pub put : c.put ≡ puts replies ++ fixed
   pub lines : c.lines ≡ logs replies
+  pub keeps : c.keeps ≡ []
   pub ends : EndsBy m k history (before ++ e.own) c.address c.ended replies rest again fixed e.way
   pub answered : e.answered ≡ answered_of replies
 

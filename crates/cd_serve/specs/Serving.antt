@@ -1,6 +1,6 @@
 -- What is done by the calls that serve: for one request, for one connection, and for the connections of a lane so far. Each is
 -- said of the entries that the pass has made in the call, where they stand in what it has then seen.
-use Rattle.std.specs.Prelude.{◌≡◌, ◌++◌, ◌||◌, ◌≤◌, ℕ, Bool, true, false, min, List, Option, option_map}
+use Rattle.std.specs.Prelude.{◌≡◌, ◌++◌, ◌||◌, ◌≤◌, ℕ, Bool, true, false, min, List, [], Option, option_map}
 use mathlib.Core.List.{IsPrefix}
 use Rattle.cd_text.specs.Steps.{joined}
 use Rattle.cd_outside.specs.declared.address.Address.{Address}
@@ -70,7 +70,7 @@ pub record ConnectionServed (m : Meaning) (k : ℕ) (at : Address) (seen_before 
   pub own_is : ending.own ≡ own
   pub past : new ≡ option_map (with_connection (after_all taken ended put lines)) old
   pub serves : (before : List Placed) → IsPrefix (through k before) seen_before
-      → Serves m k seen_now before (record { address = at; taken = taken; ended = ended; put = put; lines = lines }) ending
+      → Serves m k seen_now before (record { address = at; taken = taken; ended = ended; put = put; lines = lines; keeps = [] }) ending
   pub early_is : is_early ending.way ≡ early
   pub answers : answered ≡ min ending.answered count_end
 

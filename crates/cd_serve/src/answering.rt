@@ -57,7 +57,7 @@ impl ChangeFault {
     }
 
     /// The answer to the request that asked for the change: its words as JSON, as the admin API refuses.
-    pub fn answer(&self, alloc: Global) -> Result<Answer, NoMemory>
+    pub fn answer(&self, alloc: Global) -> Result<Answer<'static>, NoMemory>
         ensures { IfOk result (λ answer. answer ≡ fault_answer self.now) }
     {
         let words = self.words(alloc)?;
@@ -66,7 +66,7 @@ impl ChangeFault {
 }
 
 /// The answer to the request that halts: nothing more comes on its connection. It takes no memory.
-pub fn halted_answer(alloc: Global) -> Answer
+pub fn halted_answer(alloc: Global) -> Answer<'static>
     ensures { result ≡ halted_answer }
 {
     let mut answer = done(alloc);

@@ -19,7 +19,7 @@ pub(crate) fn reply_with<L: Lane>(
     alloc: Global,
     lane: &mut L,
     request: &Request,
-    answer: &Answer,
+    answer: &Answer<'_>,
     lines: &[Line],
 ) -> How
     requires { L.busy lane.old ≡ true }

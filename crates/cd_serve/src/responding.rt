@@ -12,20 +12,20 @@ use cd_text::{List, NoMemory};
 use cd_wire::{Answer, Request};
 use std::alloc::Global;
 
-/// An answer, and its lines.
+/// An answer, which the ticket and the request lend, and its lines.
 #[derive(Drop)]
-pub(crate) struct Response {
-    pub answer: Answer,
+pub(crate) struct Response<'a> {
+    pub answer: Answer<'a>,
     pub lines: List<Line>,
 }
 
 /// The answer of the app at the address, under the configuration of the ticket.
-pub(crate) fn respond<M: ModuleSet>(
+pub(crate) fn respond<'a, M: ModuleSet>(
     alloc: Global,
-    ticket: &Ticket<M>,
+    ticket: &'a Ticket<M>,
     at: &Address,
-    request: &Request,
-) -> Result<Response, NoMemory>
+    request: &'a Request,
+) -> Result<Response<'a>, NoMemory>
     requires { (conf_acts M.acts (conf_in ticket.now.share)).target at.now ≡ App }
     ensures { IfOk result (λ r. AppAnswers (record { acts = M.acts; plan = M.plan }) (conf_in ticket.now.share) at.now request.now r.answer (map logged r.lines)) }
 {
@@ -34,12 +34,12 @@ pub(crate) fn respond<M: ModuleSet>(
     Ok(Response { answer, lines })
 }
 
-fn answer_of<M: ModuleSet>(
+fn answer_of<'a, M: ModuleSet>(
     alloc: Global,
-    ticket: &Ticket<M>,
+    ticket: &'a Ticket<M>,
     at: &Address,
-    request: &Request,
-) -> Result<Answer, NoMemory>
+    request: &'a Request,
+) -> Result<Answer<'a>, NoMemory>
     requires { (conf_acts M.acts (conf_in ticket.now.share)).target at.now ≡ App }
     ensures { IfOk result (λ answer. answer ≡ (conf_acts M.acts (conf_in ticket.now.share)).answer at.now request.now) }
 {

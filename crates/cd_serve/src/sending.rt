@@ -9,19 +9,19 @@ use std::alloc::Global;
 fn is_head(request: &Request) -> bool
     ensures { result ≡ is_head request.now }
 {
-    request.method.equals("HEAD")
+    request.method() == b"HEAD".as_slice()
 }
 
 /// The bytes of an answer to the request.
-pub fn sent(alloc: Global, request: &Request, answer: &Answer) -> Result<Octets, NoMemory>
+pub fn sent(alloc: Global, request: &Request, answer: &Answer<'_>) -> Result<Octets, NoMemory>
     ensures { IfOk result (λ bytes. bytes ≡ sent request.now answer.now) }
 {
-    render(alloc, answer, is_head(request), request.close)
+    render(alloc, answer, is_head(request), request.close())
 }
 
 /// Whether the connection closes after the answer: the answer or the request says so.
-pub fn says_close(request: &Request, answer: &Answer) -> bool
+pub fn says_close(request: &Request, answer: &Answer<'_>) -> bool
     ensures { result ≡ says_close request.now answer.now }
 {
-    answer.close || request.close
+    answer.close || request.close()
 }

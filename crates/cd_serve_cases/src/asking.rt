@@ -16,7 +16,7 @@ use cd_legal::Change;
 use cd_life::Board;
 use cd_outside::MemoryFixtures;
 use cd_serve::{Attempt, attempt_change};
-use cd_text::{List, NoMemory, Octets, Text};
+use cd_text::NoMemory;
 use cd_wire::Request;
 use std::alloc::Global;
 use std::sync::Wait;
@@ -130,20 +130,12 @@ fn attempt<R: Wait>(
 }
 
 // A request for the other configuration, or for the first one.
+#[tactic(auto, unfolding(cd_wire::specs::Framing::request_of))]
 fn request(alloc: Global, other: bool) -> Result<Request, NoMemory>
     ensures { IfOk result (λ request. request.close ≡ other) }
 {
-    Ok(Request {
-        method: Text::from_str(alloc, "POST")?,
-        target: Octets::from_slice(alloc, b"/load")?,
-        path: Octets::from_slice(alloc, b"/load")?,
-        query: None,
-        host: Octets::new(alloc),
-        minor: 1,
-        fields: List::new(alloc),
-        body: Octets::new(alloc),
-        close: other,
-    })
+    let minor = if other { 0 } else { 1 };
+    Ok(Request::plain(alloc, b"POST", b"/load", minor)?)
 }
 
 /// By which change the other configuration follows that of the ticket, or the first one: by none after the halt.

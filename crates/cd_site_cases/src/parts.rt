@@ -7,14 +7,14 @@ use cd_module::{LoadFault, Settings};
 use cd_routes::{Listen, ListenText, Route};
 use cd_rows::{Outcome, RowFault, bytes_at, needed, only, says, tree_of};
 use cd_text::{NoMemory, Octets, decimal};
-use cd_tree::{Path, Tree};
+use cd_tree::{Place, Tree};
 use std::alloc::Global;
 
 /// Each address, a space, and where its text is in the list; each on a line.
 pub fn listen_outcome(alloc: Global, row: &Tree) -> Result<Outcome, RowFault> {
     only(alloc, row, "listen found refused")?;
     let value = needed(alloc, row, "listen")?;
-    match Listen::read(alloc, value, &Path::root(alloc)) {
+    match Listen::read(alloc, value, &Place::top()) {
         Ok(listen) => Ok(found(addresses_of(alloc, &listen)?)),
         Err(LoadFault::Refused(refusal)) => refused(alloc, &refusal),
         Err(LoadFault::NoMemory) => Err(RowFault::NoMemory),
@@ -53,7 +53,7 @@ fn put_addresses(alloc: Global, text: &ListenText, out: &mut Octets) -> Result<(
 pub fn names_outcome(alloc: Global, row: &Tree) -> Result<Outcome, RowFault> {
     only(alloc, row, "names_in found refused")?;
     let value = needed(alloc, row, "names_in")?;
-    match Route::read(alloc, value, &Path::root(alloc)) {
+    match Route::read(alloc, value, &Place::top()) {
         Ok(route) => Ok(found(names_of(alloc, &route)?)),
         Err(LoadFault::Refused(refusal)) => refused(alloc, &refusal),
         Err(LoadFault::NoMemory) => Err(RowFault::NoMemory),

@@ -4,7 +4,7 @@ use cd_fill::{Failure, Lent, RequestLine, Scene, Variable};
 use cd_rows::{Outcome, RowFault, bytes_of, find, number_of, only};
 use cd_text::{List, NoMemory, Octets, Text, decimal};
 use cd_tree::Tree;
-use cd_wire::{Field, Request};
+use cd_wire::{Fields, Request};
 use std::alloc::Global;
 use std::mem::replace;
 
@@ -36,8 +36,8 @@ fn shown(alloc: Global, scene: &Scene<'_>) -> Result<Octets, NoMemory> {
     let minor = decimal(alloc, u64::from(scene.minor))?;
     put_part(&mut out, minor.as_str().as_bytes())?;
     put_part(&mut out, scene.body.as_slice())?;
-    put_fields(&mut out, scene.fields.as_slice())?;
-    put_fields(&mut out, scene.response.as_slice())?;
+    put_fields(&mut out, scene.fields.look())?;
+    put_fields(&mut out, Fields::listed(scene.response.as_slice()))?;
     put_part(&mut out, if is_new(scene) { b"new" } else { b"changed" })?;
     Ok(out)
 }
@@ -60,9 +60,9 @@ fn put_part(out: &mut Octets, part: &[u8]) -> Result<(), NoMemory> {
     out.push(b'|')
 }
 
-fn put_fields(out: &mut Octets, fields: &[Field]) -> Result<(), NoMemory> {
+fn put_fields(out: &mut Octets, fields: Fields<'_>) -> Result<(), NoMemory> {
     for field in fields {
-        out.append(field.name.as_str().as_bytes())?;
+        out.append(field.name.as_slice())?;
         out.push(b'=')?;
         out.append(field.value.as_slice())?;
         out.push(b';')?;

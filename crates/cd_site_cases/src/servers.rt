@@ -11,7 +11,7 @@ use cd_module::{LoadFault, Named, Refusal};
 use cd_routes::{Server, answer_from, server_answer};
 use cd_rows::{Outcome, RowFault, bytes_at, find, has, needed, only, refuses, says, tree_of};
 use cd_text::{Octets, Text, decimal};
-use cd_tree::{Path, Tree, print};
+use cd_tree::{Place, Tree, print};
 use cd_wire::{Answer, Request, render};
 use std::alloc::Global;
 
@@ -137,7 +137,7 @@ fn outcome_by(alloc: Global, row: &Tree, tree: &Tree) -> Result<Outcome, RowFaul
 /// The server that stands there, by the name `s`.
 pub fn server_of(alloc: Global, tree: &Tree) -> Result<Server, LoadFault> {
     let name = Text::from_str(alloc, "s")?;
-    Server::read_named(alloc, &name, tree, &Path::root(alloc))
+    Server::read_named(alloc, &name, tree, &Place::top())
 }
 
 /// The words of a refusal.
@@ -171,12 +171,12 @@ fn answer_outcome(
 }
 
 // The answer to a request that has the variables `vars` from the first, where the row has them.
-fn answer_of(
+fn answer_of<'a>(
     alloc: Global,
     row: &Tree,
-    server: &Server,
-    request: &Request,
-) -> Result<Answer, RowFault> {
+    server: &'a Server,
+    request: &'a Request,
+) -> Result<Answer<'a>, RowFault> {
     match find(row, "vars") {
         None => Ok(server_answer(alloc, server, request)?),
         Some(pairs) => {
@@ -187,9 +187,9 @@ fn answer_of(
     }
 }
 
-fn sent(alloc: Global, answer: &Answer, request: &Request) -> Result<Outcome, RowFault> {
-    let head = request.method.equals("HEAD");
-    let bytes = render(alloc, answer, head, request.close)?;
+fn sent(alloc: Global, answer: &Answer<'_>, request: &Request) -> Result<Outcome, RowFault> {
+    let head = request.method() == b"HEAD".as_slice();
+    let bytes = render(alloc, answer, head, request.close())?;
     Ok(Outcome {
         member: "answered",
         bytes,
@@ -197,7 +197,7 @@ fn sent(alloc: Global, answer: &Answer, request: &Request) -> Result<Outcome, Ro
 }
 
 // The status and the body.
-fn shortly(alloc: Global, answer: &Answer) -> Result<Outcome, RowFault> {
+fn shortly(alloc: Global, answer: &Answer<'_>) -> Result<Outcome, RowFault> {
     let status = decimal(alloc, u64::from(answer.status))?;
     let mut bytes = Octets::from_slice(alloc, status.as_str().as_bytes())?;
     bytes.push(b' ')?;

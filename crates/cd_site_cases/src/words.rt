@@ -2,7 +2,7 @@
 use cd_module::{IdFormFault, Limit, LoadFault, LoadKind, ModuleId, Pattern, Refusal};
 use cd_rows::{Outcome, RowFault, bytes_at, find, has, only, path_at, refuses, says, text_of};
 use cd_text::{List, NoMemory, Octets, Text};
-use cd_tree::Tree;
+use cd_tree::{Shared, Tree};
 use std::alloc::Global;
 
 /// The text of the id that is made of these labels, or of a copy of it.
@@ -16,7 +16,7 @@ pub fn module_id_of_outcome(alloc: Global, row: &Tree) -> Result<Outcome, RowFau
     says(alloc, "found", text.as_str())
 }
 
-fn texts_of(alloc: Global, labels: &List<Tree>) -> Result<Vec<&str>, RowFault> {
+fn texts_of(alloc: Global, labels: &Shared<Tree>) -> Result<Vec<&str>, RowFault> {
     let mut texts = Vec::new(alloc);
     for label in labels.as_slice() {
         match label {
@@ -47,6 +47,7 @@ fn limit_named(name: &str) -> Result<Limit, RowFault> {
         "Addresses" => Ok(Limit::Addresses),
         "Servers" => Ok(Limit::Servers),
         "ErrorSubroutes" => Ok(Limit::ErrorSubroutes),
+        "ExpandedRoutes" => Ok(Limit::ExpandedRoutes),
         _ => Err(RowFault::Malformed("no limit")),
     }
 }
@@ -170,6 +171,7 @@ fn kind_named(name: &str) -> Result<LoadKind, RowFault> {
         "RepeatedAddress" => Ok(LoadKind::RepeatedAddress),
         "RepeatedId" => Ok(LoadKind::RepeatedId),
         "LimitReached" => Ok(LoadKind::LimitReached),
+        "NamedCycle" => Ok(LoadKind::NamedCycle),
         _ => Err(RowFault::Malformed("no kind of a fault")),
     }
 }

@@ -9,13 +9,14 @@ use Rattle.cd_tree.proofs.Trees.{drop-element}
 use Rattle.cd_module.specs.Faults.{within, limit_reached}
 use Rattle.cd_module.specs.Limits.{most}
 use Rattle.cd_module.specs.declared.limits.Limit.{Limit}
-use Rattle.cd_module.specs.declared.limits.Limit.TheVariants.{Modules, Addresses, Servers, ErrorSubroutes}
+use Rattle.cd_module.specs.declared.limits.Limit.TheVariants.{Modules, Addresses, Servers, ErrorSubroutes, ExpandedRoutes}
 
 below_top : (l : Limit) → most l < 2 ^ 64 - 1
 below_top Modules = omega arith
 below_top Addresses = omega arith
 below_top Servers = omega arith
 below_top ErrorSubroutes = omega arith
+below_top ExpandedRoutes = omega arith
 
 min_le : (n m top : ℕ) → m < top → nat_le (min n top) m ≡ nat_le n m
 min_le n m top below = grind (arith, below)

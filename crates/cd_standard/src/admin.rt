@@ -6,7 +6,7 @@ use cd_module::{LoadFault, LoadKind, Settings, fields_of, optional};
 use cd_outside::Address;
 use cd_routes::ListenText;
 use cd_text::{List, NoMemory, Text};
-use cd_tree::{Path, Tree};
+use cd_tree::{Place, Tree};
 use std::alloc::Global;
 
 /// The settings of the admin API (Caddy, JSON Config Structure, `admin`).
@@ -36,7 +36,7 @@ impl Settings for AdminListen {
     ghost reader = { admin_listen };
 
     #[tactic(auto, unfolding(crate::specs::Configuration::admin_listen))]
-    fn read(alloc: Global, tree: &Tree, at: &Path) -> Result<AdminListen, LoadFault> {
+    fn read(alloc: Global, tree: &Tree, at: &Place<'_>) -> Result<AdminListen, LoadFault> {
         let text = ListenText::read(alloc, tree, at)?;
         let addresses = text.range.list(alloc)?;
         let [address] = addresses.as_slice() else {
@@ -52,7 +52,7 @@ impl Settings for Unenforced {
     ghost reader = { unenforced };
 
     #[tactic(auto, unfolding(crate::specs::Configuration::unenforced))]
-    fn read(alloc: Global, tree: &Tree, at: &Path) -> Result<Unenforced, LoadFault> {
+    fn read(alloc: Global, tree: &Tree, at: &Place<'_>) -> Result<Unenforced, LoadFault> {
         if bool::read(alloc, tree, at)? {
             return Err(LoadFault::at(alloc, LoadKind::BadValue, at));
         }
@@ -64,7 +64,7 @@ impl Settings for AdminConfig {
     ghost reader = { admin_config };
 
     #[tactic(auto, unfolding(crate::specs::Configuration::admin_config))]
-    fn read(alloc: Global, tree: &Tree, at: &Path) -> Result<AdminConfig, LoadFault> {
+    fn read(alloc: Global, tree: &Tree, at: &Place<'_>) -> Result<AdminConfig, LoadFault> {
         let fields = fields_of(alloc, tree, at, "persist")?;
         let _ = optional::<bool>(alloc, &fields, at, "persist")?;
         Ok(AdminConfig)
@@ -108,7 +108,7 @@ impl Settings for Admin {
     ghost reader = { admin };
 
     #[tactic(auto, unfolding(crate::specs::Configuration::admin))]
-    fn read(alloc: Global, tree: &Tree, at: &Path) -> Result<Admin, LoadFault> {
+    fn read(alloc: Global, tree: &Tree, at: &Place<'_>) -> Result<Admin, LoadFault> {
         let fields = fields_of(
             alloc,
             tree,

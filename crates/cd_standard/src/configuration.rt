@@ -5,7 +5,7 @@ use crate::admin::Admin;
 use crate::app::App;
 use cd_module::{LoadFault, Settings, fields_of, object_by_name, optional};
 use cd_text::{List, NoMemory};
-use cd_tree::{Path, Tree};
+use cd_tree::{Place, Tree};
 use std::alloc::Global;
 
 /// What a whole configuration says (Caddy, JSON Config Structure).
@@ -26,7 +26,7 @@ impl Settings for Apps {
     ghost reader = { apps };
 
     #[tactic(auto, unfolding(crate::specs::Configuration::apps))]
-    fn read(alloc: Global, tree: &Tree, at: &Path) -> Result<Apps, LoadFault> {
+    fn read(alloc: Global, tree: &Tree, at: &Place<'_>) -> Result<Apps, LoadFault> {
         let apps = object_by_name::<App>(alloc, tree, at)?;
         Ok(Apps { apps })
     }
@@ -57,7 +57,7 @@ impl Settings for Configuration {
     ghost reader = { configuration };
 
     #[tactic(auto, unfolding(crate::specs::Configuration::configuration))]
-    fn read(alloc: Global, tree: &Tree, at: &Path) -> Result<Configuration, LoadFault> {
+    fn read(alloc: Global, tree: &Tree, at: &Place<'_>) -> Result<Configuration, LoadFault> {
         let fields = fields_of(alloc, tree, at, "admin apps")?;
         let admin = optional::<Admin>(alloc, &fields, at, "admin")?;
         let apps = optional::<Apps>(alloc, &fields, at, "apps")?;

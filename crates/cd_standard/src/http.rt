@@ -4,7 +4,7 @@ ghost use Rattle.cd_standard.specs.Configuration.{http, servers, servers_or_none
 use cd_module::{LoadFault, NumberOrText, Settings, fields_of, object_by_name, optional};
 use cd_routes::Server;
 use cd_text::List;
-use cd_tree::{Path, Tree};
+use cd_tree::{Place, Tree};
 use std::alloc::Global;
 
 /// The settings of the app `http` (Caddy, JSON Config Structure, `apps.http`).
@@ -24,7 +24,7 @@ impl Settings for Servers {
     ghost reader = { servers };
 
     #[tactic(auto, unfolding(crate::specs::Configuration::servers))]
-    fn read(alloc: Global, tree: &Tree, at: &Path) -> Result<Servers, LoadFault> {
+    fn read(alloc: Global, tree: &Tree, at: &Place<'_>) -> Result<Servers, LoadFault> {
         let servers = object_by_name::<Server>(alloc, tree, at)?;
         Ok(Servers { servers })
     }
@@ -46,7 +46,7 @@ impl Settings for Http {
     ghost reader = { http };
 
     #[tactic(auto, unfolding(crate::specs::Configuration::http))]
-    fn read(alloc: Global, tree: &Tree, at: &Path) -> Result<Http, LoadFault> {
+    fn read(alloc: Global, tree: &Tree, at: &Place<'_>) -> Result<Http, LoadFault> {
         let names = "http_port https_port grace_period shutdown_delay servers";
         let fields = fields_of(alloc, tree, at, names)?;
         let _ = optional::<NumberOrText>(alloc, &fields, at, "http_port")?;

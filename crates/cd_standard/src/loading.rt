@@ -13,7 +13,7 @@ use cd_ids::{IdFault, Index};
 use cd_legal::Plan;
 use cd_module::{LoadFault, LoadKind, Settings};
 use cd_text::{List, NoMemory};
-use cd_tree::{Path, Tree};
+use cd_tree::{Path, Place, Tree};
 use std::alloc::Global;
 
 /// A configuration without a fault, and what it plans.
@@ -59,7 +59,7 @@ fn load_object(alloc: Global, tree: &Tree) -> Result<Configured, LoadFault>
 fn load_settings(alloc: Global, tree: &Tree) -> Result<Configured, LoadFault>
     ensures { Gives LoadFault.NoMemory result (of_settings tree.now) }
 {
-    let configuration = Configuration::read(alloc, tree, &Path::root(alloc))?;
+    let configuration = Configuration::read(alloc, tree, &Place::top())?;
     accept(alloc, configuration)
 }
 

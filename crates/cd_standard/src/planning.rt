@@ -5,10 +5,10 @@ ghost use Rattle.cd_standard.specs.Plans.{app_name, app_modules, inside_app, mod
 
 use crate::app::App;
 use crate::configuration::Configuration;
-use crate::walking::{add_module, add_servers, enter, leave};
+use crate::walking::{add_module, add_servers};
 use cd_legal::PlanModule;
 use cd_text::{List, NoMemory, Text};
-use cd_tree::Path;
+use cd_tree::Place;
 use std::alloc::Global;
 
 impl App {
@@ -31,19 +31,19 @@ pub fn modules_of(
     ensures { IfOk result (λ made. made ≡ modules_of configuration.now) }
 {
     let mut out = List::new(alloc);
-    let mut at = Path::root(alloc);
-    enter(alloc, &mut at, "apps")?;
-    add_apps(alloc, configuration.apps.as_slice(), &mut at, &mut out)?;
+    let top = Place::top();
+    let apps = configuration.apps.as_slice();
+    add_apps(alloc, apps, &top.member("apps"), &mut out)?;
     Ok(out)
 }
 
 fn add_apps(
     alloc: Global,
     apps: &[App],
-    at: &mut Path,
+    at: &Place<'_>,
     out: &mut List<PlanModule>,
 ) -> Result<(), NoMemory>
-    ensures { OnOk result (out.new ≡ out.old ++ flat_map (app_modules at.old) apps.now) }
+    ensures { OnOk result (out.new ≡ out.old ++ flat_map (app_modules at.now) apps.now) }
 {
     for app in apps {
         add_app(alloc, app, at, out)?;
@@ -54,37 +54,31 @@ fn add_apps(
 fn add_app(
     alloc: Global,
     app: &App,
-    at: &mut Path,
+    at: &Place<'_>,
     out: &mut List<PlanModule>,
 ) -> Result<(), NoMemory>
-    ensures added { OnOk result (out.new ≡ out.old ++ app_modules at.old app.now) }
-    ensures path { OnOk result (at.new ≡ at.old) }
+    ensures { OnOk result (out.new ≡ out.old ++ app_modules at.now app.now) }
 {
     let name = app.name();
-    enter(alloc, at, name)?;
-    add_module(alloc, Text::from_str(alloc, name)?, at, out)?;
-    add_inside(alloc, app, at, out)?;
-    leave(at);
-    Ok(())
+    let here = at.member(name);
+    add_module(alloc, Text::from_str(alloc, name)?, &here, out)?;
+    add_inside(alloc, app, &here, out)
 }
 
 // What is inside an app.
 fn add_inside(
     alloc: Global,
     app: &App,
-    at: &mut Path,
+    at: &Place<'_>,
     out: &mut List<PlanModule>,
 ) -> Result<(), NoMemory>
-    ensures added { OnOk result (out.new ≡ out.old ++ inside_app app.now at.old) }
-    ensures path { OnOk result (at.new ≡ at.old) }
+    ensures { OnOk result (out.new ≡ out.old ++ inside_app app.now at.now) }
 {
     match app {
         App::Echo(_) => Ok(()),
         App::Http(http) => {
-            enter(alloc, at, "servers")?;
-            add_servers(alloc, http.servers.as_slice(), at, out)?;
-            leave(at);
-            Ok(())
+            let servers = http.servers.as_slice();
+            add_servers(alloc, servers, &at.member("servers"), out)
         }
     }
 }

@@ -59,18 +59,18 @@ impl ModuleSet for Standard {
         compiled.target_at(at)
     }
 
-    fn answer(
+    fn answer<'a>(
         alloc: Global,
-        compiled: &Configuration,
+        compiled: &'a Configuration,
         at: &Address,
-        request: &Request,
-    ) -> Result<Option<Answer>, NoMemory> {
+        request: &'a Request,
+    ) -> Result<Option<Answer<'a>>, NoMemory> {
         if compiled.admin_at(at) {
             return Ok(None);
         }
         match compiled.server_at(at) {
             Some(server) => Ok(Some(server_answer(alloc, server, request)?)),
-            None if compiled.echo_at(at) => Ok(Some(echo_answer(alloc, request)?)),
+            None if compiled.echo_at(at) => Ok(Some(echo_answer(alloc, request))),
             None => Ok(None),
         }
     }
@@ -80,7 +80,7 @@ impl ModuleSet for Standard {
         _compiled: &Configuration,
         _at: &Address,
         _request: &Request,
-        _answer: &Answer,
+        _answer: &Answer<'_>,
     ) -> Result<List<Line>, NoMemory> {
         Ok(List::new(alloc))
     }

@@ -1,8 +1,8 @@
 //! The modules of a configuration, one after another, with their paths.
 //!
-//! Each function here adds the modules of a value to those before, and leaves the path as it was. What is inside another takes
-//! stack, and what follows another takes none.
-ghost use Rattle.std.specs.Prelude.{◌≡◌, ◌-◌, ◌++◌, ◌∷◌, [], length, map, take, codes, decimal, IfOk, OnOk};
+//! Each function here adds the modules of a value to those before. Where the value is, is lent, and copied for a module alone.
+//! What is inside another takes stack, and what follows another takes none.
+ghost use Rattle.std.specs.Prelude.{◌≡◌, ◌++◌, ◌∷◌, [], map, codes, IfOk, OnOk};
 ghost use Rattle.std.specs.List.{flat_map};
 ghost use Rattle.cd_tree.specs.Path.{◌▸◌};
 ghost use Rattle.cd_routes.specs.declared.route.Subroute.{out-Subroute};
@@ -12,29 +12,9 @@ ghost use Rattle.cd_standard.specs.Walking.{in_matcher};
 use cd_legal::PlanModule;
 use cd_match::{Matcher, MatcherSet};
 use cd_routes::{Route, Server, Step, Subroute};
-use cd_text::{List, NoMemory, Text, decimal};
-use cd_tree::Path;
+use cd_text::{List, NoMemory, Text};
+use cd_tree::Place;
 use std::alloc::Global;
-
-// ---- the path
-
-pub fn enter(alloc: Global, at: &mut Path, part: &str) -> Result<(), NoMemory>
-    ensures { OnOk result (at.new ≡ at.old ▸ part.now) }
-{
-    at.parts.push(Text::from_str(alloc, part)?)
-}
-
-fn enter_place(alloc: Global, at: &mut Path, place: usize) -> Result<(), NoMemory>
-    ensures { OnOk result (at.new ≡ at.old ▸ decimal place) }
-{
-    at.parts.push(decimal(alloc, place as u64)?)
-}
-
-pub fn leave(at: &mut Path)
-    ensures { at.new.parts ≡ take (length at.old.parts - 1) at.old.parts }
-{
-    at.parts.pop();
-}
 
 // ---- a module
 
@@ -49,12 +29,12 @@ fn module_id(alloc: Global, namespace: &str, name: &str) -> Result<Text, NoMemor
 pub fn add_module(
     alloc: Global,
     id: Text,
-    at: &Path,
+    at: &Place<'_>,
     out: &mut List<PlanModule>,
 ) -> Result<(), NoMemory>
     ensures { OnOk result (out.new ≡ out.old ++ planned id at.now ∷ []) }
 {
-    let at = at.copy(alloc)?;
+    let at = at.to_path(alloc)?;
     out.push(PlanModule {
         name: id,
         at,
@@ -68,16 +48,13 @@ pub fn add_module(
 fn add_sets(
     alloc: Global,
     sets: &[MatcherSet],
-    at: &mut Path,
+    at: &Place<'_>,
     out: &mut List<PlanModule>,
 ) -> Result<(), NoMemory>
-    ensures added { OnOk result (out.new ≡ out.old ++ in_elements 0 (map set_modules sets.now) at.old) }
-    ensures path { OnOk result (at.new ≡ at.old) }
+    ensures { OnOk result (out.new ≡ out.old ++ in_elements 0 (map set_modules sets.now) at.now) }
 {
     for (place, set) in sets.iter().enumerate() {
-        enter_place(alloc, at, place)?;
-        add_set(alloc, set, at, out)?;
-        leave(at);
+        add_set(alloc, set, &at.element(place), out)?;
     }
     Ok(())
 }
@@ -86,11 +63,10 @@ fn add_sets(
 fn add_set(
     alloc: Global,
     set: &MatcherSet,
-    at: &mut Path,
+    at: &Place<'_>,
     out: &mut List<PlanModule>,
 ) -> Result<(), NoMemory>
-    ensures added { OnOk result (out.new ≡ out.old ++ set_modules set.now at.old) }
-    ensures path { OnOk result (at.new ≡ at.old) }
+    ensures { OnOk result (out.new ≡ out.old ++ set_modules set.now at.now) }
 {
     for matcher in set.matchers.as_slice() {
         add_matcher(alloc, matcher, at, out)?;
@@ -102,17 +78,15 @@ fn add_set(
 fn add_matcher(
     alloc: Global,
     matcher: &Matcher,
-    at: &mut Path,
+    at: &Place<'_>,
     out: &mut List<PlanModule>,
 ) -> Result<(), NoMemory>
-    ensures added { OnOk result (out.new ≡ out.old ++ matcher_modules matcher.now at.old) }
-    ensures path { OnOk result (at.new ≡ at.old) }
+    ensures { OnOk result (out.new ≡ out.old ++ matcher_modules matcher.now at.now) }
 {
     let name = matcher.name();
-    enter(alloc, at, name)?;
-    add_module(alloc, module_id(alloc, "http.matchers.", name)?, at, out)?;
-    add_inside(alloc, matcher, at, out)?;
-    leave(at);
+    let here = at.member(name);
+    add_module(alloc, module_id(alloc, "http.matchers.", name)?, &here, out)?;
+    add_inside(alloc, matcher, &here, out)?;
     Ok(())
 }
 
@@ -121,11 +95,10 @@ fn add_matcher(
 fn add_inside(
     alloc: Global,
     matcher: &Matcher,
-    at: &mut Path,
+    at: &Place<'_>,
     out: &mut List<PlanModule>,
 ) -> Result<(), NoMemory>
-    ensures added { OnOk result (out.new ≡ out.old ++ in_matcher matcher.now at.old) }
-    ensures path { OnOk result (at.new ≡ at.old) }
+    ensures { OnOk result (out.new ≡ out.old ++ in_matcher matcher.now at.now) }
 {
     match matcher {
         Matcher::Not(none) => add_sets(alloc, none.sets.as_slice(), at, out),
@@ -139,16 +112,13 @@ fn add_inside(
 fn add_routes(
     alloc: Global,
     routes: &[Route],
-    at: &mut Path,
+    at: &Place<'_>,
     out: &mut List<PlanModule>,
 ) -> Result<(), NoMemory>
-    ensures added { OnOk result (out.new ≡ out.old ++ routes_modules routes.now at.old) }
-    ensures path { OnOk result (at.new ≡ at.old) }
+    ensures { OnOk result (out.new ≡ out.old ++ routes_modules routes.now at.now) }
 {
     for (place, route) in routes.iter().enumerate() {
-        enter_place(alloc, at, place)?;
-        add_route(alloc, route, at, out)?;
-        leave(at);
+        add_route(alloc, route, &at.element(place), out)?;
     }
     Ok(())
 }
@@ -157,11 +127,10 @@ fn add_routes(
 fn add_route(
     alloc: Global,
     route: &Route,
-    at: &mut Path,
+    at: &Place<'_>,
     out: &mut List<PlanModule>,
 ) -> Result<(), NoMemory>
-    ensures added { OnOk result (out.new ≡ out.old ++ route_modules route.now at.old) }
-    ensures path { OnOk result (at.new ≡ at.old) }
+    ensures { OnOk result (out.new ≡ out.old ++ route_modules route.now at.now) }
 {
     add_match(alloc, route.matching.sets.as_slice(), at, out)?;
     add_handle(alloc, route.handle.as_slice(), at, out)?;
@@ -172,16 +141,12 @@ fn add_route(
 fn add_match(
     alloc: Global,
     sets: &[MatcherSet],
-    at: &mut Path,
+    at: &Place<'_>,
     out: &mut List<PlanModule>,
 ) -> Result<(), NoMemory>
-    ensures added { OnOk result (out.new ≡ out.old ++ in_elements 0 (map set_modules sets.now) (at.old ▸ codes "match")) }
-    ensures path { OnOk result (at.new ≡ at.old) }
+    ensures { OnOk result (out.new ≡ out.old ++ in_elements 0 (map set_modules sets.now) (at.now ▸ codes "match")) }
 {
-    enter(alloc, at, "match")?;
-    add_sets(alloc, sets, at, out)?;
-    leave(at);
-    Ok(())
+    add_sets(alloc, sets, &at.member("match"), out)
 }
 
 // The steps of a route.
@@ -189,32 +154,25 @@ fn add_match(
 fn add_handle(
     alloc: Global,
     steps: &[Step],
-    at: &mut Path,
+    at: &Place<'_>,
     out: &mut List<PlanModule>,
 ) -> Result<(), NoMemory>
-    ensures added { OnOk result (out.new ≡ out.old ++ in_elements 0 (map step_modules steps.now) (at.old ▸ codes "handle")) }
-    ensures path { OnOk result (at.new ≡ at.old) }
+    ensures { OnOk result (out.new ≡ out.old ++ in_elements 0 (map step_modules steps.now) (at.now ▸ codes "handle")) }
 {
-    enter(alloc, at, "handle")?;
-    add_steps(alloc, steps, at, out)?;
-    leave(at);
-    Ok(())
+    add_steps(alloc, steps, &at.member("handle"), out)
 }
 
 #[cycle(adding_routes)]
 fn add_steps(
     alloc: Global,
     steps: &[Step],
-    at: &mut Path,
+    at: &Place<'_>,
     out: &mut List<PlanModule>,
 ) -> Result<(), NoMemory>
-    ensures added { OnOk result (out.new ≡ out.old ++ in_elements 0 (map step_modules steps.now) at.old) }
-    ensures path { OnOk result (at.new ≡ at.old) }
+    ensures { OnOk result (out.new ≡ out.old ++ in_elements 0 (map step_modules steps.now) at.now) }
 {
     for (place, step) in steps.iter().enumerate() {
-        enter_place(alloc, at, place)?;
-        add_step(alloc, step, at, out)?;
-        leave(at);
+        add_step(alloc, step, &at.element(place), out)?;
     }
     Ok(())
 }
@@ -223,11 +181,10 @@ fn add_steps(
 fn add_step(
     alloc: Global,
     step: &Step,
-    at: &mut Path,
+    at: &Place<'_>,
     out: &mut List<PlanModule>,
 ) -> Result<(), NoMemory>
-    ensures added { OnOk result (out.new ≡ out.old ++ step_modules step.now at.old) }
-    ensures path { OnOk result (at.new ≡ at.old) }
+    ensures { OnOk result (out.new ≡ out.old ++ step_modules step.now at.now) }
 {
     add_module(
         alloc,
@@ -245,16 +202,13 @@ fn add_step(
 fn add_inside_subroute(
     alloc: Global,
     inside: &Subroute,
-    at: &mut Path,
+    at: &Place<'_>,
     out: &mut List<PlanModule>,
 ) -> Result<(), NoMemory>
-    ensures added { OnOk result (out.new ≡ out.old ++ (routes_modules (out-Subroute inside.now).routes (at.old ▸ codes "routes")
-        ++ errors_modules (out-Subroute inside.now).errors at.old)) }
-    ensures path { OnOk result (at.new ≡ at.old) }
+    ensures { OnOk result (out.new ≡ out.old ++ (routes_modules (out-Subroute inside.now).routes (at.now ▸ codes "routes")
+        ++ errors_modules (out-Subroute inside.now).errors at.now)) }
 {
-    enter(alloc, at, "routes")?;
-    add_routes(alloc, inside.routes.as_slice(), at, out)?;
-    leave(at);
+    add_routes(alloc, inside.routes.as_slice(), &at.member("routes"), out)?;
     match &inside.errors {
         None => Ok(()),
         Some(routes) => add_error_routes(alloc, routes.as_slice(), at, out),
@@ -266,28 +220,22 @@ fn add_inside_subroute(
 fn add_error_routes(
     alloc: Global,
     routes: &[Route],
-    at: &mut Path,
+    at: &Place<'_>,
     out: &mut List<PlanModule>,
 ) -> Result<(), NoMemory>
-    ensures added { OnOk result (out.new ≡ out.old ++ routes_modules routes.now (at.old ▸ codes "errors" ▸ codes "routes")) }
-    ensures path { OnOk result (at.new ≡ at.old) }
+    ensures { OnOk result (out.new ≡ out.old ++ routes_modules routes.now (at.now ▸ codes "errors" ▸ codes "routes")) }
 {
-    enter(alloc, at, "errors")?;
-    enter(alloc, at, "routes")?;
-    add_routes(alloc, routes, at, out)?;
-    leave(at);
-    leave(at);
-    Ok(())
+    let errors = at.member("errors");
+    add_routes(alloc, routes, &errors.member("routes"), out)
 }
 
 fn add_errors(
     alloc: Global,
     errors: &Option<List<Route>>,
-    at: &mut Path,
+    at: &Place<'_>,
     out: &mut List<PlanModule>,
 ) -> Result<(), NoMemory>
-    ensures added { OnOk result (out.new ≡ out.old ++ errors_modules errors.now at.old) }
-    ensures path { OnOk result (at.new ≡ at.old) }
+    ensures { OnOk result (out.new ≡ out.old ++ errors_modules errors.now at.now) }
 {
     match errors {
         None => Ok(()),
@@ -301,11 +249,10 @@ fn add_errors(
 pub fn add_servers(
     alloc: Global,
     servers: &[Server],
-    at: &mut Path,
+    at: &Place<'_>,
     out: &mut List<PlanModule>,
 ) -> Result<(), NoMemory>
-    ensures added { OnOk result (out.new ≡ out.old ++ flat_map (server_modules at.old) servers.now) }
-    ensures path { OnOk result (at.new ≡ at.old) }
+    ensures { OnOk result (out.new ≡ out.old ++ flat_map (server_modules at.now) servers.now) }
 {
     for server in servers {
         add_server(alloc, server, at, out)?;
@@ -316,17 +263,12 @@ pub fn add_servers(
 fn add_server(
     alloc: Global,
     server: &Server,
-    at: &mut Path,
+    at: &Place<'_>,
     out: &mut List<PlanModule>,
 ) -> Result<(), NoMemory>
-    ensures added { OnOk result (out.new ≡ out.old ++ server_modules at.old server.now) }
-    ensures path { OnOk result (at.new ≡ at.old) }
+    ensures { OnOk result (out.new ≡ out.old ++ server_modules at.now server.now) }
 {
-    enter(alloc, at, server.name.as_str())?;
-    enter(alloc, at, "routes")?;
-    add_routes(alloc, server.routes.as_slice(), at, out)?;
-    leave(at);
-    add_errors(alloc, &server.errors, at, out)?;
-    leave(at);
-    Ok(())
+    let here = at.member(server.name.as_str());
+    add_routes(alloc, server.routes.as_slice(), &here.member("routes"), out)?;
+    add_errors(alloc, &server.errors, &here, out)
 }

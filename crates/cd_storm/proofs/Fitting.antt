@@ -4,6 +4,7 @@ use Rattle.std.specs.List.{list_all, range_with_len}
 use Rattle.json.specs.Token.{end_array, end_object}
 use Rattle.cd_text.specs.Steps.{joined}
 use Rattle.cd_tree.specs.Tree.{largest, depth, tokens, member_tokens, is_below, keys_rise, is_ordered, IsSound}
+use Rattle.cd_tree.specs.declared.limits.TheConstants.{MAX_DEPTH, MAX_TEXT_BYTES}
 use Rattle.cd_tree.specs.declared.tree.Tree.{Tree}
 use Rattle.cd_tree.specs.declared.tree.Tree.TheVariants.{Text, Items}
 use Rattle.cd_tree.proofs.Inside.{both, from_parts}
@@ -99,6 +100,6 @@ fits_items ts levels bytes f = record {
 
 -- ---- soundness
 
-pub fits_sound : (t : Tree) (levels bytes : ℕ) → Fits t levels bytes → levels ≤ 100 → bytes ≤ 1048576 → IsSound t
+pub fits_sound : (t : Tree) (levels bytes : ℕ) → Fits t levels bytes → levels ≤ MAX_DEPTH → bytes ≤ MAX_TEXT_BYTES → IsSound t
 fits_sound t levels bytes f low small =
     from_parts t (record { ordered = f.ordered; shallow = omega (arith, f.shallow); short = omega (arith, print_short false (tokens t), f.short) })

@@ -9,7 +9,7 @@ use crate::draws::Draws;
 use crate::limits::{BODIES, LEAST_ROUTES, ROUTE_COUNTS};
 use crate::trees::{double, list_of, single, text};
 use cd_text::{List, NoMemory, Text};
-use cd_tree::Tree;
+use cd_tree::{Shared, Tree};
 use std::alloc::Global;
 
 /// How many routes have a body that is drawn.
@@ -24,7 +24,7 @@ pub fn tree_with(alloc: Global, routes: List<Tree>) -> Result<Tree, NoMemory>
     ensures { IfOk result (λ made. made ≡ tree_with routes) }
 {
     let listen = list_of(alloc, text(alloc, ":8080")?)?;
-    let server = double(alloc, "listen", listen, "routes", Tree::Items(routes))?;
+    let server = double(alloc, "listen", listen, "routes", Tree::Items(Shared::new(alloc, routes)?))?;
     let servers = single(alloc, "servers", single(alloc, "srv0", server)?)?;
     single(alloc, "apps", single(alloc, "http", servers)?)
 }

@@ -4,7 +4,7 @@ ghost use Rattle.cd_tree.specs.declared.tree.Tree.TheVariants as tree;
 ghost use Rattle.cd_storm.specs.FirstTree.{member, single, double, list_of};
 
 use cd_text::{List, NoMemory, Text};
-use cd_tree::{Member, Tree};
+use cd_tree::{Member, Shared, Tree};
 use std::alloc::Global;
 
 /// A text.
@@ -20,7 +20,7 @@ pub fn list_of(alloc: Global, item: Tree) -> Result<Tree, NoMemory>
 {
     let mut items = List::new(alloc);
     items.push(item)?;
-    Ok(Tree::Items(items))
+    Ok(Tree::Items(Shared::new(alloc, items)?))
 }
 
 /// An object with one member.
@@ -29,7 +29,7 @@ pub fn single(alloc: Global, key: &str, value: Tree) -> Result<Tree, NoMemory>
 {
     let mut members = List::new(alloc);
     members.push(member(alloc, key, value)?)?;
-    Ok(Tree::Object(members))
+    Ok(Tree::Object(Shared::new(alloc, members)?))
 }
 
 /// An object with two members, whose keys are given in rising order.
@@ -45,7 +45,7 @@ pub fn double(
     let mut members = List::new(alloc);
     members.push(member(alloc, key, value)?)?;
     members.push(member(alloc, other_key, other_value)?)?;
-    Ok(Tree::Object(members))
+    Ok(Tree::Object(Shared::new(alloc, members)?))
 }
 
 fn member(alloc: Global, key: &str, value: Tree) -> Result<Member, NoMemory>

@@ -3,6 +3,7 @@ pub mod Inside
 pub mod Outcomes
 pub mod Readings
 pub mod Rising
+pub mod Signs
 pub mod Soundness
 pub mod Placing
 pub mod Converted

@@ -1,6 +1,9 @@
+pub mod Counted
 pub mod Direct
 pub mod Fields
 pub mod Path
 pub mod Reading
 pub mod Tree
 pub mod Utf8
+pub mod Way
+pub mod formers

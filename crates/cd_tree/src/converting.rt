@@ -4,6 +4,7 @@ ghost use Rattle.serde_json.specs.View.{view, number_view, items_view, members_v
 ghost use Rattle.cd_tree.specs.Reading.{of_number, of_reading, of_items, of_members};
 
 use crate::fault::TreeFault;
+use crate::shared::Shared;
 use crate::tree::{Member, Num, Tree};
 use cd_text::{List, Text};
 use serde_json::{Map, Number, Value};
@@ -19,8 +20,11 @@ pub(crate) fn tree_from(alloc: Global, value: Value) -> Result<Tree, TreeFault>
         Value::Bool(truth) => Ok(Tree::Bool(truth)),
         Value::Number(number) => Ok(Tree::Num(whole(&number)?)),
         Value::String(text) => Ok(Tree::Text(Text::from_string(text))),
-        Value::Array(items) => Ok(Tree::Items(items_from(alloc, items)?)),
-        Value::Object(members) => Ok(Tree::Object(members_from(alloc, members)?)),
+        Value::Array(items) => Ok(Tree::Items(Shared::new(alloc, items_from(alloc, items)?)?)),
+        Value::Object(members) => Ok(Tree::Object(Shared::new(
+            alloc,
+            members_from(alloc, members)?,
+        )?)),
     }
 }
 

@@ -1,4 +1,5 @@
-ghost use Rattle.std.specs.Prelude.{◌≡◌, ◌<◌, ◌≤◌, ◌==◌, true, false, Ok, length, slice_index, IsTrue, IfSome};
+ghost use Rattle.std.specs.Prelude.{◌≡◌, ◌≤◌, true, false, Ok, length, IfSome, MatchOption};
+ghost use Rattle.fast_float.specs.Text.{scan};
 ghost use Rattle.serde_json.specs.Read.{number_of, number_from};
 ghost use Rattle.json.specs.Value.{value_view, items_view, members_view};
 ghost use Rattle.cd_tree.specs.Direct.{Fits, IsTreeOf, AreTreesOf, AreMembersOf, GoesAt};
@@ -6,6 +7,7 @@ ghost use Rattle.cd_tree.specs.Reading.{tree_of};
 
 use crate::limits::{MAX_DEPTH, MAX_TEXT_BYTES};
 use crate::printing::print_ordered;
+use crate::shared::Shared;
 use crate::tree::{Member, Num, Tree};
 use cd_text::{List, Text};
 use fast_float::Numeral;
@@ -16,7 +18,7 @@ use std::cmp::Ordering;
 /// How many levels a text may nest that is JSON by the grammar of serde_json.
 const MAX_LEVELS: usize = 127;
 
-/// A key that goes in front of so many others is left open. Else the time could grow with the square of their number.
+/// A key that goes before so many others is left open. Otherwise the time could grow with the square of their number.
 const NEAR: usize = 32;
 
 /// The tree of a text as most are: it has one, no key stands twice in an object, and each key goes near the end of those before
@@ -52,13 +54,15 @@ fn tree_directly(alloc: Global, value: &Value<'_>, levels: usize) -> Option<Tree
             if levels == 0 {
                 return None;
             }
-            Some(Tree::Items(items_directly(alloc, items, levels - 1)?))
+            let found = items_directly(alloc, items, levels - 1)?;
+            Some(Tree::Items(Shared::new(alloc, found).ok()?))
         }
         Value::Object(members) => {
             if levels == 0 {
                 return None;
             }
-            Some(Tree::Object(members_directly(alloc, members, levels - 1)?))
+            let found = members_directly(alloc, members, levels - 1)?;
+            Some(Tree::Object(Shared::new(alloc, found).ok()?))
         }
     }
 }
@@ -115,26 +119,25 @@ fn place_of(key: &str, members: &[Member]) -> Option<usize>
 fn number_directly(digits: &str) -> Option<Num>
     ensures { IfSome result (Fits (number_of digits.now)) }
 {
-    let bytes = digits.as_bytes();
-    if has_minus(bytes) {
-        below_zero(&Numeral::scan(&bytes[1..]))
-    } else {
-        from_zero(&Numeral::scan(bytes))
+    match after_minus(digits) {
+        Some(size) => below_zero(size),
+        None => from_zero(digits),
     }
 }
 
-fn has_minus(bytes: &[u8]) -> bool
-    ensures value { result ≡ (slice_index bytes.now 0 == 45) }
-    ensures some { IsTrue result → 0 < length bytes.now }
+/// What follows the sign of a number below zero.
+fn after_minus(digits: &str) -> Option<&str>
+    ensures { MatchOption result (number_of digits.now ≡ number_from false (scan digits.now))
+        (λ size. number_of digits.now ≡ number_from true (scan size.now)) }
 {
-    !bytes.is_empty() && bytes[0] == b'-'
+    digits.strip_prefix('-')
 }
 
-/// The number below zero, if the numeral behind its sign is whole and in range, and no zero.
-fn below_zero(numeral: &Numeral<'_>) -> Option<Num>
-    ensures { IfSome result (Fits (number_from true numeral.now)) }
+/// The number below zero of this size, if that is whole and in range, and no zero.
+fn below_zero(size: &str) -> Option<Num>
+    ensures { IfSome result (Fits (number_from true (scan size.now))) }
 {
-    let size = numeral.to_u64()?;
+    let size = Numeral::scan(size.as_bytes()).to_u64()?;
     if size == 0 || size > 1 << 63 {
         return None;
     }
@@ -144,11 +147,11 @@ fn below_zero(numeral: &Numeral<'_>) -> Option<Num>
     })
 }
 
-/// The number from zero up, if the numeral is whole and in range.
-fn from_zero(numeral: &Numeral<'_>) -> Option<Num>
-    ensures { IfSome result (Fits (number_from false numeral.now)) }
+/// The number of this size, if that is whole and in range.
+fn from_zero(size: &str) -> Option<Num>
+    ensures { IfSome result (Fits (number_from false (scan size.now))) }
 {
-    let size = numeral.to_u64()?;
+    let size = Numeral::scan(size.as_bytes()).to_u64()?;
     Some(Num {
         negative: false,
         size,

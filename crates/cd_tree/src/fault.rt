@@ -7,7 +7,7 @@ use thiserror::Error;
 #[derive(Clone, Copy, Debug, PartialEq, Eq, Error)]
 pub enum TreeFault {
     /// The bytes are not UTF-8, or have no reading as JSON (RFC 8259). A reading nests at most 127 levels and has no number
-    /// beyond the range of a 64-bit float, also in a member that a later one replaces.
+    /// beyond the range of a 64-bit float, also in a member that a later one replaces. `place_of_json_fault` says where.
     #[error("the text is not JSON")]
     NotJson,
     /// A number has a fraction or an exponent, is beyond -2^63 to 2^64 - 1, or is `-0`.

@@ -9,9 +9,10 @@ ghost use Rattle.cd_tree.specs.Tree.{IsSound};
 ghost use Rattle.cd_tree.specs.declared.tree.Tree.{Object};
 
 use crate::fault::FieldFault;
-use crate::path::Path;
+use crate::place::Place;
+use crate::shared::Shared;
 use crate::tree::{Member, Tree};
-use cd_text::{List, Text};
+use cd_text::Text;
 use std::alloc::Global;
 
 /// The members of an object of settings, where `null` counts as absent.
@@ -19,12 +20,12 @@ use std::alloc::Global;
 /// A value that is lent from a sound object is sound.
 #[derive(Clone, Copy, Drop)]
 pub struct Fields<'a> {
-    members: &'a List<Member>,
+    members: &'a Shared<Member>,
 }
 
 impl<'a> Fields<'a> {
     /// The members of an object that may have any names.
-    pub fn of_any(members: &'a List<Member>) -> Fields<'a>
+    pub fn of_any(members: &'a Shared<Member>) -> Fields<'a>
         ensures { result.members.now ≡ members.now }
     {
         Fields { members }
@@ -36,7 +37,7 @@ impl<'a> Fields<'a> {
     pub fn over(
         alloc: Global,
         tree: &'a Tree,
-        at: &Path,
+        at: &Place<'_>,
         names: &str,
     ) -> Result<Fields<'a>, FieldFault>
         ensures exact { Gives FieldFault.NoMemory
@@ -45,11 +46,11 @@ impl<'a> Fields<'a> {
         ensures sound { IsSound tree.now → IfOk result (λ fields. IsSound (Object fields.members.now)) }
     {
         let Tree::Object(members) = tree else {
-            return Err(FieldFault::WrongKind(at.copy(alloc)?));
+            return Err(FieldFault::WrongKind(at.to_path(alloc)?));
         };
         match unknown_member(members, names) {
             None => Ok(Fields { members }),
-            Some(name) => Err(FieldFault::UnknownMember(at.member(alloc, name.as_str())?)),
+            Some(name) => Err(FieldFault::UnknownMember(at.member(name.as_str()).to_path(alloc)?)),
         }
     }
 
@@ -62,7 +63,7 @@ impl<'a> Fields<'a> {
     }
 
     /// The member, which may be neither absent nor null: then it answers Missing, with the path of the member.
-    pub fn need(&self, alloc: Global, at: &Path, name: &str) -> Result<&'a Tree, FieldFault>
+    pub fn need(&self, alloc: Global, at: &Place<'_>, name: &str) -> Result<&'a Tree, FieldFault>
         ensures exact { Gives FieldFault.NoMemory
             (result_map_both (λ tree. tree.now) (λ fault. fault) result)
             (need_of name.now self.now.members.now at.now) }
@@ -70,13 +71,13 @@ impl<'a> Fields<'a> {
     {
         match self.get(name) {
             Some(value) => Ok(value),
-            None => Err(FieldFault::Missing(at.member(alloc, name)?)),
+            None => Err(FieldFault::Missing(at.member(name).to_path(alloc)?)),
         }
     }
 }
 
 /// The first member of that name, unless it is null.
-fn member_named<'a>(members: &'a List<Member>, name: &str) -> Option<&'a Tree>
+fn member_named<'a>(members: &'a Shared<Member>, name: &str) -> Option<&'a Tree>
     ensures { option_copied result ≡ get_of name.now members.now }
 {
     for member in members.as_slice() {
@@ -98,7 +99,7 @@ fn present(tree: &Tree) -> Option<&Tree>
 }
 
 /// The first member that has none of these names.
-fn unknown_member<'a>(members: &'a List<Member>, names: &str) -> Option<&'a Text>
+fn unknown_member<'a>(members: &'a Shared<Member>, names: &str) -> Option<&'a Text>
     ensures { option_copied result ≡ unknown names.now members.now }
 {
     for other in members.as_slice() {

@@ -5,14 +5,21 @@
 //! object, and nesting and compact text stay within `MAX_DEPTH` and `MAX_TEXT_BYTES`.
 //!
 //! Most texts are read directly (direct.rt). What that leaves open, as a key that stands twice or a fault, is found the long
-//! way, over serde_json's values (reading.rt, nested.rt, converting.rt).
+//! way, over serde_json's values (reading.rt, nested.rt, converting.rt). `place_of_json_fault` says in which line and column a
+//! text stops being JSON.
 //!
 //! `print` gives the compact text of a sound tree, which reads back as that tree; `reads_back` says the same of a tree that is
-//! not printed. `copy` gives an equal tree, and `equal` tells whether two are equal. `Fields` lends the members of an object
-//! by their names, and a fault of it names the `Path` where it is. What is lent from a sound object is sound.
+//! not printed. `equal` says whether two trees are equal.
 //!
-//! A tree is plain data, so contracts compare trees by `≡`, and depth, text and soundness are functions on it. That a
-//! hand-made tree is sound is left to whoever makes it, and where in a configuration a tree stands to whoever passes its path.
+//! Trees share their lists and objects (`Shared`): `copy` gives an equal tree that owns them together with the first, and
+//! costs no more than a text. No list is changed once it is shared. Contracts see plain data, whoever owns it: they compare
+//! trees by `≡`, and depth, text and soundness are functions on a tree.
+//!
+//! `Fields` lends the members of an object by their names. What is lent from a sound object is sound. A reader is given the
+//! `Place` of its value, which borrows each part from the readers above it. Only a fault makes a `Path` of its own from it.
+//!
+//! That a hand-made tree is sound is left to whoever makes it, and where in a configuration a tree is to whoever passes its
+//! place.
 #![tactic(auto)]
 
 mod converting;
@@ -21,23 +28,30 @@ mod direct;
 mod equality;
 mod fault;
 mod fields;
+mod json_place;
 mod limits;
 mod measure;
 mod nested;
 mod path;
+mod place;
 mod printing;
 mod reading;
 mod round_trip;
+mod shared;
 mod tree;
+mod way;
 
-pub use copies::copy;
+pub use copies::{copy, copy_member};
 pub use equality::equal;
 pub use fault::{FieldFault, TreeFault};
 pub use fields::Fields;
+pub use json_place::{JsonPlace, place_of_json_fault};
 pub use limits::{MAX_DEPTH, MAX_TEXT_BYTES, limits_in_numbers};
 pub use measure::nesting;
 pub use path::Path;
+pub use place::Place;
 pub use printing::{print, print_ordered};
 pub use reading::read;
 pub use round_trip::reads_back;
+pub use shared::Shared;
 pub use tree::{Member, Num, Tree};

@@ -1,8 +1,8 @@
 ghost use Rattle.std.specs.Prelude.{◌≡◌, ◌-◌, ◌^◌, min, map};
 ghost use Rattle.cd_tree.specs.Tree.{depth, member_depth, largest};
 
+use crate::shared::Shared;
 use crate::tree::{Member, Tree};
-use cd_text::List;
 
 /// How many levels lists and objects nest, 0 where the tree is neither, or the largest `usize` where that is more.
 #[cycle(nesting)]
@@ -20,7 +20,7 @@ pub fn nesting(tree: &Tree) -> usize
 }
 
 #[cycle(nesting)]
-fn items_nesting(items: &List<Tree>) -> usize
+fn items_nesting(items: &Shared<Tree>) -> usize
     ensures { result ≡ min (largest (map depth items.now)) (2 ^ 64 - 1) }
 {
     let mut deepest = 0;
@@ -31,7 +31,7 @@ fn items_nesting(items: &List<Tree>) -> usize
 }
 
 #[cycle(nesting)]
-fn members_nesting(members: &List<Member>) -> usize
+fn members_nesting(members: &Shared<Member>) -> usize
     ensures { result ≡ min (largest (map member_depth members.now)) (2 ^ 64 - 1) }
 {
     let mut deepest = 0;

@@ -1,7 +1,7 @@
-ghost use Rattle.std.specs.Prelude.{◌≡◌, ◌∷◌, ◌++◌, [], IfOk, OnOk, decimal, string_bytes, if◌then◌else◌};
+ghost use Rattle.std.specs.Prelude.{◌≡◌, ◌∷◌, ◌++◌, [], IfOk, OnOk, string_bytes, if◌then◌else◌};
 ghost use Rattle.cd_tree.specs.Path.{◌▸◌, written};
 
-use cd_text::{List, NoMemory, Text, decimal as decimal_text};
+use cd_text::{List, NoMemory, Text};
 use std::alloc::Global;
 
 /// The way to a value in a tree: names of members, and places in lists in decimal.
@@ -38,14 +38,6 @@ impl Path {
         let mut path = self.copy(alloc)?;
         path.parts.push(Text::from_str(alloc, name)?)?;
         Ok(path)
-    }
-
-    /// The way to an element of the list that this way leads to, by its place counted from 0.
-    pub fn element(&self, alloc: Global, place: usize) -> Result<Path, NoMemory>
-        ensures { IfOk result (λ path. path ≡ self.now ▸ decimal place) }
-    {
-        let name = decimal_text(alloc, place as u64)?;
-        self.member(alloc, name.as_str())
     }
 
     /// The written form: `/` and the parts joined by `/`, so `/` alone for the tree itself.

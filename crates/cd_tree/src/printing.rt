@@ -6,8 +6,9 @@ ghost use Rattle.cd_text.specs.Steps.{joined};
 ghost use Rattle.cd_tree.specs.Tree.{IsSound, is_ordered, is_number, ordered_member, are_ordered, text, tokens, member_tokens, number_text};
 ghost use Rattle.cd_tree.specs.Reading.{tree_of};
 
+use crate::shared::Shared;
 use crate::tree::{Member, Num, Tree};
-use cd_text::{List, NoMemory, Text};
+use cd_text::{NoMemory, Text};
 use json::Writer;
 use std::alloc::{AllocError, Global};
 
@@ -82,7 +83,7 @@ fn write_number(num: &Num, out: &mut Writer) -> Result<(), AllocError>
 }
 
 #[cycle(write)]
-fn write_items(items: &List<Tree>, out: &mut Writer) -> Result<(), AllocError>
+fn write_items(items: &Shared<Tree>, out: &mut Writer) -> Result<(), AllocError>
     requires { IsTrue (list_all (λ b. b) (map is_ordered items.now)) }
     ensures written { OnOk result (out.new.tokens
         ≡ out.old.tokens ++ joined (map tokens items.now)) }
@@ -95,7 +96,7 @@ fn write_items(items: &List<Tree>, out: &mut Writer) -> Result<(), AllocError>
 }
 
 #[cycle(write)]
-fn write_members(members: &List<Member>, out: &mut Writer) -> Result<(), AllocError>
+fn write_members(members: &Shared<Member>, out: &mut Writer) -> Result<(), AllocError>
     requires { IsTrue (are_ordered (map ordered_member members.now)) }
     ensures written { OnOk result (out.new.tokens
         ≡ out.old.tokens ++ joined (map member_tokens members.now)) }

@@ -5,8 +5,9 @@ ghost use Rattle.cd_tree.specs.Reading.{tree_of};
 ghost use Rattle.cd_tree.specs.Tree.{IsSound, text, tokens, member_tokens, number_text};
 ghost use Rattle.cd_tree.specs.Utf8.{are_text};
 
+use crate::shared::Shared;
 use crate::tree::{Member, Num, Tree};
-use cd_text::{List, Text};
+use cd_text::Text;
 
 /// The law that the compact text of a sound tree reads as that tree.
 ///
@@ -52,7 +53,7 @@ fn see_text(text: &Text)
 }
 
 #[cycle(see)]
-fn see_items(items: &List<Tree>)
+fn see_items(items: &Shared<Tree>)
     ensures { IsTrue (are_text (joined (map tokens items.now))) }
 {
     for item in items.as_slice() {
@@ -61,7 +62,7 @@ fn see_items(items: &List<Tree>)
 }
 
 #[cycle(see)]
-fn see_members(members: &List<Member>)
+fn see_members(members: &Shared<Member>)
     ensures { IsTrue (are_text (joined (map member_tokens members.now))) }
 {
     for member in members.as_slice() {

@@ -1,4 +1,5 @@
-use cd_text::{List, Text};
+use crate::shared::Shared;
+use cd_text::Text;
 
 /// A JSON value whose numbers are whole.
 #[cycle(tree)]
@@ -8,9 +9,9 @@ pub enum Tree {
     Bool(bool),
     Num(Num),
     Text(Text),
-    Items(List<Tree>),
+    Items(Shared<Tree>),
     /// In a sound tree the keys rise in byte order, and so are distinct.
-    Object(List<Member>),
+    Object(Shared<Member>),
 }
 
 /// A member of an object.

@@ -1,15 +1,15 @@
 -- What the bytes of chunks say of every body at the front.
-use Rattle.std.proofs.Common.{◌≡◌, ℕ, ◌+◌, ◌-◌, ◌<◌, ◌≤◌, List, [], ◌∷◌, ◌++◌, length, take, drop, refl, sym, ap, ◌∙◌, subst, append_assoc, arith, inl, inr, lit≤}
+use Rattle.std.proofs.Common.{◌≡◌, ℕ, ◌+◌, ◌<◌, ◌≤◌, List, [], ◌∷◌, ◌++◌, length, take, drop, refl, sym, ap, ◌∙◌, subst, append_assoc, arith, inl, inr}
 use Rattle.std.proofs.Math.Seq.{drop-append_seam}
-use Rattle.std.proofs.lemmas.List.{take-append-drop, length-drop, length-take, length-take-le, drop-drop, append-nil, length-append}
+use Rattle.std.proofs.lemmas.List.{take-append-drop, length-drop, length-take-le, drop-drop, append-nil, length-append}
 use Rattle.httparse.specs.Ascii.{crlf_bytes}
 use Rattle.cd_wire.specs.declared.limits.TheConstants.{MAX_BODY_BYTES}
 use Rattle.cd_wire.specs.declared.fault.WireFault.{WireFault}
 use Rattle.cd_wire.specs.declared.fault.WireFault.TheVariants.{BadHead, BadTarget, BadHost, BadLength, BodyTooLong, UnknownCoding}
 use Rattle.cd_wire.specs.declared.framing.Framing.{Framing}
 use Rattle.cd_wire.specs.declared.framing.Framing.TheVariants.{Length, Chunked}
-use Rattle.cd_wire.specs.Bodies.{BeginsLine, BeginsChunk, BeginsChunks, ChunksThen, joined, RefusesChunk, RefusesLine, NeverHasCrlf, BeginsBody, RefusesBody}
-use Rattle.cd_wire.specs.Chunks.{HasNoChunk, HasData, HasChunks, HasNoBody}
+use Rattle.cd_wire.specs.Bodies.{BeginsLine, BeginsChunk, BeginsChunks, ChunksThen, joined, RefusesChunk, RefusesLine, NeverHasCrlf, RefusesBody}
+use Rattle.cd_wire.specs.Chunks.{HasNoChunk, HasData}
 use Rattle.cd_wire.proofs.RequestLaws.{BeginsLine-unique, BeginsChunk-unique}
 use Rattle.cd_wire.proofs.LineLemmas.{refused_is_no_line}
 
@@ -218,83 +218,10 @@ no_fault before text (piece ∷ pieces) (other ∷ others) at rest fault so fits
     (λ r. sound (subst (λ (k : ℕ). RefusesChunk k at fault) (sym n) r))
     also.2 (omega (arith, m)) (subst (λ (k : ℕ). RefusesChunk k rest fault) m refuses)
 
--- ---- a loop over the chunks
-
-pub none_read : (text : List ℕ) → HasChunks text 0 []
-none_read text = record { within = omega arith; pieces = []; chunks = refl; is = refl; fits = lit≤ tt }
-
-pub one_read : (text found rest : List ℕ) (at start size next : ℕ) → HasChunks text at found → rest ≡ drop at text
-    → HasData (length found) rest start size next
-    → HasChunks text (at + next) (found ++ take size (drop start rest))
-one_read text found rest at start size next r is d =
-    let piece = take size (drop start rest) in
-    let long : length rest ≡ length text - at = ap length is ∙ length-drop at text in
-    let within : at + next ≤ length text = omega (arith, d.within, r.within) in
-    let there : drop next rest ≡ drop (at + next) text = ap (drop next) is ∙ drop-drop next at text in
-    let some : 0 < length piece = d.chunk.some in
-    let short : length piece ≤ size = omega (arith, length-take size (drop start rest)) in
-    record {
-      within = within;
-      pieces = r.pieces ++ piece ∷ [];
-      chunks = Chunks-snoc text r.pieces piece (drop at text) (drop (at + next) text) r.chunks
-          (subst (λ (t : List ℕ). BeginsChunk t piece (drop (at + next) text)) is
-          (subst (λ (t : List ℕ). BeginsChunk rest piece t) there d.chunk));
-      is = ap (λ t. t ++ piece) r.is ∙ sym (joined-snoc r.pieces piece);
-      fits = omega (arith, length-append found piece, d.fits);
-    }
-
-pub last_read : (text found rest : List ℕ) (at next : ℕ) → HasChunks text at found → rest ≡ drop at text
-    → next ≤ length rest → BeginsLine rest 0 (crlf_bytes ++ drop next rest)
-    → (at + next ≤ length text) × BeginsBody Chunked text found (drop (at + next) text)
-last_read text found rest at next r is within b =
-    let long : length rest ≡ length text - at = ap length is ∙ length-drop at text in
-    let there : drop next rest ≡ drop (at + next) text = ap (drop next) is ∙ drop-drop next at text in (
-      omega (arith, r.within),
-      (
-        r.pieces,
-        Chunks-last text r.pieces (drop at text) (drop (at + next) text) r.chunks
-            (subst (λ (t : List ℕ). BeginsLine t 0 (crlf_bytes ++ drop (at + next) text)) is
-            (subst (λ (t : List ℕ). BeginsLine rest 0 (crlf_bytes ++ t)) there b)),
-        r.is,
-        r.fits,
-      ),
-    )
-
-zero_more : (n : ℕ) → n ≡ 0 + n
-zero_more n = omega arith
-
-pub none_whole : (text found rest : List ℕ) (at : ℕ) → HasChunks text at found → rest ≡ drop at text
-    → HasNoChunk (length found) rest → HasNoBody Chunked text
-none_whole text found rest at r is none body left b =
-    let here = subst (λ (n : ℕ). HasNoChunk n (drop at text)) (ap length r.is ∙ zero_more (length (joined r.pieces)))
-    (subst (λ (t : List ℕ). HasNoChunk (length found) t) is none) in
-    no_body 0 text r.pieces b.0 (drop at text) left r.chunks here b.1 (omega (arith, ap length b.2, b.3))
-
-pub none_refused : (text found rest : List ℕ) (at : ℕ) → HasChunks text at found → rest ≡ drop at text
-    → HasNoChunk (length found) rest → ((fault : WireFault) → ¬ (RefusesChunk (length found) rest fault))
-    → (fault : WireFault) → ¬ (RefusesBody Chunked text fault)
-none_refused text found rest at r is none sound fault b =
-    let before = ap length r.is ∙ zero_more (length (joined r.pieces)) in
-    let here = subst (λ (n : ℕ). HasNoChunk n (drop at text)) before
-    (subst (λ (t : List ℕ). HasNoChunk (length found) t) is none) in
-    no_fault 0 text r.pieces b.0 (drop at text) b.1 fault r.chunks (omega (arith, ap length r.is, r.fits)) here
-    (λ refuses. sound fault
-    (subst (λ (t : List ℕ). RefusesChunk (length found) t fault) (sym is)
-    (subst (λ (n : ℕ). RefusesChunk n (drop at text) fault) (sym before) refuses)))
-    b.2 (omega (arith, b.3)) (subst (λ (n : ℕ). RefusesChunk n b.1 fault) (zero_more _) b.4)
-
-pub one_refused : (text found rest : List ℕ) (at : ℕ) (fault : WireFault) → HasChunks text at found → rest ≡ drop at text
-    → RefusesChunk (length found) rest fault → RefusesBody Chunked text fault
-one_refused text found rest at fault r is refuses = (
-  r.pieces,
-  drop at text,
-  r.chunks,
-  omega (arith, ap length r.is, r.fits),
-  subst (λ (n : ℕ). RefusesChunk n (drop at text) fault) (ap length r.is)
-      (subst (λ (t : List ℕ). RefusesChunk (length found) t fault) is refuses),
-)
-
 -- ---- a body has one fault
+
+pub zero_more : (n : ℕ) → n ≡ 0 + n
+zero_more n = omega arith
 
 -- a line for too much data is not refused for another reason
 long_or_bad : (before : ℕ) (text : List ℕ) → RefusesChunk before text BodyTooLong → RefusesChunk before text BadLength → ⊥

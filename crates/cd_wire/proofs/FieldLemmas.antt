@@ -1,6 +1,6 @@
 -- What a loop over the fields finds.
 use Rattle.std.proofs.Common.{◌≡◌, ℕ, List, [], ◌∷◌, ◌++◌, ap}
-use Rattle.cd_wire.specs.declared.fields.Found.TheVariants.{Several}
+use Rattle.cd_wire.specs.declared.marks.Found.TheVariants.{Several}
 use Rattle.cd_wire.specs.Fields.{IsFound}
 
 -- one value, and then another

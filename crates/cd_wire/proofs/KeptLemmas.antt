@@ -1,24 +1,21 @@
 -- What is kept of an input holds of it when more bytes come.
-use Rattle.std.proofs.Common.{inl, ◌≡◌, ℕ, zero, suc, lit<, ◌+◌, ◌≤◌, IsTrue, List, [], ◌∷◌, ◌++◌, length, drop, refl, sym, ap, ◌∙◌, subst, arith, length-append}
-use Rattle.std.proofs.lemmas.List.{drop-append-le, take-append-le, take_all, append-nil}
+use Rattle.std.proofs.Common.{inl, ◌≡◌, ℕ, zero, suc, lit<, ◌+◌, ◌≤◌, IsTrue, List, [], ◌∷◌, ◌++◌, length, take, drop, refl, sym, ap, ◌∙◌, subst, arith, append_assoc, length-append, Bool, Result, Ok, Err, OnErr}
+use Rattle.std.proofs.lemmas.List.{drop-append-le, drop-drop, take-append-drop, take-append-le, take_all, append-nil}
 use Rattle.std.proofs.lemmas.List.Elements.{All-nil, All-cons}
 use Rattle.std.proofs.lemmas.Str.{IsUtf8-from_ascii}
 use Rattle.std.specs.Str.{IsAscii}
 use Rattle.httparse.specs.Grammar.{lf, IsField, RequestHead, print_request, is_token_byte, is_uri_byte, MayBecomeRequest}
+use Rattle.cd_text.specs.declared.memory.NoMemory.{NoMemory}
+use Rattle.cd_wire.specs.declared.intake.Next.{Next}
 use Rattle.cd_wire.specs.declared.scanning.Line.TheVariants.{Blank}
 use Rattle.cd_wire.specs.declared.scanning.Scanned.{Scanned}
-use Rattle.cd_wire.specs.declared.taking.Front.{Front}
 use Rattle.cd_wire.specs.declared.taking.Search.{Search}
 use Rattle.cd_wire.specs.declared.taking.Known.{Known}
+use Rattle.cd_wire.specs.declared.taking.Taken.{Taken}
 use Rattle.cd_wire.specs.declared.taking.Known.TheVariants as known
-use Rattle.cd_wire.specs.declared.bodies.Body.{Body}
-use Rattle.cd_wire.specs.declared.bodies.Body.TheVariants as body
-use Rattle.cd_wire.specs.Heads.{BeginsHead, MayBecomeHead}
-use Rattle.cd_wire.specs.Bodies.{ChunksThen}
-use Rattle.cd_wire.specs.Chunks.{HasChunks, IsBodyKept}
+use Rattle.cd_wire.specs.Heads.{MayBecomeHead}
 use Rattle.cd_wire.specs.Scanning.{scan}
-use Rattle.cd_wire.specs.Taking.{IsScanned, IsSearch, HasFront, IsKept}
-use Rattle.cd_wire.proofs.RequestLaws.{BeginsHead-append, ChunksThen-append}
+use Rattle.cd_wire.specs.Taking.{IsScanned, IsSearch, IsKept, IsTaken}
 
 -- ---- what may become a head
 
@@ -86,32 +83,6 @@ all_searched input scanned is may = record {
 
 -- ---- a piece was appended
 
-chunks_push : (text piece : List ℕ) (at : ℕ) (found : List ℕ) → HasChunks text at found → HasChunks (text ++ piece) at found
-chunks_push text piece at found h = record {
-  within = omega (arith, h.within, length-append text piece);
-  pieces = h.pieces;
-  chunks = subst (λ (t : List ℕ). ChunksThen (text ++ piece) h.pieces t) (sym (drop-append-le at text piece h.within))
-      (ChunksThen-append text h.pieces (drop at text) piece h.chunks);
-  is = h.is;
-  fits = h.fits;
-}
-
-body_push : (text piece : List ℕ) (kept : Body) → IsBodyKept text kept → IsBodyKept (text ++ piece) kept
-body_push text piece (body.Sized size) k = k
-body_push text piece (body.Chunks chunks) k = chunks_push text piece chunks.at chunks.found k
-
-front_push : (input piece : List ℕ) (front : Front) → HasFront input front → HasFront (input ++ piece) front
-front_push input piece front f =
-    let rest : drop front.len input ++ piece ≡ drop front.len (input ++ piece) =
-    sym (drop-append-le front.len input piece f.within) in
-    record {
-      within = omega (arith, f.within, length-append input piece);
-      begins = subst (λ (t : List ℕ). BeginsHead (input ++ piece) front.head t) rest
-          (BeginsHead-append input front.head (drop front.len input) piece f.begins);
-      judged = f.judged;
-      kept = subst (λ (t : List ℕ). IsBodyKept t front.body) rest (body_push (drop front.len input) piece front.body f.kept);
-    }
-
 search_push : (input piece : List ℕ) (search : Search) → IsSearch input search → IsSearch (input ++ piece) search
 search_push input piece search s = record {
   scanned = record {
@@ -122,17 +93,44 @@ search_push input piece search s = record {
   may = subst MayBecomeRequest (sym (take-append-le search.parsed input piece s.within)) s.may;
 }
 
-kept_push : (input piece : List ℕ) (kept : Known) → IsKept input kept → IsKept (input ++ piece) kept
-kept_push input piece (known.Search search) k = search_push input piece search k
-kept_push input piece (known.Front front) k = front_push input piece front k
+kept_push : (before left piece : List ℕ) (kept : Known) → IsKept before left kept → IsKept before (left ++ piece) kept
+kept_push before left piece (known.Search search) k = (k.0, search_push left piece search k.1)
+kept_push before left piece (known.Front front) k = k
 
 -- the same of what is left of a buffer that the piece makes longer
-pub kept_appended : (buffer new piece : List ℕ) (start : ℕ) (kept : Known) → new ≡ buffer ++ piece
-    → start + start ≤ length buffer → IsKept (drop start buffer) kept
-    → (start + start ≤ length new) × IsKept (drop start new) kept
-kept_appended buffer new piece start kept is half k =
+pub kept_appended : (before buffer new piece : List ℕ) (start : ℕ) (kept : Known) → new ≡ buffer ++ piece
+    → start + start ≤ length buffer → IsKept before (drop start buffer) kept
+    → (start + start ≤ length new) × IsKept before (drop start new) kept
+kept_appended before buffer new piece start kept is half k =
     let left : drop start buffer ++ piece ≡ drop start new =
     sym (drop-append-le start buffer piece (omega arith)) ∙ ap (drop start) (sym is) in (
       omega (arith, ap length is, length-append buffer piece),
-      subst (λ (input : List ℕ). IsKept input kept) left (kept_push (drop start buffer) piece kept k),
+      subst (λ (input : List ℕ). IsKept before input kept) left (kept_push before (drop start buffer) piece kept k),
     )
+
+-- ---- bytes that are left were read
+
+-- bytes that are read go from those that are left to those that are not kept
+pub read_on : (before buffer new gone : List ℕ) (start len at : ℕ) → gone ≡ before ++ take len (drop start buffer)
+    → drop at new ≡ drop (start + len) buffer
+    → (drop at new ≡ drop len (drop start buffer)) × (gone ++ drop at new ≡ before ++ drop start buffer)
+read_on before buffer new gone start len at gone_is is =
+    let left : drop at new ≡ drop len (drop start buffer) = is ∙ sym (drop-drop len start buffer) in (
+      left,
+      ap (λ t. gone ++ t) left ∙ ap (λ t. t ++ drop len (drop start buffer)) gone_is
+          ∙ append_assoc before (take len (drop start buffer)) (drop len (drop start buffer))
+          ∙ ap (λ t. before ++ t) (take-append-drop len (drop start buffer)),
+    )
+
+-- what holds in any case holds after an error
+pub after_error : (r : Result Next NoMemory) (one other : List ℕ) → one ≡ other → OnErr r (one ≡ other)
+after_error (Ok next) one other is = tt
+after_error (Err error) one other is = is
+
+-- what was taken, of the bytes that are left by another name
+pub taken_here : (before left rest : List ℕ) (ended : Bool) (known after : Known) (t : Taken) → IsKept before left known
+    → rest ≡ left → ((front : List ℕ) → IsKept front rest known → IsTaken front rest ended after t)
+    → IsTaken before left ended after t
+taken_here before left rest ended known after t kept is taken =
+    subst (λ (r : List ℕ). IsTaken before r ended after t) is
+    (taken before (subst (λ (r : List ℕ). IsKept before r known) (sym is) kept))

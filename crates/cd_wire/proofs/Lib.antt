@@ -4,6 +4,8 @@ pub mod FrontLemmas
 pub mod TakingLemmas
 pub mod NumberLemmas
 pub mod FieldLemmas
+pub mod PlaceLemmas
+pub mod PathLemmas
 pub mod MemberLemmas
 pub mod TailLaws
 pub mod Existence
@@ -11,3 +13,5 @@ pub mod ScanLemmas
 pub mod KeptLemmas
 pub mod LineLemmas
 pub mod BodyLemmas
+pub mod ReadingLemmas
+pub mod Making

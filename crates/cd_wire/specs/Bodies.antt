@@ -1,4 +1,4 @@
--- The bodies of requests (RFC 9112, sections 6 and 7.1): when a text begins with one, and when it never will.
+-- Bodies of messages (RFC 9112, sections 6 and 7.1): when a text begins with one, and when it is refused.
 use Rattle.std.specs.Prelude.{◌≡◌, ℕ, ◌≤◌, ◌+◌, ◌<◌, ◌⊎◌, List, [], ◌∷◌, ◌++◌, length, take, drop}
 use Rattle.httparse.specs.Grammar.{ChunkLine, print_chunk_line, ReadsChunkLine, HasNoChunkLine, NeverHasChunkLine, chunk_size}
 use Rattle.httparse.specs.Ascii.{crlf_bytes}
@@ -30,7 +30,7 @@ BeginsChunks text [] rest = BeginsLine text 0 (crlf_bytes ++ rest)
 BeginsChunks text (piece ∷ pieces) rest =
     (after : List ℕ) × BeginsChunk text piece after × BeginsChunks after pieces rest
 
--- the pieces, one behind the other
+-- the pieces, one after another
 abbrev pub joined : List (List ℕ) → List ℕ
 joined [] = []
 joined (piece ∷ pieces) = piece ++ joined pieces
@@ -53,7 +53,7 @@ ChunksThen text (piece ∷ pieces) rest =
 abbrev pub NeverHasCrlf : List ℕ → Type 0
 NeverHasCrlf text = (more rest : List ℕ) → ¬ (text ++ more ≡ crlf_bytes ++ rest)
 
--- what stands in the place of a chunk's line never is one, or is too long for one
+-- what is at the place of a chunk's line never becomes one, or is too long for one
 abbrev pub RefusesLine : List ℕ → Type 0
 RefusesLine text =
     NeverHasChunkLine (take MAX_CHUNK_LINE_BYTES text)

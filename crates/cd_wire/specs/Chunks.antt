@@ -1,23 +1,15 @@
--- For the clauses of private functions: what is read of a body.
-use Rattle.std.specs.Prelude.{⊤, ◌≡◌, ℕ, ◌≤◌, ◌<◌, ◌+◌, List, ◌++◌, length, take, drop}
+-- For the clauses of private functions: what is read of a chunk.
+use Rattle.std.specs.Prelude.{◌≡◌, ℕ, ◌≤◌, ◌<◌, ◌+◌, List, ◌++◌, length, take, drop}
 use Rattle.httparse.specs.Ascii.{crlf_bytes}
 use Rattle.cd_wire.specs.declared.limits.TheConstants.{MAX_BODY_BYTES}
 use Rattle.cd_wire.specs.declared.fault.WireFault.{WireFault}
-use Rattle.cd_wire.specs.declared.framing.Framing.{Framing}
-use Rattle.cd_wire.specs.declared.framing.Framing.TheVariants.{Length, Chunked}
 use Rattle.cd_wire.specs.declared.chunks.ChunkRead.{ChunkRead}
 use Rattle.cd_wire.specs.declared.chunks.ChunkRead.TheVariants as chunk
 use Rattle.cd_wire.specs.declared.chunks.CrlfRead.{CrlfRead}
 use Rattle.cd_wire.specs.declared.chunks.CrlfRead.TheVariants as crlf
 use Rattle.cd_wire.specs.declared.chunks.LineRead.{LineRead}
 use Rattle.cd_wire.specs.declared.chunks.LineRead.TheVariants as line
-use Rattle.cd_wire.specs.declared.bodies.Body.{Body}
-use Rattle.cd_wire.specs.declared.bodies.Body.TheVariants as body
-use Rattle.cd_wire.specs.declared.bodies.BodyRead.{BodyRead}
-use Rattle.cd_wire.specs.declared.bodies.BodyRead.TheVariants as read
-use Rattle.cd_wire.specs.Bodies.{BeginsLine, BeginsChunk, ChunksThen, joined, NeverHasCrlf, RefusesLine, RefusesChunk, BeginsBody, RefusesBody}
-
--- ---- one chunk
+use Rattle.cd_wire.specs.Bodies.{BeginsLine, BeginsChunk, NeverHasCrlf, RefusesLine, RefusesChunk}
 
 -- no chunk that fits comes first, and not the last one
 pub record HasNoChunk (before : ℕ) (text : List ℕ) : Type 0 where
@@ -48,39 +40,3 @@ IsChunkRead before text (chunk.Data start size next) = HasData before text start
 IsChunkRead before text (chunk.Last next) = (next ≤ length text) × BeginsLine text 0 (crlf_bytes ++ drop next text)
 IsChunkRead before text chunk.Partial = HasNoChunk before text × ((fault : WireFault) → ¬ (RefusesChunk before text fault))
 IsChunkRead before text (chunk.Refused fault) = HasNoChunk before text × RefusesChunk before text fault
-
--- ---- a body
-
--- up to a place the text is chunks with this data
-pub record HasChunks (text : List ℕ) (at : ℕ) (found : List ℕ) : Type 0 where
-  pub within : at ≤ length text
-  pub pieces : List (List ℕ)
-  pub chunks : ChunksThen text pieces (drop at text)
-  pub is : found ≡ joined pieces
-  pub fits : length found ≤ MAX_BODY_BYTES
-
--- how the body is delimited of which this is known
-abbrev pub framing_of : Body → Framing
-framing_of (body.Sized size) = Length size
-framing_of (body.Chunks chunks) = Chunked
-
--- what is known of a body was read from the text
-abbrev pub IsBodyKept : List ℕ → Body → Type 0
-IsBodyKept text (body.Sized size) = ⊤
-IsBodyKept text (body.Chunks chunks) = HasChunks text chunks.at chunks.found
-
--- the text begins with no whole body
-abbrev pub HasNoBody : Framing → List ℕ → Type 0
-HasNoBody framing text = (found rest : List ℕ) → ¬ (BeginsBody framing text found rest)
-
--- a body that has not come whole, and has no fault so far
-pub record IsGoing (framing : Framing) (text : List ℕ) (body : Body) : Type 0 where
-  pub none : HasNoBody framing text
-  pub faultless : (fault : WireFault) → ¬ (RefusesBody framing text fault)
-  pub framed : framing ≡ framing_of body
-  pub kept : IsBodyKept text body
-
-abbrev pub IsBodyRead : Framing → List ℕ → BodyRead → Type 0
-IsBodyRead framing text (read.Whole found len) = (len ≤ length text) × BeginsBody framing text found (drop len text)
-IsBodyRead framing text (read.Going body) = IsGoing framing text body
-IsBodyRead framing text (read.Refused fault) = HasNoBody framing text × RefusesBody framing text fault

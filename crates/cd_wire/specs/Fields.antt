@@ -2,8 +2,8 @@
 use Rattle.std.specs.Prelude.{◌≡◌, ℕ, Bool, List, [], ◌∷◌, map, filter}
 use Rattle.std.specs.Str.{bytes_eq}
 use Rattle.cd_wire.specs.declared.fields.Field.{Field}
-use Rattle.cd_wire.specs.declared.fields.Found.{Found}
-use Rattle.cd_wire.specs.declared.fields.Found.TheVariants.{Nothing, One, Several}
+use Rattle.cd_wire.specs.declared.marks.Found.{Found}
+use Rattle.cd_wire.specs.declared.marks.Found.TheVariants.{Nothing, One, Several}
 
 -- the field has that name
 abbrev pub is_named : List ℕ → Field → Bool

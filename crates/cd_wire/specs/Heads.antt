@@ -3,7 +3,9 @@
 use Rattle.std.specs.Prelude.{◌≡◌, ℕ, ◌+◌, ◌≤◌, List, ◌++◌, length, map, take}
 use Rattle.std.specs.Char.{to_ascii_lowercase}
 use Rattle.httparse.specs.Grammar.{RequestHead, print_request, ReadsRequest, MayBecomeRequest}
-use Rattle.httparse.specs.Spans.{name_and_value}
+use Rattle.httparse.specs.declared.spans.HeaderSpan.{HeaderSpan}
+use Rattle.httparse.specs.declared.spans.RequestSpans.{RequestSpans}
+use Rattle.httparse.specs.Spans.{name_and_value, span_bytes, header_bytes}
 use Rattle.cd_wire.specs.declared.limits.TheConstants.{MAX_HEAD_BYTES, MAX_HEAD_FIELDS}
 use Rattle.cd_wire.specs.declared.fields.Field.{Field}
 use Rattle.cd_wire.specs.declared.head.Head.{Head}
@@ -19,6 +21,15 @@ head_of lines = record {
   target = lines.target;
   minor = lines.minor;
   fields = map field_of (map name_and_value lines.fields);
+}
+
+-- the head whose parts the spans cover
+abbrev pub head_at : List ℕ → List HeaderSpan → RequestSpans → Head
+head_at bytes headers spans = record {
+  method = span_bytes bytes spans.method;
+  target = span_bytes bytes spans.path;
+  minor = spans.version;
+  fields = map field_of (map (header_bytes bytes) (take spans.headers headers));
 }
 
 -- the input begins with the lines of this head, within the limits, and then comes this rest

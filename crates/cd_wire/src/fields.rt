@@ -1,29 +1,39 @@
-ghost use Rattle.std.specs.Prelude.{◌≡◌, ℕ, List, [], ◌∷◌, ◌++◌, IfOk};
+ghost use Rattle.std.specs.Prelude.{◌≡◌, IfOk};
 ghost use Rattle.std.specs.Str.{str_eq_ignore_ascii_case};
-ghost use Rattle.cd_wire.specs.Fields.{values, IsFound};
 
-use cd_text::{NoMemory, Octets, Text};
+use crate::lent::Lent;
+use cd_text::NoMemory;
 use std::alloc::Global;
 
-/// A field of a head (RFC 9110, section 5).
+/// A field of a head (RFC 9110, section 5). Its parts are lent, or its own.
 #[derive(Debug, Drop)]
-pub struct Field {
+pub struct Field<'a> {
     /// The name. In a request it is in lower case.
-    pub name: Text,
+    pub name: Lent<'a, u8>,
     /// The value, without white space around it.
-    pub value: Octets,
+    pub value: Lent<'a, u8>,
 }
 
-impl Field {
+impl<'a> Field<'a> {
     /// Whether this is its name, in any case (RFC 9110, section 5.1). It takes no memory.
     pub fn is_called(&self, name: &[u8]) -> bool
         ensures { result ≡ str_eq_ignore_ascii_case self.now.name name.now }
     {
-        self.name.as_str().as_bytes().eq_ignore_ascii_case(name)
+        self.name.as_slice().eq_ignore_ascii_case(name)
     }
 
-    /// A copy.
-    pub fn copy(&self, alloc: Global) -> Result<Field, NoMemory>
+    /// The same field, which this one lends. It takes no memory.
+    pub fn lent(&self) -> Field<'_>
+        ensures { result ≡ self.now }
+    {
+        Field {
+            name: Lent::shared(self.name.as_slice()),
+            value: Lent::shared(self.value.as_slice()),
+        }
+    }
+
+    /// The same field. What is not lent is copied.
+    pub fn copy(&self, alloc: Global) -> Result<Field<'a>, NoMemory>
         ensures { IfOk result (λ made. made ≡ self.now) }
     {
         Ok(Field {
@@ -31,37 +41,4 @@ impl Field {
             value: self.value.copy(alloc)?,
         })
     }
-}
-
-/// How many fields have a name: none, one with its value, or more.
-#[derive(Drop)]
-pub(crate) enum Found<'a> {
-    Nothing,
-    One(&'a [u8]),
-    Several,
-}
-
-// What was found, and then one more value.
-fn one_more<'a>(found: Found<'a>, value: &'a [u8]) -> Found<'a>
-    ensures { (before : List (List ℕ)) → IsFound found.entry before
-        → IsFound result (before ++ value.now ∷ []) }
-{
-    match found {
-        Found::Nothing => Found::One(value),
-        Found::One(_) => Found::Several,
-        Found::Several => Found::Several,
-    }
-}
-
-/// The fields of that name.
-pub(crate) fn find_field<'a>(fields: &'a [Field], name: &str) -> Found<'a>
-    ensures { IsFound result (values name.now fields.now) }
-{
-    let mut found = Found::Nothing;
-    for field in fields {
-        if field.name.equals(name) {
-            found = one_more(found, field.value.as_slice());
-        }
-    }
-    found
 }

@@ -1,15 +1,17 @@
-ghost use Rattle.std.specs.Prelude.{◌≡◌, ◌==◌, ◌≤◌, ◌+◌, [], ◌++◌, length, drop, IfOk, OnErr, if◌then◌else◌, is_ok};
+ghost use Rattle.std.specs.Prelude.{◌≡◌, ◌==◌, ℕ, ◌≤◌, ◌+◌, Bool, List, [], ◌++◌, length, drop, IfOk, OnErr, if◌then◌else◌, is_ok};
 ghost use Rattle.std.specs.Vec.{vec_len, vec_capacity};
 ghost use Rattle.cd_wire.specs.Intake.{IsNext};
+ghost use Rattle.cd_wire.specs.Taking.{IsPause};
 
+use crate::dropped::Dropped;
 use crate::fault::WireFault;
+use crate::limits::MAX_IDLE_BYTES;
 use crate::request::Request;
-use crate::taking::{Known, Taken, no_search, take_request};
-use crate::texts::rest_from;
+use crate::taking::{Known, Pause, Taken, no_search, take_request};
+use crate::texts::{front_of, rest_from};
 use cd_text::NoMemory;
 use std::alloc::Global;
 use std::marker::Model;
-use std::mem;
 
 /// What `Intake::next` finds.
 #[derive(Drop)]
@@ -28,30 +30,34 @@ pub enum Next {
 
 /// The bytes of a connection that have come and that no request has taken yet.
 ///
-/// What was read of the request at their front is kept: its head, and the data of its whole chunks. So bytes that come one by
-/// one are not read again and again. What was taken is dropped: it is never more than what is left.
+/// What was read of the request at their front is kept in its place: the request so far, and the data of its whole chunks. So bytes
+/// that come one by one are not read again and again, and an unfinished body in chunks takes memory for its data alone. The bytes
+/// that were read are dropped: never more lie in the buffer than are left.
 ///
-///     buffer:   taken bytes   bytes that are left
-///               0             start                 buffer.len()
+///     dropped bytes    buffer:   bytes that were read   bytes that are left
+///                                0                      start                 buffer.len()
 #[derive(Drop)]
 pub struct Intake {
     alloc: Global,
     buffer: Vec<u8>,
-    // how many bytes of the buffer requests took: half of it at most
+    // how many bytes of the buffer were read: half of it at most
     start: usize,
-    // what was read of the bytes from `start` on
+    // what was read
     known: Known,
+    // the bytes that `known` was read from, where they are no more left
+    dropped: Dropped,
 }
 
 impl Model for Intake {
-    ghost use Rattle.std.specs.Prelude.{ℕ, List, ◌≤◌, ◌+◌, length, drop};
+    ghost use Rattle.std.specs.Prelude.{ℕ, List, ◌≤◌, ◌+◌, ◌++◌, length, drop};
     ghost use Rattle.cd_wire.specs.Taking.{IsKept};
 
     ghost Value = { List ℕ };
 
-    ghost view = { λ i. drop i.start i.buffer.items };
+    ghost view = { λ i. i.dropped.bytes ++ drop i.start i.buffer.items };
 
-    ghost invariant = { λ i. (i.start + i.start ≤ length i.buffer.items) × IsKept (drop i.start i.buffer.items) i.known };
+    ghost invariant = { λ i. (i.start + i.start ≤ length i.buffer.items)
+        × IsKept i.dropped.bytes (drop i.start i.buffer.items) i.known };
 }
 
 // A buffer of no bytes, for which no memory is taken.
@@ -62,19 +68,47 @@ fn no_bytes(alloc: Global) -> Vec<u8>
     Vec::new(alloc)
 }
 
-// Drops the taken bytes of a buffer where they are more than those that are left, and answers how many it still has.
-fn drop_taken(buffer: &mut Vec<u8>, taken: usize) -> usize
-    requires { taken ≤ vec_len buffer.old }
-    ensures half { result + result ≤ length buffer.new.items }
-    ensures rest { drop result buffer.new.items ≡ drop taken buffer.old.items }
+// Takes all bytes from a buffer, and its memory where that is more than one would keep for the next request.
+fn empty(alloc: Global, buffer: &mut Vec<u8>)
+    ensures { buffer.new.items ≡ [] }
 {
-    let left = buffer.len() - taken;
-    if taken <= left {
-        return taken;
+    if buffer.capacity() > MAX_IDLE_BYTES {
+        *buffer = no_bytes(alloc);
+    } else {
+        buffer.clear();
     }
-    buffer.copy_within(taken.., 0);
+}
+
+// Drops the first bytes of a buffer, so many, where they are more than those that follow, and answers how many it still has.
+fn drop_read(alloc: Global, buffer: &mut Vec<u8>, read: usize) -> usize
+    requires { read ≤ vec_len buffer.old }
+    ensures half { result + result ≤ length buffer.new.items }
+    ensures rest { drop result buffer.new.items ≡ drop read buffer.old.items }
+{
+    let left = buffer.len() - read;
+    if left == 0 {
+        empty(alloc, buffer);
+        return 0;
+    }
+    if read <= left {
+        return read;
+    }
+    buffer.copy_within(read.., 0);
     buffer.truncate(left);
     0
+}
+
+// What `next` returns where no request is taken.
+fn answer(pause: Pause) -> Result<Next, NoMemory>
+    ensures { (input : List ℕ) (ended : Bool) → IsPause input ended pause → IfOk result (IsNext input ended input) }
+{
+    match pause {
+        Pause::More => Ok(Next::More),
+        Pause::End => Ok(Next::End),
+        Pause::Cut => Ok(Next::Cut),
+        Pause::Refused(fault) => Ok(Next::Refused(fault)),
+        Pause::NoMemory => Err(NoMemory),
+    }
 }
 
 impl Intake {
@@ -87,6 +121,7 @@ impl Intake {
             buffer: no_bytes(alloc),
             start: 0,
             known: Known::Search(no_search()),
+            dropped: Dropped::none(),
         }
     }
 
@@ -94,7 +129,10 @@ impl Intake {
     pub fn is_empty(&self) -> bool
         ensures { result ≡ (length self.now == 0) }
     {
-        self.start == self.buffer.len()
+        match self.known {
+            Known::Search(_) => self.start == self.buffer.len(),
+            Known::Front(_) => false,
+        }
     }
 
     /// Appends a piece of the input. At `NoMemory` nothing is changed.
@@ -114,20 +152,17 @@ impl Intake {
         ensures err { OnErr result (self.new ≡ self.old) }
     {
         let rest = rest_from(self.buffer.as_slice(), self.start);
-        let known = mem::replace(&mut self.known, Known::Search(no_search()));
-        let taken = take_request(self.alloc, rest, ended, known)?;
-        match taken {
+        match take_request(self.alloc, rest, ended, &mut self.known) {
             Taken::Request(request, len) => {
-                self.start = drop_taken(&mut self.buffer, self.start + len);
+                self.dropped = Dropped::none();
+                self.start = drop_read(self.alloc, &mut self.buffer, self.start + len);
                 Ok(Next::Request(request))
             }
-            Taken::More(known) => {
-                self.known = known;
-                Ok(Next::More)
+            Taken::None(pause, len) => {
+                self.dropped = self.dropped.and(front_of(rest, len));
+                self.start = drop_read(self.alloc, &mut self.buffer, self.start + len);
+                answer(pause)
             }
-            Taken::End => Ok(Next::End),
-            Taken::Cut => Ok(Next::Cut),
-            Taken::Refused(fault) => Ok(Next::Refused(fault)),
         }
     }
 }

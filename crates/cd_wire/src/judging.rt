@@ -3,15 +3,18 @@ ghost use Rattle.std.specs.Prelude.{◌≡◌, ◌∷◌, [], ◌+◌, min, true
 ghost use Rattle.std.specs.List.{list_all};
 ghost use Rattle.std.specs.Char.{is_ascii_graphic, is_ascii_digit};
 ghost use Rattle.std.specs.Str.Parse.{digits_value};
-ghost use Rattle.cd_wire.specs.Fields.{values};
+ghost use Rattle.cd_wire.specs.Fields.{values, IsFound};
+ghost use Rattle.cd_wire.specs.Marks.{AreMarks};
+ghost use Rattle.cd_wire.specs.declared.fields.Field.{Field as FieldOf};
 ghost use Rattle.cd_wire.specs.Framing.{is_host, sized, framing_by_length, framing_by_codings, framing_by, judge};
 ghost use Rattle.cd_wire.specs.declared.limits.TheConstants.{MAX_BODY_BYTES};
 
 use crate::fault::WireFault;
-use crate::fields::{Field, Found, find_field};
+use crate::fields::Field;
 use crate::framing::Framing;
 use crate::head::Head;
 use crate::limits::MAX_BODY_BYTES;
+use crate::marks::{Found, Marks, listed_marks};
 use crate::targets::is_target;
 use crate::texts::is_text;
 
@@ -22,10 +25,10 @@ fn all_visible(bytes: &[u8]) -> bool
 }
 
 // Whether there are as many Host fields as the version wants, of visible bytes.
-fn is_host(minor: u8, fields: &[Field]) -> bool
-    ensures { result ≡ is_host minor (values (codes "host") fields.now) }
+fn is_host(minor: u8, host: Found<'_>) -> bool
+    ensures { (values : List (List ℕ)) → IsFound host.entry values → result ≡ is_host minor values }
 {
-    match find_field(fields, "host") {
+    match host {
         Found::Nothing => minor == 0,
         Found::One(value) => all_visible(value),
         Found::Several => false,
@@ -72,10 +75,10 @@ fn framing_by_value(value: &[u8]) -> Result<Framing, WireFault>
 }
 
 // By Content-Length alone.
-fn framing_by_length(fields: &[Field]) -> Result<Framing, WireFault>
-    ensures { result ≡ framing_by_length (values (codes "content-length") fields.now) }
+fn framing_by_length(length: Found<'_>) -> Result<Framing, WireFault>
+    ensures { (values : List (List ℕ)) → IsFound length.entry values → result ≡ framing_by_length values }
 {
-    match find_field(fields, "content-length") {
+    match length {
         Found::Nothing => Ok(Framing::Length(0)),
         Found::One(value) => framing_by_value(value),
         Found::Several => Err(WireFault::BadLength),
@@ -96,13 +99,13 @@ fn framing_by_coding(coding: &[u8]) -> Result<Framing, WireFault>
 // Where there is a Transfer-Encoding, which alone gives this framing.
 fn framing_if_alone(
     minor: u8,
-    fields: &[Field],
+    length: Found<'_>,
     alone: Result<Framing, WireFault>,
 ) -> Result<Framing, WireFault>
-    ensures { (coding : List ℕ) (codings : List (List ℕ)) → alone ≡ framing_by_codings coding codings
-        → result ≡ framing_by minor (coding ∷ codings) (values (codes "content-length") fields.now) }
+    ensures { (coding : List ℕ) (codings lengths : List (List ℕ)) → alone ≡ framing_by_codings coding codings
+        → IsFound length.entry lengths → result ≡ framing_by minor (coding ∷ codings) lengths }
 {
-    match find_field(fields, "content-length") {
+    match length {
         Found::Nothing => {
             if minor == 0 {
                 Err(WireFault::BadLength)
@@ -115,28 +118,36 @@ fn framing_if_alone(
     }
 }
 
-fn framing_by(minor: u8, fields: &[Field]) -> Result<Framing, WireFault>
+fn framing_by_marks(minor: u8, marks: &Marks<'_>) -> Result<Framing, WireFault>
+    ensures { (fields : List FieldOf) → AreMarks fields marks.now
+        → result ≡ framing_by minor (values (codes "transfer-encoding") fields) (values (codes "content-length") fields) }
+{
+    match marks.coding {
+        Found::Nothing => framing_by_length(marks.length),
+        Found::One(coding) => framing_if_alone(minor, marks.length, framing_by_coding(coding)),
+        Found::Several => framing_if_alone(minor, marks.length, Err(WireFault::UnknownCoding)),
+    }
+}
+
+/// How a body is delimited after a head of this minor version with these fields, or why it is refused (RFC 9112, section 6).
+pub fn framing_by(minor: u8, fields: &[Field<'_>]) -> Result<Framing, WireFault>
     ensures { result ≡ framing_by minor (values (codes "transfer-encoding") fields.now)
         (values (codes "content-length") fields.now) }
 {
-    match find_field(fields, "transfer-encoding") {
-        Found::Nothing => framing_by_length(fields),
-        Found::One(coding) => framing_if_alone(minor, fields, framing_by_coding(coding)),
-        Found::Several => framing_if_alone(minor, fields, Err(WireFault::UnknownCoding)),
-    }
+    framing_by_marks(minor, &listed_marks(fields))
 }
 
 /// The first fault of the head, or how its body is delimited.
 #[tactic(auto, unfolding(crate::specs::Framing::judge))]
-pub(crate) fn judge(head: &Head) -> Result<Framing, WireFault>
+pub(crate) fn judge(head: &Head, marks: &Marks<'_>) -> Result<Framing, WireFault>
+    requires { AreMarks head.now.fields marks.now }
     ensures { result ≡ judge head.now }
 {
-    let fields = head.fields.as_slice();
-    if !is_target(&head.method, head.target.as_slice()) {
-        Err(WireFault::BadTarget)
-    } else if !is_host(head.minor, fields) {
-        Err(WireFault::BadHost)
-    } else {
-        framing_by(head.minor, fields)
+    if !is_target(head.method(), head.target()) {
+        return Err(WireFault::BadTarget);
     }
+    if !is_host(head.minor(), marks.host) {
+        return Err(WireFault::BadHost);
+    }
+    framing_by_marks(head.minor(), marks)
 }

@@ -15,7 +15,7 @@ ghost use Rattle.cd_wire.specs.declared.request.Request.{Request};
 pub fn limits_are()
     ensures head { MAX_HEAD_BYTES ≡ 16384 }
     ensures fields { MAX_HEAD_FIELDS ≡ 64 }
-    ensures body { MAX_BODY_BYTES ≡ 1048576 }
+    ensures body { MAX_BODY_BYTES ≡ 8388608 }
     ensures chunk_line { MAX_CHUNK_LINE_BYTES ≡ 1024 }
 {}
 

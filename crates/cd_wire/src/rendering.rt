@@ -4,125 +4,17 @@ ghost use Rattle.std.specs.Str.{str_to_ascii_lowercase};
 ghost use Rattle.cd_wire.specs.Render.{has_name, is_sent, by_name, titled, clean_byte, field_line, has_body, status_line, length_line, close_line, phrase_of, reason_of, render};
 
 use crate::answer::Answer;
-use crate::fields::Field;
-use crate::texts::is_text;
+use crate::lines::put_sent_lines;
 use cd_text::{NoMemory, Octets};
 use http::StatusCode;
 use itoa::Buffer;
 use std::alloc::Global;
 
-fn has_name(field: &Field, name: &[u8]) -> bool
-    requires { str_to_ascii_lowercase name.now ≡ name.now }
-    ensures { result ≡ has_name name.now field.now }
-{
-    is_text(field.name.as_str().as_bytes(), name)
-}
-
-fn is_sent(field: &Field) -> bool
-    ensures { result ≡ is_sent field.now }
-{
-    !has_name(field, b"content-length")
-        && !has_name(field, b"connection")
-        && !has_name(field, b"transfer-encoding")
-}
-
-fn sent(alloc: Global, fields: &[Field]) -> Result<Vec<&Field>, NoMemory>
-    ensures { IfOk result (λ sent. map (λ f. f.now) sent.items ≡ filter is_sent fields.now) }
-{
-    let mut sent: Vec<&Field> = Vec::with_capacity(alloc, fields.len())?;
-    for field in fields {
-        if is_sent(field) {
-            sent.push(field)?;
-        }
-    }
-    Ok(sent)
-}
-
-fn by_name(alloc: Global, fields: &[Field]) -> Result<Vec<&Field>, NoMemory>
-    ensures { IfOk result (λ sorted.
-        map (λ f. f.now) sorted.items ≡ by_name (filter is_sent fields.now)) }
-{
-    let mut sorted = sent(alloc, fields)?;
-    sorted.sort_by(|one, other| one.name.cmp(&other.name))?;
-    Ok(sorted)
-}
-
-fn put(out: &mut Vec<u8>, bytes: &[u8]) -> Result<(), NoMemory>
+/// Writes bytes.
+pub(crate) fn put(out: &mut Vec<u8>, bytes: &[u8]) -> Result<(), NoMemory>
     ensures { OnOk result (out.new.items ≡ out.old.items ++ bytes.now) }
 {
     out.extend_from_slice(bytes)?;
-    Ok(())
-}
-
-// Raises the first letter of each word.
-fn title(name: &mut [u8])
-    ensures { name.new ≡ titled true name.old }
-{
-    let mut begins = true;
-    for byte in name.iter_mut() {
-        let ends = *byte == b'-';
-        if begins {
-            *byte = byte.to_ascii_uppercase();
-        }
-        begins = ends;
-    }
-}
-
-// The name is written at once, and changed where it then is: a push for each byte would look for room each time.
-fn put_titled(out: &mut Vec<u8>, name: &[u8]) -> Result<(), NoMemory>
-    ensures { OnOk result (out.new.items ≡ out.old.items ++ titled true name.now) }
-{
-    let start = out.len();
-    put(out, name)?;
-    title(&mut out.as_mut_slice()[start..]);
-    Ok(())
-}
-
-fn clean_byte(byte: u8) -> u8
-    ensures { result ≡ clean_byte byte }
-{
-    if (byte < b' ' && byte != b'\t') || byte == 127 {
-        b' '
-    } else {
-        byte
-    }
-}
-
-fn clean(value: &mut [u8])
-    ensures { value.new ≡ map clean_byte value.old }
-{
-    for byte in value.iter_mut() {
-        *byte = clean_byte(*byte);
-    }
-}
-
-// Like a name, the value is written at once.
-fn put_clean(out: &mut Vec<u8>, value: &[u8]) -> Result<(), NoMemory>
-    ensures { OnOk result (out.new.items ≡ out.old.items ++ map clean_byte value.now) }
-{
-    let start = out.len();
-    put(out, value)?;
-    clean(&mut out.as_mut_slice()[start..]);
-    Ok(())
-}
-
-#[tactic(auto, unfolding(crate::specs::Render::field_line))]
-fn put_field(out: &mut Vec<u8>, field: &Field) -> Result<(), NoMemory>
-    ensures { OnOk result (out.new.items ≡ out.old.items ++ field_line field.now) }
-{
-    put_titled(out, field.name.as_str().as_bytes())?;
-    put(out, b": ")?;
-    put_clean(out, field.value.as_slice())?;
-    put(out, b"\r\n")
-}
-
-fn put_fields(out: &mut Vec<u8>, fields: &[&Field]) -> Result<(), NoMemory>
-    ensures { OnOk result (out.new.items ≡ out.old.items
-        ++ flat_map field_line (map (λ f. f.now) fields.now)) }
-{
-    for field in fields {
-        put_field(out, field)?;
-    }
     Ok(())
 }
 
@@ -140,8 +32,9 @@ fn phrase_of(status: StatusCode) -> &'static str
     status.canonical_reason().unwrap_or("")
 }
 
+/// The phrase that goes with a status (RFC 9110, section 15), and nothing where it has none.
 #[tactic(auto, unfolding(crate::specs::Render::reason_of))]
-fn reason_of(status: u16) -> &'static str
+pub fn reason_of(status: u16) -> &'static str
     ensures { result.now ≡ reason_of status }
 {
     match StatusCode::from_u16(status) {
@@ -168,7 +61,7 @@ fn has_body(status: u16) -> bool
 }
 
 #[tactic(auto, unfolding(crate::specs::Render::length_line))]
-fn put_length(out: &mut Vec<u8>, answer: &Answer) -> Result<(), NoMemory>
+fn put_length(out: &mut Vec<u8>, answer: &Answer<'_>) -> Result<(), NoMemory>
     ensures { OnOk result (out.new.items ≡ out.old.items ++ length_line answer.now) }
 {
     if has_body(answer.status) {
@@ -191,7 +84,7 @@ fn put_close(out: &mut Vec<u8>, close: bool) -> Result<(), NoMemory>
     }
 }
 
-fn put_body(out: &mut Vec<u8>, answer: &Answer, head: bool) -> Result<(), NoMemory>
+fn put_body(out: &mut Vec<u8>, answer: &Answer<'_>, head: bool) -> Result<(), NoMemory>
     ensures { OnOk result (out.new.items ≡ out.old.items
         ++ (if not head && has_body answer.now.status then answer.now.body else [])) }
 {
@@ -203,7 +96,7 @@ fn put_body(out: &mut Vec<u8>, answer: &Answer, head: bool) -> Result<(), NoMemo
 }
 
 // How many bytes an answer with few fields has at most, so that they are written without moving.
-fn usual_len(answer: &Answer, head: bool) -> usize {
+fn usual_len(answer: &Answer<'_>, head: bool) -> usize {
     let room = 512;
     if head {
         room
@@ -218,13 +111,17 @@ fn usual_len(answer: &Answer, head: bool) -> usize {
 /// rising name, and equal names in their order, with each word of a name begun by a capital. `Content-Length` is written
 /// here, but not for 204 and 304, which have no body either, and `Connection: close` where either side closes.
 #[tactic(auto, unfolding(crate::specs::Render::render))]
-pub fn render(alloc: Global, answer: &Answer, head: bool, close: bool) -> Result<Octets, NoMemory>
+pub fn render(
+    alloc: Global,
+    answer: &Answer<'_>,
+    head: bool,
+    close: bool,
+) -> Result<Octets, NoMemory>
     ensures { IfOk result (λ bytes. bytes ≡ render answer.now head close) }
 {
-    let fields = by_name(alloc, answer.fields.as_slice())?;
     let mut out = Vec::with_capacity(alloc, usual_len(answer, head))?;
     put_status(&mut out, answer.status)?;
-    put_fields(&mut out, fields.as_slice())?;
+    put_sent_lines(alloc, &mut out, answer.fields.as_slice())?;
     put_length(&mut out, answer)?;
     put_close(&mut out, answer.close || close)?;
     put(&mut out, b"\r\n")?;

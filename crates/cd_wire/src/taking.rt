@@ -1,29 +1,33 @@
 //! The request at the front of an input: its head, once that has come, and then its body.
-ghost use Rattle.std.specs.Prelude.{◌≡◌, ℕ, ◌≤◌, ◌<◌, ◌+◌, List, [], true, false, nat_lt, length, drop, IfOk};
+ghost use Rattle.std.specs.Prelude.{◌≡◌, ℕ, ◌≤◌, ◌<◌, ◌+◌, Bool, List, [], true, false, nat_lt, length, take, drop, IfOk, OnErr};
+ghost use Rattle.std.specs.List.{list_any};
+ghost use Rattle.cd_wire.specs.Framing.{is_closing, request_of};
 ghost use Rattle.cd_wire.specs.Heads.{BeginsHead};
+ghost use Rattle.cd_wire.specs.Reading.{IsBodyRead};
+ghost use Rattle.cd_wire.specs.Requests.{BeginsRequest, HasNoRequest, EndsInBody};
 ghost use Rattle.cd_wire.specs.Scanning.{scan, is_over};
-ghost use Rattle.cd_wire.specs.Taking.{IsScanned, IsSearch, HasFront, IsKept, IsBegun, IsTaken};
+ghost use Rattle.cd_wire.specs.Taking.{IsScanned, IsSearch, HasFront, IsKept, IsBegun, IsPause, IsTaken};
 ghost use Rattle.cd_wire.specs.declared.scanning.Line.TheVariants as place;
-ghost use Rattle.cd_wire.specs.declared.taking.Known.TheVariants as known;
-ghost use Rattle.cd_wire.specs.declared.taking.Taken.TheVariants as taken;
+ghost use Rattle.cd_wire.specs.declared.taking.Front.{Front};
 
-use crate::asking::request_of;
 use crate::bodies::{Body, BodyRead, read_body, unread};
 use crate::fault::WireFault;
 use crate::head::{Head, HeadRead, read_front};
 use crate::judging::judge;
 use crate::limits::MAX_HEAD_BYTES;
-use crate::request::Request;
+use crate::request::{Request, request_of};
 use crate::scanning::{Line, Scanned, is_over, scan_on};
 use crate::texts::rest_from;
-use cd_text::NoMemory;
+use cd_text::{NoMemory, Octets};
 use std::alloc::Global;
+use std::mem;
 
-/// The head at the front of an input, which is not refused: how many bytes it has, and what is known of its body.
+/// A request whose head was read and is not refused, and what is known of its body.
 #[derive(Drop)]
 pub(crate) struct Front {
-    pub head: Head,
-    pub len: usize,
+    /// The request without its body.
+    pub request: Request,
+    /// Its body so far.
     pub body: Body,
 }
 
@@ -45,23 +49,37 @@ pub(crate) enum Known {
     Front(Front),
 }
 
-// What an input begins with: a head that is not refused, or why there is none.
+// What an input begins with: a head that is not refused, whether one of its fields closes the connection, a body of which nothing
+// was read, and the length of the head; or why there is none.
 #[derive(Drop)]
 pub(crate) enum Begun {
-    Front(Front),
+    Head(Head, bool, Body, usize),
     More(Search),
     End,
     Refused(WireFault),
 }
 
-/// What an input begins with: a request and how many bytes it has, or why there is none.
+/// Why no request is taken.
+#[derive(Drop)]
+pub(crate) enum Pause {
+    /// It has not come whole.
+    More,
+    /// The input ended before it began.
+    End,
+    /// The input ended in its body.
+    Cut,
+    /// What follows is refused.
+    Refused(WireFault),
+    /// Out of memory.
+    NoMemory,
+}
+
+/// What an input goes on with: a request and how many of the bytes that are left it has; or why there is none, and how many of
+/// these bytes were read and need not be kept.
 #[derive(Drop)]
 pub(crate) enum Taken {
     Request(Request, usize),
-    More(Known),
-    End,
-    Cut,
-    Refused(WireFault),
+    None(Pause, usize),
 }
 
 /// Nothing was looked for yet.
@@ -83,13 +101,11 @@ fn judged(alloc: Global, bytes: &[u8], ended: bool, head: Head, len: usize) -> B
     requires begins { BeginsHead bytes.now head (drop len bytes.now) }
     ensures { IsBegun bytes.now ended result }
 {
-    match judge(&head) {
+    let marks = head.marks();
+    let closing = marks.closing;
+    match judge(&head, &marks) {
         Err(fault) => Begun::Refused(fault),
-        Ok(framing) => Begun::Front(Front {
-            head,
-            len,
-            body: unread(alloc, framing),
-        }),
+        Ok(framing) => Begun::Head(head, closing, unread(alloc, framing), len),
     }
 }
 
@@ -172,61 +188,170 @@ fn search_on(alloc: Global, bytes: &[u8], ended: bool, search: Search) -> Result
     Ok(without_head(bytes, ended, Search { scanned, parsed }))
 }
 
-// The head at the front of an input of which this is known.
-fn find_front(alloc: Global, bytes: &[u8], ended: bool, known: Known) -> Result<Begun, NoMemory>
-    requires { IsKept bytes.now known }
-    ensures { IfOk result (IsBegun bytes.now ended) }
+// Why a request stops in its body.
+fn cut_or_more(ended: bool) -> Pause
+    ensures { (input : List ℕ) → HasNoRequest input → EndsInBody input → IsPause input ended result }
 {
-    match known {
-        Known::Search(search) => search_on(alloc, bytes, ended, search),
-        Known::Front(front) => Ok(Begun::Front(front)),
+    if ended { Pause::Cut } else { Pause::More }
+}
+
+// Takes the request out of what is known, and gives it its body. Nothing is known of what follows.
+fn take_out(known: &mut Known, body: Octets) -> Request
+    requires { (front : Front) × (known.old ≡ Known.Front front) }
+    ensures request { (front : Front) → known.old ≡ Known.Front front
+        → result ≡ record front.request { body = body } }
+    ensures known { (input : List ℕ) → IsKept [] input known.new }
+{
+    match mem::replace(known, Known::Search(no_search())) {
+        Known::Front(front) => front.request.with_body(body),
+        Known::Search(_) => unreachable!(),
     }
 }
 
-// An input that ends in a body.
-fn cut_or_more(ended: bool, front: Front) -> Taken
-    ensures cut { ended ≡ true → result ≡ taken.Cut }
-    ensures more { ended ≡ false → result ≡ taken.More (known.Front front) }
+// The request of a head that was just read, whose body came whole.
+fn take_whole(
+    alloc: Global,
+    head: Head,
+    closing: bool,
+    body: Octets,
+    len: usize,
+    known: &mut Known,
+) -> Taken
+    requires { closing ≡ list_any is_closing head.fields }
+    ensures { (input : List ℕ) (ended : Bool) → len ≤ length input
+        → BeginsRequest input (request_of head body) (drop len input) → IsKept [] input known.old
+        → IsTaken [] input ended known.new result }
 {
-    if ended {
-        Taken::Cut
-    } else {
-        Taken::More(Known::Front(front))
-    }
-}
-
-// The request of a head, as far as its body has come.
-fn take_front(alloc: Global, bytes: &[u8], ended: bool, front: Front) -> Result<Taken, NoMemory>
-    requires { HasFront bytes.now front }
-    ensures { IfOk result (IsTaken bytes.now ended) }
-{
-    let Front { head, len, body } = front;
-    let read = read_body(alloc, rest_from(bytes, len), body)?;
-    match read {
-        BodyRead::Whole(body, size) => {
-            let request = request_of(alloc, head, body)?;
-            Ok(Taken::Request(request, len + size))
+    match request_of(alloc, head, closing, body) {
+        Ok(request) => {
+            *known = Known::Search(no_search());
+            Taken::Request(request, len)
         }
-        BodyRead::Going(body) => Ok(cut_or_more(ended, Front { head, len, body })),
-        BodyRead::Refused(fault) => Ok(Taken::Refused(fault)),
+        Err(_) => Taken::None(Pause::NoMemory, 0),
     }
 }
 
-/// The request at the front of an input of which this is known.
-pub(crate) fn take_request(
+// The request of a head that was just read, whose body goes on.
+fn keep_front(
+    alloc: Global,
+    head: Head,
+    closing: bool,
+    body: Body,
+    pause: Pause,
+    len: usize,
+    known: &mut Known,
+) -> Taken
+    requires { closing ≡ list_any is_closing head.fields }
+    ensures { (input : List ℕ) (ended : Bool) → len ≤ length input → IsPause input ended pause
+        → HasFront (take len input) (record { request = request_of head []; body = body })
+        → IsKept [] input known.old → IsTaken [] input ended known.new result }
+{
+    match request_of(alloc, head, closing, Octets::new(alloc)) {
+        Ok(request) => {
+            *known = Known::Front(Front { request, body });
+            Taken::None(pause, len)
+        }
+        Err(_) => Taken::None(Pause::NoMemory, 0),
+    }
+}
+
+// The same of a head that was just read, as far as its body has come after it.
+fn take_new(
     alloc: Global,
     bytes: &[u8],
+    start: usize,
     ended: bool,
-    known: Known,
-) -> Result<Taken, NoMemory>
-    requires { IsKept bytes.now known }
-    ensures { IfOk result (IsTaken bytes.now ended) }
+    head: Head,
+    closing: bool,
+    body: Body,
+    known: &mut Known,
+) -> Taken
+    requires begun { IsBegun bytes.now ended (Begun.Head head closing body start) }
+    requires kept { IsKept [] bytes.now known.old }
+    ensures { IsTaken [] bytes.now ended known.new result }
 {
-    let begun = find_front(alloc, bytes, ended, known)?;
-    match begun {
-        Begun::Front(front) => take_front(alloc, bytes, ended, front),
-        Begun::More(search) => Ok(Taken::More(Known::Search(search))),
-        Begun::End => Ok(Taken::End),
-        Begun::Refused(fault) => Ok(Taken::Refused(fault)),
+    let mut body = body;
+    match read_body(alloc, rest_from(bytes, start), &mut body) {
+        Ok(BodyRead::Whole(found, len)) => take_whole(
+            alloc,
+            head,
+            closing,
+            found,
+            start + len,
+            known,
+        ),
+        Ok(BodyRead::Going(len)) => {
+            keep_front(
+                alloc,
+                head,
+                closing,
+                body,
+                cut_or_more(ended),
+                start + len,
+                known,
+            )
+        }
+        Ok(BodyRead::Refused(fault)) => Taken::None(Pause::Refused(fault), 0),
+        Err(_) => Taken::None(Pause::NoMemory, 0),
     }
+}
+
+// The request at the front of an input, whose head was looked for so far.
+fn take_first(alloc: Global, bytes: &[u8], ended: bool, search: Search, known: &mut Known) -> Taken
+    requires search { IsSearch bytes.now search }
+    requires kept { IsKept [] bytes.now known.old }
+    ensures { IsTaken [] bytes.now ended known.new result }
+{
+    match search_on(alloc, bytes, ended, search) {
+        Ok(Begun::Head(head, closing, body, len)) => {
+            take_new(alloc, bytes, len, ended, head, closing, body, known)
+        }
+        Ok(Begun::More(search)) => {
+            *known = Known::Search(search);
+            Taken::None(Pause::More, 0)
+        }
+        Ok(Begun::End) => Taken::None(Pause::End, 0),
+        Ok(Begun::Refused(fault)) => Taken::None(Pause::Refused(fault), 0),
+        Err(_) => Taken::None(Pause::NoMemory, 0),
+    }
+}
+
+// Reads on in the body of a request.
+fn read_on(alloc: Global, bytes: &[u8], front: &mut Front) -> Result<BodyRead, NoMemory>
+    requires { (before : List ℕ) × HasFront before front.old }
+    ensures request { front.new.request ≡ front.old.request }
+    ensures ok { IfOk result (IsBodyRead front.old.body bytes.now front.new.body) }
+    ensures err { OnErr result (front.new.body ≡ front.old.body) }
+{
+    read_body(alloc, bytes, &mut front.body)
+}
+
+// The request whose head was read before, as far as its body has come.
+fn take_next(alloc: Global, bytes: &[u8], ended: bool, known: &mut Known) -> Taken
+    requires { (before : List ℕ) × (front : Front) × (known.old ≡ Known.Front front) × HasFront before front }
+    ensures { (before : List ℕ) → IsKept before bytes.now known.old
+        → IsTaken before bytes.now ended known.new result }
+{
+    let Known::Front(front) = known else {
+        unreachable!()
+    };
+    match read_on(alloc, bytes, front) {
+        Ok(BodyRead::Whole(found, len)) => Taken::Request(take_out(known, found), len),
+        Ok(BodyRead::Going(len)) => Taken::None(cut_or_more(ended), len),
+        Ok(BodyRead::Refused(fault)) => Taken::None(Pause::Refused(fault), 0),
+        Err(_) => Taken::None(Pause::NoMemory, 0),
+    }
+}
+
+/// The request at the front of an input, of which this is known and these bytes are left.
+pub(crate) fn take_request(alloc: Global, bytes: &[u8], ended: bool, known: &mut Known) -> Taken
+    requires { (before : List ℕ) × IsKept before bytes.now known.old }
+    ensures { (before : List ℕ) → IsKept before bytes.now known.old
+        → IsTaken before bytes.now ended known.new result }
+{
+    if let Known::Search(search) = known {
+        let search = *search;
+        return take_first(alloc, bytes, ended, search, known);
+    }
+    take_next(alloc, bytes, ended, known)
 }

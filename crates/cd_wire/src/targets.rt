@@ -5,7 +5,7 @@ ghost use Rattle.std.specs.Option.{option_copied};
 ghost use Rattle.cd_wire.specs.Targets.{is_question_mark, is_target_byte, scheme_length, has_scheme, ends_authority, authority_of, local_part, raw_path, query_of, has_form, is_target};
 
 use crate::texts::is_text;
-use cd_text::{Text, escapes_are_whole};
+use cd_text::escapes_are_whole;
 
 /// Whether the target begins with `http://`.
 pub fn has_scheme(target: &[u8]) -> bool
@@ -85,16 +85,16 @@ fn all_target_bytes(target: &[u8]) -> bool
         .all(|byte| byte.is_ascii_graphic() && *byte != b'#')
 }
 
-fn has_form(method: &Text, target: &[u8]) -> bool
+fn has_form(method: &[u8], target: &[u8]) -> bool
     ensures { result ≡ has_form method.now target.now }
 {
     target.starts_with(b"/")
         || (has_scheme(target) && !authority_of(target).is_empty())
-        || (target == b"*".as_slice() && method.equals("OPTIONS"))
+        || (target == b"*".as_slice() && method == b"OPTIONS".as_slice())
 }
 
 /// Whether a request with this method may have the target.
-pub(crate) fn is_target(method: &Text, target: &[u8]) -> bool
+pub(crate) fn is_target(method: &[u8], target: &[u8]) -> bool
     ensures { result ≡ is_target method.now target.now }
 {
     all_target_bytes(target) && has_form(method, target) && escapes_are_whole(raw_path(target))

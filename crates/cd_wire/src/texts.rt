@@ -3,16 +3,16 @@ ghost use Rattle.std.specs.Prelude.{◌≡◌, ◌≤◌, length, take, drop, re
 ghost use Rattle.std.specs.Str.{bytes_eq, str_to_ascii_lowercase};
 ghost use Rattle.httparse.specs.Grammar.{is_ows, skip_ows, trim_ows};
 
-/// What stands from a place on.
-pub(crate) fn rest_from(bytes: &[u8], at: usize) -> &[u8]
+/// The bytes from a place on, which is inside the text or at its end.
+pub fn rest_from(bytes: &[u8], at: usize) -> &[u8]
     requires { at ≤ length bytes.now }
     ensures { result.now ≡ drop at bytes.now }
 {
     &bytes[at..]
 }
 
-/// The first bytes of the text, so many at most.
-pub(crate) fn front_of(text: &[u8], most: usize) -> &[u8]
+/// The first bytes of a text, so many at most.
+pub fn front_of(text: &[u8], most: usize) -> &[u8]
     ensures value { result.now ≡ take most text.now }
     ensures short { length result.now ≤ most }
     ensures within { length result.now ≤ length text.now }
@@ -24,8 +24,8 @@ pub(crate) fn front_of(text: &[u8], most: usize) -> &[u8]
     }
 }
 
-/// Whether the bytes are this text of lower case, in any case.
-pub(crate) fn is_text(bytes: &[u8], text: &[u8]) -> bool
+/// Whether the bytes are this text of lower case, in any case of ASCII.
+pub fn is_text(bytes: &[u8], text: &[u8]) -> bool
     requires { str_to_ascii_lowercase text.now ≡ text.now }
     ensures { result ≡ bytes_eq (str_to_ascii_lowercase bytes.now) text.now }
 {
@@ -60,9 +60,9 @@ fn trimmed_back(mut bytes: &[u8]) -> &[u8]
     bytes
 }
 
-/// The bytes without the spaces and tabs around them.
+/// The bytes without the spaces and tabs around them (RFC 9110, section 5.6.3).
 #[tactic(auto, unfolding(httparse::specs::Grammar::trim_ows))]
-pub(crate) fn trimmed(bytes: &[u8]) -> &[u8]
+pub fn trimmed(bytes: &[u8]) -> &[u8]
     ensures { result.now ≡ trim_ows bytes.now }
 {
     trimmed_back(trimmed_front(bytes))

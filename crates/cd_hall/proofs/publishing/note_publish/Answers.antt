@@ -44,13 +44,13 @@ publish-requires-clause-change g c κs within =
 pub add-requires-clause-board : goal.add-requires-clause-board
 add-requires-clause-board g c =
     said (λ d way. Stood g.F.Fixtures.calls g.F.Fixtures.faults g.M.ModuleSet.plan g.M.ModuleSet.change (opening_of c.args.gate.now) c.publish.new.self ((view c.args.pass.now).seen ++ signed (view c.args.pass.now).number (Publish d (c.args.serial + 1) c.args.serial way) ∷ []))
-    c.args.draft.left.number c.of-drafted.result.value.left.number c.args.change c.of-asked.result.value (ap (λ z. z.left.number) c.of-drafted.ensures) c.of-asked.ensures
+    c.args.draft.left.number c.number-drafted.result c.args.change c.of-asked.result.value c.number-drafted.ensures c.of-asked.ensures
     (stands_on g.F.Fixtures.calls g.F.Fixtures.faults g.M.ModuleSet.plan g.M.ModuleSet.change c.args.gate.now c.args.turn.now c.args.pass.now c.requires.turn c.publish.new.self (Publish c.args.draft.left.number (c.args.serial + 1) c.args.serial c.args.change) c.publish.ensures.entry)
 
 pub add-requires-clause-may : goal.add-requires-clause-may
 add-requires-clause-may g c =
     said (λ d way. may_note (view c.args.pass.now) (Publish d (c.args.serial + 1) c.args.serial way) ≡ true)
-    c.args.draft.left.number c.of-drafted.result.value.left.number c.args.change c.of-asked.result.value (ap (λ z. z.left.number) c.of-drafted.ensures) c.of-asked.ensures
+    c.args.draft.left.number c.number-drafted.result c.args.change c.of-asked.result.value c.number-drafted.ensures c.of-asked.ensures
     (may_publish (view c.args.pass.now) c.args.draft.left.number (c.args.serial + 1) c.args.serial c.args.change
     (allows g.F.Fixtures.calls g.F.Fixtures.faults g.M.ModuleSet.plan g.M.ModuleSet.change c.args.gate.now c.args.turn.now c.args.pass.now c.requires.turn c.publish.new.self (Publish c.args.draft.left.number (c.args.serial + 1) c.args.serial c.args.change) c.publish.ensures.entry)
     c.requires.draft.own c.requires.room)
@@ -58,4 +58,4 @@ add-requires-clause-may g c =
 pub returns-clause-seen : goal.returns-clause-seen
 returns-clause-seen g c =
     said (λ d way. view c.add.new.pass ≡ noted (view c.args.pass.now) (Publish d (c.args.serial + 1) c.args.serial way))
-    c.of-drafted.result.value.left.number c.args.draft.left.number c.of-asked.result.value c.args.change (sym (ap (λ z. z.left.number) c.of-drafted.ensures)) (sym c.of-asked.ensures) c.add.ensures.seen
+    c.number-drafted.result c.args.draft.left.number c.of-asked.result.value c.args.change (sym c.number-drafted.ensures) (sym c.of-asked.ensures) c.add.ensures.seen

@@ -1,4 +1,5 @@
-use Rattle.std.proofs.Common.{◌≡◌, ◌≤◌, ◌-◌, ◌++◌, length, option_map}
+use Rattle.std.proofs.Common.{◌≡◌, ◌≤◌, ◌+◌, ◌-◌, ◌++◌, length, option_map}
+use Rattle.cd_tree.specs.declared.limits.TheConstants.{MAX_TEXT_BYTES}
 use Rattle.cd_program.proofs.config.read_config.Given as goal
 
 abbrev pub invariant-loop-buffer : goal.invariant-loop-buffer
@@ -8,4 +9,4 @@ invariant-loop-buffer g l = record {
 }
 
 abbrev pub decreases-loop-buffer : goal.decreases-loop-buffer
-decreases-loop-buffer g l = 1048577 - length l.bytes
+decreases-loop-buffer g l = MAX_TEXT_BYTES + 1 - length l.bytes

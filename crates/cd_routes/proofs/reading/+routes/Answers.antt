@@ -85,5 +85,5 @@ read_each_route-loop-place-preserved t c =
     let is : c.item-item.result ≡ get_or c.args.items.now c.loop-place.place c.item-item.result = c.item-item.is ∙ ap (λ z. get_or z c.loop-place.place c.item-item.result) e in
     rw c.in_ok-push.ensures.ok
     (each_step (route routes) c.loop-place.place c.args.items.now c.args.at.now c.loop-place.found c.item-item.result c.in_ok-read_route.field-0 within is
-    (ap (route routes c.item-item.result) (sym c.in_ok-here.ensures) ∙ c.in_ok-read_route.ensures)
+    (ap (route routes c.item-item.result) (sym c.element-here.ensures) ∙ c.in_ok-read_route.ensures)
     ∙ c.loop-place.invariant)

@@ -4,7 +4,4 @@ use Rattle.cd_standard.specs.Plans.{app_modules}
 use Rattle.cd_standard.proofs.planning.add_apps.Given as goal
 
 abbrev pub invariant-loop-app : goal.invariant-loop-app
-invariant-loop-app l = record {
-  added : l.out ++ flat_map (app_modules l.at) (drop l.app-index l.apps) ≡ l.initial.out ++ flat_map (app_modules l.initial.at) l.apps;
-  path : l.at ≡ l.initial.at;
-}
+invariant-loop-app l = l.out ++ flat_map (app_modules l.at) (drop l.app-index l.apps) ≡ l.initial.out ++ flat_map (app_modules l.at) l.apps

@@ -7,20 +7,20 @@ use Rattle.cd_standard.proofs.Adding.{members_done, module_and_inside}
 use Rattle.cd_standard.proofs.Levels.{matcher_modules_is, set_modules_is}
 use Rattle.cd_standard.proofs.walking.+adding_matchers.Goals as goal
 
-pub add_matcher-returns-clause-added : goal.add_matcher-returns-clause-added
-add_matcher-returns-clause-added t c =
+pub add_matcher-returns : goal.add_matcher-returns
+add_matcher-returns t c =
     let m = c.args.matcher.now in
     let at = c.args.at.now in
     let is = c.name-name.ensures in
-    module_and_inside (in_matcher m) _ _ _ _ _ _ _ c.in_ok-add_module.ensures c.in_ok-add_inside.ensures.added
+    module_and_inside (in_matcher m) _ _ _ _ _ _ _ c.in_ok-add_module.ensures c.in_ok-add_inside.ensures
     (c.in_ok-module_id.ensures ∙ ap matcher_id is)
-    (c.in_ok-enter.ensures ∙ ap (λ n. at ▸ n) is)
+    (c.member-here.ensures ∙ ap (λ n. at ▸ n) is)
     ∙ ap (λ r. c.args.out.now ++ r) (sym (matcher_modules_is m at))
 
-pub add_set-returns-clause-added : goal.add_set-returns-clause-added
-add_set-returns-clause-added t c =
+pub add_set-returns : goal.add_set-returns
+add_set-returns t c =
     let s = c.args.set.now in
     let at = c.args.at.now in
-    members_done (λ m. matcher_modules m c.loop-matcher.at) c.as_slice-matcher-items.result.now c.loop-matcher.matcher-index _ _ (omega (arith, c.loop-matcher-test.false)) c.loop-matcher.invariant.added
+    members_done (λ m. matcher_modules m at) c.as_slice-matcher-items.result.now c.loop-matcher.matcher-index _ _ (omega (arith, c.loop-matcher-test.false)) c.loop-matcher.invariant
     ∙ ap (λ ms. c.args.out.now ++ flat_map (λ m. matcher_modules m at) ms) c.as_slice-matcher-items.ensures
     ∙ ap (λ r. c.args.out.now ++ r) (sym (set_modules_is s at))

@@ -7,29 +7,29 @@ use Rattle.cd_standard.specs.Walking.{in_subroute}
 use Rattle.cd_standard.proofs.Levels.{route_modules_is, handler_step, subroute_step}
 use Rattle.cd_standard.proofs.walking.+adding_routes.Goals as goal
 
-pub add_route-returns-clause-added : goal.add_route-returns-clause-added
-add_route-returns-clause-added t c =
+pub add_route-returns : goal.add_route-returns
+add_route-returns t c =
     let r = c.args.route.now in
     let at = c.args.at.now in
     two_added (λ p. in_elements 0 (map set_modules c.as_slice.result.now) (p ▸ codes "match")) (λ p. in_elements 0 (map step_modules c.as_slice-2.result.now) (p ▸ codes "handle"))
-    _ _ _ at _ c.in_ok-add_match.ensures.added c.in_ok-add_match.ensures.path c.in_ok-add_handle.ensures.added
+    _ _ _ at at c.in_ok-add_match.ensures refl c.in_ok-add_handle.ensures
     ∙ ap₂ (λ sets steps. c.args.out.now ++ (in_elements 0 (map set_modules sets) (at ▸ codes "match") ++ in_elements 0 (map step_modules steps) (at ▸ codes "handle"))) c.as_slice.ensures c.as_slice-2.ensures
     ∙ ap (λ all. c.args.out.now ++ all) (sym (route_modules_is r at))
 
-pub add_step-returns-in-Handler-clause-added : goal.add_step-returns-in-Handler-clause-added
-add_step-returns-in-Handler-clause-added t c =
+pub add_step-returns-in-Handler : goal.add_step-returns-in-Handler
+add_step-returns-in-Handler t c =
     let s = c.args.step.now in
     let at = c.args.at.now in
     c.in_ok-add_module.ensures
     ∙ ap (λ id. c.args.out.now ++ (planned id at ∷ [])) (c.in_ok-module_id.ensures ∙ ap handler_id c.name.ensures)
     ∙ ap (λ all. c.args.out.now ++ all) (handler_step s c.in-Handler.field-0 at c.in-Handler.is)
 
-pub add_step-returns-in-Subroute-clause-added : goal.add_step-returns-in-Subroute-clause-added
-add_step-returns-in-Subroute-clause-added t c =
+pub add_step-returns-in-Subroute : goal.add_step-returns-in-Subroute
+add_step-returns-in-Subroute t c =
     let s = c.args.step.now in
     let at = c.args.at.now in
     let inside = c.in-Subroute.inside in
     let whole = module_and_inside (in_subroute inside) c.args.out.now c.add_module.new.out (c.add_module.new.out ++ in_subroute inside at) _ _ at at c.in_ok-add_module.ensures refl
     (c.in_ok-module_id.ensures ∙ ap handler_id c.name.ensures) refl
     ∙ ap (λ all. c.args.out.now ++ all) (subroute_step s inside at c.in-Subroute.is) in
-    subst (λ (all : List PlanModule). OnOk c.add_inside_subroute.result (c.add_inside_subroute.new.out ≡ all)) whole c.add_inside_subroute.ensures.added
+    subst (λ (all : List PlanModule). OnOk c.add_inside_subroute.result (c.add_inside_subroute.new.out ≡ all)) whole c.add_inside_subroute.ensures

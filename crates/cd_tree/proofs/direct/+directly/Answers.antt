@@ -80,16 +80,22 @@ tree_directly-returns-in_ok-ok-in-String t c =
     let seen : value_view c.args.value.now ≡ raw.string c.in-String.text.now = rw c.in-String.is (search (rules, the_lemmas)) in
     subst (λ (j : raw.Json). IsTreeOf c.args.levels j (tree.Text made)) (ap raw.string same ∙ sym seen) (of_text c.args.levels made)
 
-pub tree_directly-returns-in_ok-items_directly-in-Array : goal.tree_directly-returns-in_ok-items_directly-in-Array
-tree_directly-returns-in_ok-items_directly-in-Array t c =
-    let found = c.in_ok-items_directly-in-Array.field-0 in
+pub tree_directly-returns-in_ok-ok-in-Array : goal.tree_directly-returns-in_ok-ok-in-Array
+tree_directly-returns-in_ok-ok-in-Array t c =
+    let found = c.in_ok-found-in-Array.found in
+    let made = c.in_ok-ok-in-Array.field-0 in
+    let same : made ≡ found = search rules in
     let values = items_view c.in-Array.items.items in
     let seen : value_view c.args.value.now ≡ raw.array values = ap value_view c.in-Array.is ∙ view-Array c.in-Array.items in
-    subst (λ (j : raw.Json). IsTreeOf c.args.levels j (Items found)) (sym seen) (of_array c.args.levels values found (omega arith) c.in_ok-items_directly-in-Array.ensures)
+    let shared : IsTreeOf c.args.levels (raw.array values) (Items found) = of_array c.args.levels values found (omega arith) c.in_ok-found-in-Array.ensures in
+    subst (λ (j : raw.Json). IsTreeOf c.args.levels j (Items made)) (sym seen) (subst (λ (ts : List Tree). IsTreeOf c.args.levels (raw.array values) (Items ts)) (sym same) shared)
 
-pub tree_directly-returns-in_ok-members_directly-in-Object : goal.tree_directly-returns-in_ok-members_directly-in-Object
-tree_directly-returns-in_ok-members_directly-in-Object t c =
-    let found = c.in_ok-members_directly-in-Object.field-0 in
+pub tree_directly-returns-in_ok-ok-in-Object : goal.tree_directly-returns-in_ok-ok-in-Object
+tree_directly-returns-in_ok-ok-in-Object t c =
+    let found = c.in_ok-found-in-Object.found in
+    let made = c.in_ok-ok-in-Object.field-0 in
+    let same : made ≡ found = search rules in
     let values = members_view c.in-Object.members.items in
     let seen : value_view c.args.value.now ≡ raw.object values = ap value_view c.in-Object.is ∙ view-Object c.in-Object.members in
-    subst (λ (j : raw.Json). IsTreeOf c.args.levels j (Object found)) (sym seen) (of_object c.args.levels values found (omega arith) c.in_ok-members_directly-in-Object.ensures)
+    let shared : IsTreeOf c.args.levels (raw.object values) (Object found) = of_object c.args.levels values found (omega arith) c.in_ok-found-in-Object.ensures in
+    subst (λ (j : raw.Json). IsTreeOf c.args.levels j (Object made)) (sym seen) (subst (λ (ms : List Member). IsTreeOf c.args.levels (raw.object values) (Object ms)) (sym same) shared)

@@ -10,9 +10,10 @@ returns-in-Err c =
     )
 
 pub returns-in-Ok : goal.returns-in-Ok
-returns-in-Ok c = record {
-  within = c.requires.within;
-  begins = c.requires.begins;
-  judged = sym c.judge.ensures ∙ c.in-Ok.is ∙ ap Ok c.unread.ensures.framing;
-  kept = c.unread.ensures.kept (drop c.args.len c.args.bytes.now);
-}
+returns-in-Ok c = (
+  c.requires.within,
+  c.requires.begins,
+  sym c.judge.ensures ∙ c.in-Ok.is ∙ ap Ok c.unread.ensures.framing,
+  c.unread.ensures.kept,
+  c.marks-marks.ensures.closing,
+)

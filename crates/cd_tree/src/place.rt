@@ -1,0 +1,59 @@
+ghost use Rattle.std.specs.Prelude.{◌≡◌, [], decimal, IfOk};
+ghost use Rattle.cd_tree.specs.Path.{◌▸◌};
+
+use crate::path::Path;
+use crate::way::{Way, to_path};
+use cd_text::NoMemory;
+use std::alloc::Global;
+use std::marker::Model;
+
+/// Where a value is in a tree, for a reader that goes down in it. Each part is borrowed from the reader that went that way, so
+/// a place takes no memory. Contracts see it as the path.
+#[derive(Drop)]
+pub struct Place<'a> {
+    way: Way<'a>,
+}
+
+impl<'a> Model for Place<'a> {
+    ghost use Rattle.cd_tree.specs.declared.path.Path.{Path};
+
+    ghost Value = { Path };
+
+    ghost use Rattle.cd_tree.specs.Way.{path_of};
+
+    ghost view = { λ place. path_of place.way };
+}
+
+impl<'a> Place<'a> {
+    /// The place of the tree itself.
+    pub fn top() -> Place<'a>
+        ensures { result.parts ≡ [] }
+    {
+        Place { way: Way::Top }
+    }
+
+    /// The place of a member of the value that is here.
+    pub fn member<'b>(&'b self, name: &'b str) -> Place<'b>
+        ensures { result ≡ self.now ▸ name.now }
+    {
+        Place {
+            way: Way::member(&self.way, name),
+        }
+    }
+
+    /// The place of an element of the list that is here, counted from 0.
+    pub fn element<'b>(&'b self, place: usize) -> Place<'b>
+        ensures { result ≡ self.now ▸ decimal place }
+    {
+        Place {
+            way: Way::element(&self.way, place),
+        }
+    }
+
+    /// The path to this place, which outlasts it.
+    pub fn to_path(&self, alloc: Global) -> Result<Path, NoMemory>
+        ensures { IfOk result (λ path. path ≡ self.now) }
+    {
+        to_path(alloc, &self.way)
+    }
+}

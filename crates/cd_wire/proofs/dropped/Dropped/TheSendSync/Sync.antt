@@ -1,0 +1,6 @@
+-- Nor is there anything that threads could share.
+use denote.Param.Send.{IsSync, owning_send, part_keyless}
+use Rattle.cd_wire.specs.contracts.dropped.Dropped.{the_row, the_type}
+
+pub sync : IsSync the_row
+sync = record { shared = λ d b o κ q. part_keyless the_row (owning_send the_type tt (λ d. tt) (λ k x w. tt)) q d b o }

@@ -1,0 +1,8 @@
+use Rattle.std.proofs.Common.{◌≡◌, ◌≤◌, take, map, filter}
+use Rattle.cd_wire.specs.Lines.{line_field}
+use Rattle.cd_wire.specs.Render.{is_sent}
+use Rattle.cd_wire.proofs.lines.fill_sent.Given as goal
+
+abbrev pub invariant-loop-field : goal.invariant-loop-field
+invariant-loop-field l =
+    (l.count ≤ l.field-index) × (map line_field (take l.count l.lines) ≡ filter is_sent (take l.field-index l.fields))
