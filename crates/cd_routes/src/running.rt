@@ -336,11 +336,7 @@ fn advance<'r>(
 
 // Does all that is to be done. It calls itself at a subroute with errors alone.
 #[cycle(run)]
-fn run<'r>(
-    alloc: Global,
-    work: Vec<Work<'r>>,
-    scene: Scene<'r>,
-) -> Result<Outcome<'r>, NoMemory>
+fn run<'r>(alloc: Global, work: Vec<Work<'r>>, scene: Scene<'r>) -> Result<Outcome<'r>, NoMemory>
     ensures { IfOk result (λ outcome. outcome ≡ done work.entry.items scene.entry) }
 {
     let mut left = List::new(alloc);

@@ -24,7 +24,13 @@ pub fn tree_with(alloc: Global, routes: List<Tree>) -> Result<Tree, NoMemory>
     ensures { IfOk result (λ made. made ≡ tree_with routes) }
 {
     let listen = list_of(alloc, text(alloc, ":8080")?)?;
-    let server = double(alloc, "listen", listen, "routes", Tree::Items(Shared::new(alloc, routes)?))?;
+    let server = double(
+        alloc,
+        "listen",
+        listen,
+        "routes",
+        Tree::Items(Shared::new(alloc, routes)?),
+    )?;
     let servers = single(alloc, "servers", single(alloc, "srv0", server)?)?;
     single(alloc, "apps", single(alloc, "http", servers)?)
 }
