@@ -5,6 +5,7 @@ PROVED, which says when, by what and from which sources each crate was proved; a
 """
 import os
 import re
+import resource
 import signal
 import subprocess
 import sys
@@ -22,6 +23,12 @@ def run(program, words):
         write("UNPROVED BUILD: no contract was checked")
     # Python ignores this signal, and the program would do so with it.
     signal.signal(signal.SIGPIPE, signal.SIG_DFL)
+    # Each connection takes a descriptor: the program may have as many as the system lets it.
+    _, most = resource.getrlimit(resource.RLIMIT_NOFILE)
+    try:
+        resource.setrlimit(resource.RLIMIT_NOFILE, (most, most))
+    except (OSError, ValueError):
+        pass
     os.execv(program, ["caddy_run", *words])
 
 

@@ -1,13 +1,25 @@
-ghost use Rattle.std.specs.Prelude.{◌≡◌, ◌∷◌, [], false, length, is_some, All, IfOk};
+ghost use Rattle.std.specs.Prelude.{◌≡◌, ◌≤◌, ◌∷◌, [], false, length, is_some, All, IfOk};
+ghost use Rattle.caddy_run.specs.declared.lanes.TheConstants.{LANES, MAX_LANES};
 
-use cd_doorway::{DoorLane, Doorway};
+use cd_stdio::{Messages, Reporting, TakesNow};
+use cd_tcp::{Reactor, TcpLane};
 use cd_text::{List, NoMemory};
 use std::alloc::Global;
 use std::sync::Wait;
 use std::time::Clock;
 
-/// How many connections are served at the same time. Those that are quiet take no lane.
-const LANES: usize = 8;
+/// How many requests are answered at the same time. Connections whose request is not whole, and those that are quiet, take no lane.
+pub const LANES: usize = 8;
+
+/// How many lanes a run may have: each has a pass of the hall, and the program has one.
+pub const MAX_LANES: usize = 63;
+
+/// The numbers, which the code cites by name.
+pub fn lanes_are()
+    ensures lanes { LANES ≡ 8 }
+    ensures most { MAX_LANES ≡ 63 }
+    ensures fit { (1 ≤ LANES) × (LANES ≤ MAX_LANES) }
+{}
 
 /// A list of this lane alone.
 pub fn one_lane<L: Drop>(alloc: Global, lane: L) -> Result<List<L>, NoMemory>
@@ -18,18 +30,20 @@ pub fn one_lane<L: Drop>(alloc: Global, lane: L) -> Result<List<L>, NoMemory>
     Ok(lanes)
 }
 
-/// The lanes of a doorway.
-pub fn door_lanes<'d, R: Wait + Clock>(
+/// The lanes of a reactor, which write the messages that wait.
+pub fn tcp_lanes<'d, R: Wait + Clock, W: TakesNow>(
     rt: &'d R,
     alloc: Global,
-    door: &'d Doorway,
-) -> Result<List<DoorLane<'d, R>>, NoMemory>
-    ensures count { IfOk result (λ lanes. length lanes ≡ 8) }
-    ensures idle { IfOk result (λ lanes. All (λ lane. is_some lane.held ≡ false) lanes) }
+    reactor: &'d Reactor,
+    messages: &'d Messages<W>,
+) -> Result<List<Reporting<'d, R, TcpLane<'d, R>, W>>, NoMemory>
+    ensures count { IfOk result (λ lanes. length lanes ≡ LANES) }
+    ensures idle { IfOk result (λ lanes. All (λ reporting. is_some reporting.lane.held ≡ false) lanes) }
 {
     let mut lanes = List::new(alloc);
     while lanes.len() < LANES {
-        lanes.push(DoorLane::new(rt, alloc, door))?;
+        let lane = TcpLane::new(rt, alloc, reactor);
+        lanes.push(Reporting::new(rt, alloc, lane, messages))?;
     }
     Ok(lanes)
 }

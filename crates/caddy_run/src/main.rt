@@ -1,19 +1,21 @@
 //! The program: it gives `caddy_main` of `cd_program` the real forms of the outside.
 //!
-//! `run` serves the lanes of a doorway, over TCP, by the forms of `cd_doorway`. `stdio` serves standard input and output, by those
-//! of `cd_edge`; words that serve nothing get the same lane, and it comes back untouched. lanes.rt says how many lanes there are,
-//! words.rt reads the words and finds the file of the configuration, and serving.rt calls `caddy_main`. No contract speaks of what
-//! a stream, a socket or a file holds: what the program does with them is proved of `caddy_main`, and tests/loopback looks at the
-//! program from outside.
+//! `run` serves the lanes of a reactor, over TCP, by the forms of `cd_tcp`. `stdio` serves standard input and output, by those of
+//! `cd_stdio`; words that serve nothing get the same lane, and it comes back untouched. lanes.rt says how many lanes there are,
+//! words.rt reads the words and finds the file of the configuration, serving.rt calls `caddy_main`, and ending.rt says on standard
+//! error what has failed. No contract speaks of what a stream, a socket or a file holds: what the program does with them is proved
+//! of `caddy_main`, and tests/loopback looks at the program from outside.
 #![tactic(auto)]
 
+mod ending;
 mod lanes;
 mod serving;
 mod words;
 
-use cd_doorway::{DoorFixtures, Doorway};
-use cd_edge::{Announced, Console, StreamLane};
-use lanes::door_lanes;
+use cd_stdio::{AfterMessages, Announced, Console, Messages, StreamLane, Watched};
+use cd_tcp::{Reactor, TcpFixtures};
+use ending::{tell_cause, tell_cut};
+use lanes::tcp_lanes;
 use serving::{over_lanes, over_streams};
 use std::process::ExitCode;
 use words::{begins_with, config_source, words_of};
@@ -26,16 +28,24 @@ fn main(rt: HostRuntime) -> ExitCode {
     let words = words.as_slice();
     let mut config = config_source(&rt, words);
     let status = if begins_with(words, "run") {
-        let Ok(door) = Doorway::new(&rt, alloc, rt.stdout(), rt.stderr()) else {
+        let Ok(error) = Watched::new(&rt, alloc, rt.stderr()) else {
             return ExitCode::from(5);
         };
-        let Ok(lanes) = door_lanes(&rt, alloc, &door) else {
+        let messages = Messages::new(alloc, error);
+        let Ok(reactor) = Reactor::new(&rt, alloc, rt.stdout(), rt.stderr()) else {
             return ExitCode::from(5);
         };
-        let fixtures = DoorFixtures::new(&rt, alloc, &door);
-        let fixtures = Announced::new(alloc, fixtures, rt.stderr());
-        let out = Console::new(rt.stdout());
-        Ok(over_lanes(&rt, alloc, words, &mut config, out, fixtures, lanes))
+        let Ok(lanes) = tcp_lanes(&rt, alloc, &reactor, &messages) else {
+            return ExitCode::from(5);
+        };
+        let fixtures = TcpFixtures::new(&rt, alloc, &reactor);
+        let fixtures = Announced::new(&rt, alloc, fixtures, &messages);
+        let out = AfterMessages::new(&rt, Console::new(rt.stdout()), &messages);
+        let served = over_lanes(&rt, alloc, words, &mut config, out, fixtures, lanes);
+        let cut = served.cut.saturating_add(reactor.cut(&rt));
+        tell_cut(&rt, alloc, &messages, cut);
+        tell_cause(alloc, &mut rt.stderr(), words, &config);
+        Ok(served.status)
     } else if begins_with(words, "stdio") {
         let lane = StreamLane::new(alloc, rt.stdin(), rt.stdout());
         let out = Console::new(rt.stderr());
@@ -43,7 +53,9 @@ fn main(rt: HostRuntime) -> ExitCode {
     } else {
         let lane = StreamLane::new(alloc, rt.stdin(), rt.stdout());
         let out = Console::new(rt.stdout());
-        over_streams(&rt, alloc, words, &mut config, out, lane)
+        let status = over_streams(&rt, alloc, words, &mut config, out, lane);
+        tell_cause(alloc, &mut rt.stderr(), words, &config);
+        status
     };
     ExitCode::from(status.unwrap_or(5))
 }

@@ -2,18 +2,28 @@
 ghost use Rattle.std.specs.Prelude.{◌≡◌, ◌≤◌, ◌↔◌, false, length, All, IfOk};
 ghost use Rattle.cd_program.specs.Words.{command, has_file};
 ghost use Rattle.cd_program.specs.declared.command.Command.TheVariants.{Unknown};
+ghost use Rattle.caddy_run.specs.declared.lanes.TheConstants.{MAX_LANES};
 
 use crate::lanes::one_lane;
-use cd_edge::StreamLane;
 use cd_outside::{Fixtures, Lane, MemoryFixtures, Sink, Source};
 use cd_program::caddy_main;
+use cd_stdio::StreamLane;
 use cd_text::{List, NoMemory, Text};
 use std::alloc::Global;
 use std::io::{Read, Write};
 use std::sync::Wait;
 use std::thread::Threads;
 
-/// The status of the program over these fixtures and lanes.
+/// How a call of the program has ended.
+#[derive(Clone, Copy, Debug, PartialEq, Eq)]
+pub struct Served {
+    /// The exit status.
+    pub status: u8,
+    /// How many connections were cut short, out of memory.
+    pub cut: u64,
+}
+
+/// How the program ends over these fixtures and lanes.
 pub fn over_lanes<
     R: Threads + Wait + Sync,
     S: Source,
@@ -28,15 +38,19 @@ pub fn over_lanes<
     mut out: O,
     fixtures: F,
     lanes: List<L>,
-) -> u8
+) -> Served
     requires some { 1 ≤ length lanes }
-    requires few { length lanes ≤ 63 }
+    requires few { length lanes ≤ MAX_LANES }
     requires idle { All (λ lane. L.busy lane ≡ false) lanes }
-    ensures known { result ≤ 5 }
-    ensures usage { (result ≡ 2) ↔ (command words.now ≡ Unknown) }
+    ensures known { result.status ≤ 5 }
+    ensures usage { (result.status ≡ 2) ↔ (command words.now ≡ Unknown) }
     ensures unread { has_file (command words.now) ≡ false → config.new ≡ config.old }
 {
-    caddy_main(rt, alloc, words, config, &mut out, fixtures, lanes).status
+    let ended = caddy_main(rt, alloc, words, config, &mut out, fixtures, lanes);
+    Served {
+        status: ended.status,
+        cut: ended.cut,
+    }
 }
 
 /// The status of the program over this lane alone, and fixtures in memory.
@@ -61,5 +75,5 @@ pub fn over_streams<
 {
     let fixtures = MemoryFixtures::new(alloc, List::new(alloc))?;
     let lanes = one_lane(alloc, lane)?;
-    Ok(over_lanes(rt, alloc, words, config, out, fixtures, lanes))
+    Ok(over_lanes(rt, alloc, words, config, out, fixtures, lanes).status)
 }

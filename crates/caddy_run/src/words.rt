@@ -1,4 +1,4 @@
-use cd_edge::{ConfigFile, ConfigSource};
+use cd_stdio::{ConfigFile, ConfigSource};
 use cd_text::{List, NoMemory, Text};
 use std::alloc::Global;
 use std::io::ErrorKind;
@@ -27,14 +27,21 @@ pub fn begins_with(words: &[Text], command: &str) -> bool {
     }
 }
 
-/// The file that `--config` names, where it is the second of three words.
+/// The name of the file of the configuration: what `--config` names, where it is the second of three words.
+pub fn config_name(words: &[Text]) -> Option<&Text> {
+    match words {
+        [_, option, file] if option.equals("--config") => Some(file),
+        _ => None,
+    }
+}
+
+/// The file of the configuration.
 pub fn config_source<R: Files>(rt: &R, words: &[Text]) -> ConfigSource<R::File> {
-    let file = match words {
-        [_, option, file] if option.equals("--config") => match fs::open(rt, file.as_str()) {
-            Ok(file) => ConfigFile::Opened(file),
-            Err(_) => ConfigFile::Unopened,
+    match config_name(words) {
+        Some(file) => match fs::open(rt, file.as_str()) {
+            Ok(file) => ConfigSource::new(ConfigFile::Opened(file)),
+            Err(error) => ConfigSource::unopened(error),
         },
-        _ => ConfigFile::Unnamed,
-    };
-    ConfigSource::new(file)
+        None => ConfigSource::new(ConfigFile::Unnamed),
+    }
 }

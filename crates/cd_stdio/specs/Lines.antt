@@ -1,0 +1,11 @@
+-- The lines that go to standard error, beside those of a run.
+use Rattle.std.specs.Prelude.{◌==◌, ◌++◌, ℕ, List, codes, if◌then◌else◌}
+use Rattle.cd_stdio.specs.declared.lines.TheConstants.{HTTPS_PORT}
+
+-- what is said of a port: clients expect HTTPS at one, and it is served at none
+abbrev pub served_at : ℕ → List ℕ
+served_at port = if port == HTTPS_PORT then codes " (plain HTTP; HTTPS is not served)" else codes " (plain HTTP)"
+
+-- why something has failed
+abbrev pub caused : List ℕ → List ℕ → List ℕ
+caused what words = codes "caddy_run: " ++ (what ++ (codes ": " ++ (words ++ codes "\n")))

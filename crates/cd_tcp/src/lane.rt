@@ -1,0 +1,181 @@
+ghost use Rattle.std.specs.Prelude.{◌≡◌, None, is_some};
+
+use crate::reactor::Next;
+use crate::{Held, Parting, Reactor};
+use cd_outside::{Accepted, Address, Given, Key, Lane, Taken};
+use cd_text::Text;
+use std::alloc::Global;
+use std::io;
+use std::io::ErrorKind;
+use std::net::TcpStream;
+use std::sync::Wait;
+use std::time::Clock;
+
+/// A lane of a reactor: it serves one of its connections at a time. It tells nothing of content.
+pub struct TcpLane<'d, R: Wait + Clock> {
+    rt: &'d R,
+    alloc: Global,
+    reactor: &'d Reactor,
+    /// The connection that is there.
+    pub held: Option<Held<TcpStream>>,
+    faults: u64,
+    // Why the last accept failed that did.
+    cause: Option<io::Error>,
+}
+
+impl<'d, R: Wait + Clock> Drop for TcpLane<'d, R> {
+    fn drop(self) {
+        let Self {
+            rt: _,
+            alloc: _,
+            reactor: _,
+            held: _,
+            faults: _,
+            cause: _,
+        } = self;
+    }
+}
+
+// What comes to a lane that waits.
+enum Waited {
+    // A connection, and the address that it came to.
+    Connection(Held<TcpStream>, Address),
+    Ended,
+    Failed(io::Error),
+}
+
+impl<'d, R: Wait + Clock> TcpLane<'d, R> {
+    /// A lane with no connection.
+    pub fn new(rt: &'d R, alloc: Global, reactor: &'d Reactor) -> TcpLane<'d, R>
+        ensures { result.held ≡ None }
+    {
+        TcpLane {
+            rt,
+            alloc,
+            reactor,
+            held: None,
+            faults: 0,
+            cause: None,
+        }
+    }
+
+    /// Why the last accept failed that did. It prints as the words of the system.
+    pub fn cause(&self) -> Option<io::Error> {
+        self.cause
+    }
+
+    // The next connection, or why there is none. One for whose address there is no memory is let go.
+    fn wait(&self) -> Waited {
+        for _ in self.rt.forever() {
+            match self.reactor.next(self.rt) {
+                Next::Connection(connection) => {
+                    if let Ok(address) = connection.address.copy(self.alloc) {
+                        return Waited::Connection(Held::new(connection), address);
+                    }
+                    self.reactor.count_cut(self.rt);
+                }
+                Next::Shut => return Waited::Ended,
+                Next::Failed(error) => return Waited::Failed(error),
+            }
+        }
+        unreachable!()
+    }
+
+    fn try_log(&self, key: &Key, line: &Text) -> io::Result<()> {
+        match key {
+            Key::Listen(_) => Err(io::Error::from(ErrorKind::InvalidInput)),
+            Key::Writer(name) => self.reactor.log(self.rt, name, line.as_str().as_bytes()),
+        }
+    }
+}
+
+impl<'d, R: Wait + Clock> Lane for TcpLane<'d, R> {
+    ghost faults = { λ lane. lane.faults };
+
+    ghost busy = { λ lane. is_some lane.held };
+
+    ghost past = { λ _. None };
+
+    fn accept(&mut self) -> Accepted {
+        match self.wait() {
+            Waited::Connection(held, address) => {
+                self.held = Some(held);
+                Accepted::Connection(address)
+            }
+            Waited::Ended => Accepted::Ended,
+            Waited::Failed(error) => {
+                self.cause = Some(error);
+                self.faults = self.faults.saturating_add(1);
+                Accepted::Failed
+            }
+        }
+    }
+
+    fn read(&mut self, into: &mut [u8]) -> Taken {
+        let Some(held) = &mut self.held else {
+            return Taken::End;
+        };
+        let taken = held.read(self.rt, self.reactor, into);
+        if taken == Taken::Failed {
+            self.faults = self.faults.saturating_add(1);
+        }
+        taken
+    }
+
+    fn rest(&mut self) {
+        if let Some(held) = &mut self.held {
+            held.rest();
+        }
+    }
+
+    fn write(&mut self, piece: &[u8]) -> Given {
+        let Some(held) = &mut self.held else {
+            return Given::All;
+        };
+        if held.write(self.rt, self.reactor, piece) {
+            Given::All
+        } else {
+            self.faults = self.faults.saturating_add(1);
+            Given::Failed
+        }
+    }
+
+    fn log(&mut self, key: &Key, line: &Text) -> Given {
+        if self.try_log(key, line).is_ok() {
+            Given::All
+        } else {
+            self.faults = self.faults.saturating_add(1);
+            Given::Failed
+        }
+    }
+
+    /// Nothing is kept here: the answer is `All`.
+    fn keep<W: Wait>(&mut self, _rt: &W, _serial: u32, _text: &[u8]) -> Given {
+        Given::All
+    }
+
+    fn end(&mut self) {
+        if let Some(held) = self.held.take() {
+            part(self.rt, self.reactor, held);
+        }
+    }
+}
+
+// Closes a connection, or gives it to the reactor.
+fn part<R: Wait + Clock>(rt: &R, reactor: &Reactor, held: Held<TcpStream>) {
+    let clean = held.is_clean();
+    let Held {
+        mut connection,
+        parting,
+        ..
+    } = held;
+    match parting {
+        Parting::Park => {
+            connection.inbound.look();
+            connection.inbound.let_memory_go();
+            reactor.park(rt, connection);
+        }
+        Parting::Linger if !clean => reactor.linger(rt, connection),
+        Parting::Linger | Parting::Close => {}
+    }
+}
