@@ -1,4 +1,6 @@
+pub mod Examples
 pub mod Fine
+pub mod Foreign
 pub mod Nulls
 pub mod Tags
 pub mod Texts

@@ -1,3 +1,4 @@
+-- Part of the main theorem.
 -- The answers of the admin API.
 use Rattle.std.specs.Prelude.{ℕ, false, List, [], ◌∷◌, ◌++◌, codes}
 use Rattle.cd_tree.specs.Tree.{text}
@@ -25,6 +26,8 @@ error_tree words = Object (roll-Member (record { key = codes "error"; value = Te
 
 -- which methods are taken instead
 abbrev pub allow_fields : Denial → List Field
+allow_fields denial.OtherHost = []
+allow_fields denial.OtherOrigin = []
 allow_fields denial.UnknownPath = []
 allow_fields (denial.OtherMethod methods) = field (codes "allow") (allow methods) ∷ []
 allow_fields denial.ContentType = []

@@ -1,4 +1,5 @@
--- What a request asks for, as far as the request alone says: the first five tests.
+-- Part of the main theorem.
+-- What a request asks for, as far as the request alone says: the five tests after that of its host and its origin.
 use Rattle.std.specs.Prelude.{ℕ, ◌==◌, ◌&&◌, not, Bool, true, false, if◌then◌else◌, List, length, codes, Option, Some, None, Result, Ok, Err}
 use Rattle.cd_text.specs.Steps.{◌▷◌}
 use Rattle.cd_tree.specs.Reading.{tree_of}

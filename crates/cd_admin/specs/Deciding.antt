@@ -1,3 +1,4 @@
+-- Part of the main theorem.
 -- What a request comes to under a tree: an answer, another tree, or the halt.
 use Rattle.std.specs.Prelude.{ℕ, ◌&&◌, not, if◌then◌else◌, List, [], ◌∷◌, ◌++◌, codes, Option, Some, None, Result, Ok, Err}
 use Rattle.std.specs.Result.{result_ok}
@@ -21,10 +22,12 @@ use Rattle.cd_wire.specs.Fields.{values}
 use Rattle.cd_wire.specs.declared.answer.Answer.{Answer}
 use Rattle.cd_wire.specs.declared.fields.Field.{Field}
 use Rattle.cd_wire.specs.declared.request.Request.{Request}
+use Rattle.cd_admin.specs.Admin.{admin_of}
 use Rattle.cd_admin.specs.Answers.{refusal, shown, done}
 use Rattle.cd_admin.specs.Asking.{asked}
 use Rattle.cd_admin.specs.Endings.{Test, denied}
 use Rattle.cd_admin.specs.Fields.{must_revalidate}
+use Rattle.cd_admin.specs.Origins.{admitted}
 use Rattle.cd_admin.specs.declared.action.Action.{Action}
 use Rattle.cd_admin.specs.declared.action.Action.TheVariants.{Look, Change}
 use Rattle.cd_admin.specs.declared.asked.Asked.{Asked}
@@ -108,6 +111,7 @@ fine (Err load.NoMemory) = Err ending.NoMemory
 -- the tree that takes the place of this one, or how the request ends before that
 unfoldable pub replaced : {P : Type 0} → (Tree → Result P LoadFault) → Tree → Request → Test Tree
 replaced verdict t q =
+    admitted (admin_of t) q.host q.fields ▷ λ _.
     asked q ▷ λ a.
     made t q.fields a ▷ λ u.
     fine (verdict u) ▷ λ _.

@@ -2,9 +2,7 @@
 use Rattle.std.specs.Prelude.{◌≡◌, ◌⊎◌, Result}
 use Rattle.std.specs.Result.{IsOk}
 use Rattle.cd_tree.specs.declared.tree.Tree.{Tree, Null}
-use Rattle.cd_wire.specs.declared.request.Request.{Request}
 use Rattle.cd_module.specs.declared.fault.LoadFault.{LoadFault}
-use Rattle.cd_legal.specs.declared.entry.Change.TheVariants as change
 use Rattle.cd_module_set.specs.declared.set.ModuleSet.{Ghosts}
 use Rattle.cd_admin.specs.Deciding.{Outcome, reply, replace, halt}
 use Rattle.cd_admin.specs.declared.decision.Decision.{Decision}
@@ -18,11 +16,5 @@ module _ {S C : Type 0} {set : Ghosts S C} where
   -- the decision without the compiled form
   abbrev pub said : Decision S C set → Outcome
   said (decision.Reply answer) = reply answer
-  said (decision.Replace loaded by) = replace loaded.tree
+  said (decision.Replace loaded) = replace loaded.tree
   said decision.Halt = halt
-
-  -- a replacement is by this request
-  abbrev pub IsBy : Request → Decision S C set → Type 0
-  IsBy q (decision.Reply answer) = Unit {0}
-  IsBy q (decision.Replace loaded by) = by ≡ change.Request q
-  IsBy q decision.Halt = Unit {0}

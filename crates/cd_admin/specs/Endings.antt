@@ -1,3 +1,4 @@
+-- Part of the main theorem.
 -- How a test of a request ends: it goes on with a value, or the request ends there.
 use Rattle.std.specs.Prelude.{Result, Err}
 use Rattle.cd_admin.specs.declared.denial.Denial.{Denial}

@@ -1,3 +1,4 @@
+-- Part of the main theorem.
 -- What the path of a request names, and what its method asks for there (Caddy documentation, "API").
 use Rattle.std.specs.Prelude.{ℕ, ◌==◌, Bool, if◌then◌else◌, List, [], ◌∷◌, length, drop, reverse, codes, Option, Some, None, Ok, nat_eq}
 use Rattle.std.specs.List.{slice_split, starts_with}

@@ -1,3 +1,4 @@
+-- Part of the main theorem.
 -- What the fields of a request say to the admin API.
 use Rattle.std.specs.Prelude.{ℕ, ◌==◌, ◌&&◌, ◌-◌, Bool, true, List, [], ◌∷◌, length, take, drop, codes, nat_eq}
 use Rattle.std.specs.Char.{is_ascii_whitespace}

@@ -1,3 +1,4 @@
+pub mod Admin
 pub mod Answers
 pub mod Asking
 pub mod Deciding
@@ -5,4 +6,5 @@ pub mod Decisions
 pub mod Endings
 pub mod Endpoints
 pub mod Fields
+pub mod Origins
 pub mod Words

@@ -1,3 +1,4 @@
+-- Part of the main theorem.
 -- The words and the status of each refusal.
 use Rattle.std.specs.Prelude.{ℕ, List, [], ◌++◌, codes}
 use Rattle.cd_tree.specs.declared.fault.TreeFault.{TreeFault}
@@ -51,6 +52,8 @@ edit_status edit.ResultTooLong = 400
 edit_status edit.NoMemory = 400
 
 abbrev pub words : Denial → List ℕ
+words denial.OtherHost = codes "host not allowed"
+words denial.OtherOrigin = codes "origin not allowed"
 words denial.UnknownPath = codes "unknown path"
 words (denial.OtherMethod methods) = codes "method not allowed"
 words denial.ContentType = codes "unacceptable content-type"
@@ -63,6 +66,8 @@ words denial.FailedIfMatch = codes "If-Match does not hold"
 words (denial.Load refusal) = load_words refusal
 
 abbrev pub status : Denial → ℕ
+status denial.OtherHost = 403
+status denial.OtherOrigin = 403
 status denial.UnknownPath = 404
 status (denial.OtherMethod methods) = 405
 status denial.ContentType = 400

@@ -1,12 +1,13 @@
 ghost use Rattle.std.specs.Prelude.{◌≡◌, ◌≢◌, None, Ok, IfOk};
-ghost use Rattle.std.specs.Result.{result_map_both};
+ghost use Rattle.std.specs.Result.{IsOk, result_map_both};
 ghost use Rattle.cd_text.specs.Steps.{◌▷◌};
 ghost use Rattle.cd_text.specs.Gives.{Gives};
 ghost use Rattle.cd_tree.specs.Tree.{IsSound};
 ghost use Rattle.cd_ids.specs.Ids.{id_fault};
 ghost use Rattle.cd_wire.specs.declared.request.Request.{Request};
+ghost use Rattle.cd_admin.specs.Admin.{admin_in};
 ghost use Rattle.cd_admin.specs.Deciding.{decided, replaced, fine, ended, new_tree};
-ghost use Rattle.cd_admin.specs.Decisions.{IsServed, IsBy, said};
+ghost use Rattle.cd_admin.specs.Decisions.{IsServed, said};
 
 use crate::administered::Administered;
 use crate::answers::{done, refusal, shown};
@@ -16,7 +17,7 @@ use crate::denial::Denial;
 use crate::ending::Ending;
 use crate::laws::changes_are_decided;
 use crate::making::make;
-use cd_legal::Change;
+use crate::origins::admit;
 use cd_module::LoadFault;
 use cd_module_set::Loaded;
 use cd_text::NoMemory;
@@ -26,15 +27,15 @@ use std::alloc::Global;
 
 /// What a request comes to under a tree (Caddy documentation, "API").
 ///
-/// The tests, in their order, and how the request ends where one does not pass: its path names something (404), which takes its
+/// The tests, in their order, and how the request ends where one does not pass: where the configuration enforces origins, its Host
+/// is expected, and its Origin if it has one (403); its path names something (404), which takes its
 /// method (405, with Allow); POST to `/stop` is the halt; a body is JSON by its Content-Type (400), and is there and a tree
 /// (400); an id is known (404); a GET is answered with the value and its tag, or why its path leads nowhere; If-Match has the
 /// form of a tag (400) and holds (412); the edit is done (400, 404, 409); the tree differs, or Cache-Control has
 /// `must-revalidate` (else 200, and nothing changes); the set of modules finds no fault (400). Then the tree is replaced.
 ///
-/// A replacement comes with the request as its change: a copy, since the request is decided anew where another change came first.
-/// Its tree is the one that the request asks for by the meaning of the set, so that a board may publish it by this change; an
-/// answer and the halt come where the request asks for none.
+/// The tree of a replacement is the one that the request asks for by the meaning of the set, so that a board may publish it by this
+/// request; an answer and the halt come where the request asks for none.
 #[tactic(auto, unfolding(crate::specs::Deciding::decided))]
 pub fn decide<M: Administered>(
     alloc: Global,
@@ -45,14 +46,10 @@ pub fn decide<M: Administered>(
     requires served { IsServed M.plan tree.now }
     ensures exact { IfOk result (λ decision. said decision ≡ decided M.plan tree.now request.now) }
     ensures asked { IfOk result (λ decision. M.change tree.now request.now ≡ new_tree (said decision)) }
-    ensures change { IfOk result (λ decision. IsBy request.now decision) }
 {
     changes_are_decided::<M>();
     match replaced::<M>(alloc, tree, request) {
-        Ok(loaded) => {
-            let change = Change::Request(request.copy(alloc)?);
-            Ok(Decision::Replace(loaded, change))
-        }
+        Ok(loaded) => Ok(Decision::Replace(loaded)),
         Err(ending) => ended(alloc, ending),
     }
 }
@@ -66,11 +63,13 @@ fn replaced<M: Administered>(
 ) -> Result<Loaded<M>, Ending>
     requires sound { IsSound tree.now }
     requires ids { id_fault tree.now ≡ None }
+    requires admin { IsOk (admin_in tree.now) }
     ensures { Gives Ending.NoMemory (result_map_both (λ loaded. loaded.tree) (λ ending. ending) result)
         (replaced M.plan tree.now request.now) }
 {
-    let asked = asked_by(alloc, request)?;
     let fields = request.fields().list(alloc)?;
+    admit(alloc, tree, request.host(), fields.as_slice())?;
+    let asked = asked_by(alloc, request)?;
     let made = make(alloc, tree, fields.as_slice(), &asked)?;
     load(alloc, made)
 }
@@ -92,7 +91,6 @@ fn load<M: Administered>(alloc: Global, tree: Tree) -> Result<Loaded<M>, Ending>
 fn ended<M: Administered>(alloc: Global, ending: Ending) -> Result<Decision<M>, NoMemory>
     ensures exact { IfOk result (λ decision. said decision ≡ ended ending) }
     ensures memory { IfOk result (λ _. ending ≢ Ending.NoMemory) }
-    ensures change { IfOk result (λ decision. (request : Request) → IsBy request decision) }
 {
     match ending {
         Ending::Denied(denial) => Ok(Decision::Reply(refusal(alloc, &denial)?)),

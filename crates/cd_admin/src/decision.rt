@@ -1,4 +1,3 @@
-use cd_legal::Change;
 use cd_module_set::{Loaded, ModuleSet};
 use cd_wire::Answer;
 
@@ -6,8 +5,8 @@ use cd_wire::Answer;
 pub enum Decision<M: ModuleSet> {
     /// This answer, and nothing changes.
     Reply(Answer<'static>),
-    /// This configuration takes the place of the current one, by this change.
-    Replace(Loaded<M>, Change),
+    /// This configuration takes the place of the current one.
+    Replace(Loaded<M>),
     /// The server halts.
     Halt,
 }

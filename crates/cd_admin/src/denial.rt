@@ -15,6 +15,10 @@ pub enum Methods {
 /// Why a request is refused.
 #[derive(Debug, Drop)]
 pub enum Denial {
+    /// Its Host is not one of those that are expected.
+    OtherHost,
+    /// Its Origin is not one of those that are expected, or comes more than once.
+    OtherOrigin,
     /// Its path names nothing, or is not UTF-8.
     UnknownPath,
     /// What its path names takes other methods.

@@ -86,6 +86,7 @@ impl Denial {
         ensures { result ≡ status self.now }
     {
         match self {
+            Denial::OtherHost | Denial::OtherOrigin => 403,
             Denial::UnknownPath | Denial::UnknownId(_) => 404,
             Denial::OtherMethod(_) => 405,
             Denial::FailedIfMatch => 412,
@@ -103,6 +104,8 @@ impl Denial {
         ensures { IfOk result (λ made. made ≡ words self.now) }
     {
         match self {
+            Denial::OtherHost => Text::from_str(alloc, "host not allowed"),
+            Denial::OtherOrigin => Text::from_str(alloc, "origin not allowed"),
             Denial::UnknownPath => Text::from_str(alloc, "unknown path"),
             Denial::OtherMethod(_) => Text::from_str(alloc, "method not allowed"),
             Denial::ContentType => Text::from_str(alloc, "unacceptable content-type"),

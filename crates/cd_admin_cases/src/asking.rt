@@ -8,12 +8,13 @@ use cd_tree::Tree;
 use cd_wire::{Intake, Next, Request};
 use std::alloc::Global;
 
-/// The request that the row asks: its method and target, its fields, each as a line, and its body, whose length is added.
+/// The request that the row asks: its method and target, its host, its fields, each as a line, and its body, whose length is added.
 pub fn request_of(alloc: Global, row: &Tree) -> Result<Request, RowFault>
     requires { IsSound row.now }
 {
     let mut head = bytes_at(alloc, row, "asked")?;
-    head.append(b" HTTP/1.1\r\nHost: localhost:2019\r\n")?;
+    head.append(b" HTTP/1.1\r\nHost: ")?;
+    put_host(alloc, row, &mut head)?;
     put_fields(alloc, row, &mut head)?;
     let body = body_of(alloc, row)?;
     put_body(alloc, body.as_slice(), &mut head)?;
@@ -21,6 +22,17 @@ pub fn request_of(alloc: Global, row: &Tree) -> Result<Request, RowFault>
         Some(request) => Ok(request),
         None => Err(RowFault::Malformed("no request")),
     }
+}
+
+fn put_host(alloc: Global, row: &Tree, head: &mut Octets) -> Result<(), RowFault> {
+    if has(row, "host") {
+        let host = bytes_at(alloc, row, "host")?;
+        head.append(host.as_slice())?;
+    } else {
+        head.append(b"localhost:2019")?;
+    }
+    head.append(b"\r\n")?;
+    Ok(())
 }
 
 fn put_fields(alloc: Global, row: &Tree, head: &mut Octets) -> Result<(), RowFault> {

@@ -25,7 +25,7 @@ impl Kinds for Decisions {
         only(
             alloc,
             row,
-            "configuration configuration_bytes asked fields body body_bytes answered found refused gives gives_text ends",
+            "configuration configuration_bytes asked host fields body body_bytes answered found refused gives gives_text ends",
         )?;
         let request = request_of(alloc, row)?;
         let loaded = loaded_under(alloc, row)?;
@@ -74,7 +74,7 @@ fn decided(
 ) -> Result<Outcome, RowFault> {
     match decide::<Standard>(alloc, &loaded.tree, request)? {
         Decision::Reply(answer) => said(alloc, has(row, "answered"), &answer, request),
-        Decision::Replace(new, _) => gives(alloc, &new.tree),
+        Decision::Replace(new) => gives(alloc, &new.tree),
         Decision::Halt => says(alloc, "ends", "halt"),
     }
 }

@@ -1,3 +1,4 @@
+-- Part of the main theorem.
 -- Which bodies are JSON.
 use Rattle.std.specs.Prelude.{ℕ, ◌==◌, ◌||◌, not, Bool, true, false, List, Result, Ok, Err}
 use Rattle.json.specs.Word.{is_space}

@@ -1,3 +1,4 @@
+-- Part of the main theorem.
 -- Changes of the fields of a request or of an answer.
 use Rattle.std.specs.Prelude.{◌==◌, ◌||◌, ◌&&◌, not, Bool, false, if◌then◌else◌, List, length, codes, filter, Result, Ok}
 use Rattle.std.specs.List.{list_any}

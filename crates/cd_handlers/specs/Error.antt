@@ -1,3 +1,4 @@
+-- Part of the main theorem.
 -- `error` (Caddy, JSON Config Structure, http.handlers.error).
 use Rattle.std.specs.Prelude.{[], codes, unwrap_or, Result, Ok}
 use Rattle.cd_text.specs.Steps.{◌▷◌}

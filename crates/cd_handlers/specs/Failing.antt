@@ -1,3 +1,4 @@
+-- Part of the main theorem.
 -- What becomes of a handler that is unable to do what it should.
 use Rattle.std.specs.Prelude.{[], Result, Ok, Err}
 use Rattle.cd_fill.specs.declared.scene.Scene.{Scene}

@@ -1,3 +1,4 @@
+-- Part of the main theorem.
 -- Fields by name in settings, with texts for their values.
 use Rattle.std.specs.Prelude.{ℕ, codes, Option, Some, None, if◌then◌else◌, List, [], map, Ok, Err}
 use Rattle.std.specs.Str.{bytes_eq}

@@ -1,3 +1,4 @@
+-- Part of the main theorem.
 -- Changes of fields.
 use Rattle.std.specs.Prelude.{ℕ, not, List, ◌++◌, map, filter, fold}
 use Rattle.cd_wire.specs.Fields.{is_named}

@@ -1,3 +1,4 @@
+-- Part of the main theorem.
 -- The texts of settings, filled in a scene. A handler with a text that is too long is unable to do what it should.
 use Rattle.std.specs.Prelude.{ℕ, List, [], ◌∷◌, Result, Ok, Err}
 use Rattle.cd_text.specs.Steps.{◌▷◌}

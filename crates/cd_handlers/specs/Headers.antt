@@ -1,3 +1,4 @@
+-- Part of the main theorem.
 -- `headers` (Caddy, JSON Config Structure, http.handlers.headers).
 use Rattle.std.specs.Prelude.{false, if◌then◌else◌, [], codes, Option, Some, None, unwrap_or, Result, Ok}
 use Rattle.std.specs.Result.{result_ok}

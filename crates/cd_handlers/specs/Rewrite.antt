@@ -1,3 +1,4 @@
+-- Part of the main theorem.
 -- `rewrite` (Caddy, JSON Config Structure, http.handlers.rewrite).
 use Rattle.std.specs.Prelude.{ℕ, ◌==◌, ◌||◌, ◌&&◌, Bool, nat_lt, if◌then◌else◌, List, [], ◌∷◌, map, length, codes, Option, Some, None, unwrap_or, Result, Ok, Err}
 use Rattle.std.specs.Char.{to_ascii_uppercase}

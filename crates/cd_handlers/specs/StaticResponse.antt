@@ -1,3 +1,4 @@
+-- Part of the main theorem.
 -- `static_response` (Caddy, JSON Config Structure, http.handlers.static_response).
 use Rattle.std.specs.Prelude.{ℕ, ◌==◌, ◌||◌, false, if◌then◌else◌, List, [], ◌∷◌, ◌++◌, length, codes, unwrap_or, Result, Ok}
 use Rattle.std.specs.List.{list_any}

@@ -1,3 +1,4 @@
+-- Part of the main theorem.
 -- `vars` (Caddy, JSON Config Structure, http.handlers.vars).
 use Rattle.std.specs.Prelude.{ℕ, not, Bool, filter, if◌then◌else◌, List, [], ◌∷◌, ◌++◌, codes, Result, Ok, Err}
 use Rattle.std.specs.Str.{bytes_eq}

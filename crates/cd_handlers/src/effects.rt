@@ -29,6 +29,7 @@ pub fn deed<'r>(
         Handler::Rewrite(settings) => Ok(alone(rewrite_effect(alloc, settings, scene)?)),
         Handler::Vars(settings) => Ok(alone(variables_set(alloc, settings, scene)?)),
         Handler::Error(settings) => Ok(alone(error_effect(alloc, settings, scene)?)),
+        Handler::Invoke(_) => Ok(alone(Effect::Next(scene))),
     }
 }
 

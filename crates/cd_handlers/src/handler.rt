@@ -4,6 +4,7 @@ ghost use Rattle.cd_handlers.specs.Names.{kind_named};
 
 use crate::error::StaticError;
 use crate::headers::Headers;
+use crate::invoke::Invoke;
 use crate::kind::HandlerKind;
 use crate::rewrite::Rewrite;
 use crate::static_response::StaticResponse;
@@ -22,6 +23,7 @@ pub enum Handler {
     Rewrite(Rewrite),
     Vars(Vars),
     Error(StaticError),
+    Invoke(Invoke),
 }
 
 // A handler that is known by its name.
@@ -54,6 +56,10 @@ fn read_kind(
         HandlerKind::Error => {
             let settings = StaticError::read(alloc, tree, at)?;
             Ok(Handler::Error(settings))
+        }
+        HandlerKind::Invoke => {
+            let settings = Invoke::read(alloc, tree, at)?;
+            Ok(Handler::Invoke(settings))
         }
     }
 }

@@ -12,8 +12,8 @@
 //!
 //! Trees that differ in ids alone are the same handler (laws.rt).
 //!
-//! In which order handlers come, what follows one, and what becomes of a failure is left to the crates above, and so is
-//! `subroute`, which has routes inside.
+//! In which order handlers come, what follows one, and what becomes of a failure is left to the crates above, and so are
+//! `subroute`, which has routes inside, and the route that an `invoke` names.
 #![tactic(auto)]
 
 mod body;
@@ -27,6 +27,7 @@ mod fields;
 mod filling;
 mod handler;
 mod headers;
+mod invoke;
 mod kind;
 mod laws;
 mod outcome;
@@ -45,6 +46,7 @@ pub use field_values::{FieldList, FieldValues};
 pub use fields::FilledField;
 pub use handler::Handler;
 pub use headers::{Headers, ResponseChanges};
+pub use invoke::Invoke;
 pub use kind::HandlerKind;
 pub use laws::{handlers_have_their_names, handlers_see_no_ids};
 pub use outcome::{Deed, Effect};

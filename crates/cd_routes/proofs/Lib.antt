@@ -3,6 +3,9 @@ pub mod Pushes
 pub mod Routes
 pub mod Servers
 pub mod Rising
-pub mod Catches
+pub mod Counts
+pub mod Invokes
+pub mod Depends
+pub mod NamedMeaning
 pub mod NameKept
 pub mod Bare

@@ -10,7 +10,9 @@ use Rattle.cd_tree.specs.declared.tree.Tree.TheOpen.{Tree-F}
 use Rattle.cd_addr.specs.Addresses.{listed}
 use Rattle.cd_addr.proofs.Ranges.{count_is}
 use Rattle.cd_module.specs.Settings.{each, list_layer, needed, must_be_there}
-use Rattle.cd_routes.specs.Server.{listen_text, some_text, listen, listened, server}
+use Rattle.cd_routes.specs.Reading.{known_names}
+use Rattle.cd_routes.specs.Server.{listen_text, some_text, listen, listened, server, server_members}
+use Rattle.cd_routes.specs.declared.named.KnownName.{KnownName}
 use Rattle.cd_routes.specs.declared.listen.Listen.{Listen}
 use Rattle.cd_routes.specs.declared.listen.ListenText.{ListenText}
 use Rattle.cd_routes.specs.declared.server.Server.{Server}
@@ -58,6 +60,11 @@ pub record Made (name : List ℕ) (s : Server) : Type 0 where
   pub named : s.name ≡ name
   pub listens : 1 ≤ length (listened s.listen)
 
+members_made : (name : List ℕ) (known : List KnownName) (ms : List Member) (at : Path) (s : Server) → server_members name known ms at ≡ Ok s → Made name s
+unfolding server_members
+members_made name known ms at s e = search (rules, after, same-value, needed-some)
+
 pub server_made : (name : List ℕ) (t : Tree) (at : Path) (s : Server) → server name t at ≡ Ok s → Made name s
 unfolding server
-server_made name t at s e = search (rules, after, same-value, needed-some)
+server_made name t at s e =
+    after _ (λ ms. server_members name (known_names ms at) ms at) (Made name) s (λ ms is g. members_made name (known_names ms at) ms at s g) e

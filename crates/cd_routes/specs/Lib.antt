@@ -1,7 +1,9 @@
 pub mod Names
 pub mod Reading
 pub mod Server
+pub mod Invoking
 pub mod Running
+pub mod Named
 pub mod Work
 pub mod Serving
-pub mod Catching
+pub mod Counting

@@ -1,3 +1,4 @@
+-- Part of the main theorem.
 -- The names of what stands in a route's `handle` (Caddy, JSON Config Structure, http.handlers).
 use Rattle.std.specs.Prelude.{ℕ, List, codes}
 use Rattle.cd_handlers.specs.Names.{handler_name}

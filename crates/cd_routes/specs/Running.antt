@@ -1,5 +1,6 @@
--- What routes make of a request (Caddy, JSON Config Structure, http.servers.routes and http.handlers.subroute).
--- Each step and each route is told by what it does to what follows it.
+-- Part of the main theorem.
+-- What routes make of a request (Caddy, JSON Config Structure, http.servers.routes, http.handlers.subroute and
+-- http.handlers.invoke). Each step and each route is told by what it does to what follows it.
 use Rattle.std.specs.Prelude.{ℕ, Bool, false, not, ◌&&◌, if◌then◌else◌, List, [], ◌∷◌, ◌++◌, map, Option, Some, None}
 use Rattle.std.specs.List.{list_any}
 use Rattle.std.specs.Str.{bytes_eq}
@@ -9,6 +10,7 @@ use Rattle.cd_match.specs.Holds.{holds}
 use Rattle.cd_handlers.specs.Effect as handlers
 use Rattle.cd_handlers.specs.Changes.{changed}
 use Rattle.cd_handlers.specs.Effect.{deferred}
+use Rattle.cd_handlers.specs.Invoke.{invoked}
 use Rattle.cd_handlers.specs.Status.{usual_status}
 use Rattle.cd_handlers.specs.declared.handler.Handler.{Handler}
 use Rattle.cd_handlers.specs.declared.changes.FilledChanges.{FilledChanges}
@@ -95,21 +97,32 @@ routed r rest x =
     then in_order r.handle (if r.terminal then nothing_left else rest) (with_group r.group x)
     else rest x
 
--- ---- the whole
+-- ---- named routes
+
+-- what the named route of each name does to what follows
+abbrev pub Named : Type 0
+Named = List ℕ → Middleware
+
+-- an `invoke` does what its named route does
+abbrev pub in_place : Named → Option (List ℕ) → Handler → Middleware
+in_place named None handler = handled handler
+in_place named (Some name) handler = named name
+
+-- ---- the whole, where the named routes do this
 
 -- a step is a handler or a subroute
-abbrev pub step_level : Step-F Middleware Middleware Middleware → Middleware
-step_level (Step-F.Handler handler) = handled handler
-step_level (Step-F.Subroute subroute) = subroute
+abbrev pub step_level : Named → Step-F Middleware Middleware Middleware → Middleware
+step_level named (Step-F.Handler handler) = in_place named (invoked handler) handler
+step_level named (Step-F.Subroute subroute) = subroute
 
-unfoldable pub run_route : Route → Middleware
-run_route = fold-Route Middleware Middleware Middleware step_level routed nested
+unfoldable pub run_route : Named → Route → Middleware
+run_route named = fold-Route Middleware Middleware Middleware (step_level named) routed nested
 
-unfoldable pub run_step : Step → Middleware
-run_step = fold-Step Middleware Middleware Middleware step_level routed nested
+unfoldable pub run_step : Named → Step → Middleware
+run_step named = fold-Step Middleware Middleware Middleware (step_level named) routed nested
 
-abbrev pub run_routes : List Route → Middleware
-run_routes routes = in_order (map run_route routes)
+abbrev pub run_routes : Named → List Route → Middleware
+run_routes named routes = in_order (map (run_route named) routes)
 
-abbrev pub run_steps : List Step → Middleware
-run_steps steps = in_order (map run_step steps)
+abbrev pub run_steps : Named → List Step → Middleware
+run_steps named steps = in_order (map (run_step named) steps)

@@ -1,3 +1,4 @@
+-- Part of the main theorem.
 -- A server in a configuration, and the first fault there (Caddy, JSON Config Structure, http.servers).
 use Rattle.std.specs.Prelude.{ℕ, ◌&&◌, Bool, true, List, [], ◌∷◌, map, codes, unwrap_or, Result, Ok, Err}
 use Rattle.std.specs.List.{flat_map, list_all}
@@ -15,9 +16,10 @@ use Rattle.cd_module.specs.Settings.{Reader, text, truth, number_or_text, unread
 use Rattle.cd_module.specs.declared.fault.LoadFault.{LoadFault}
 use Rattle.cd_module.specs.declared.fault.LoadFault.TheVariants.{NoMemory}
 use Rattle.cd_module.specs.declared.fault.LoadKind.TheVariants.{Missing, BadAddress}
-use Rattle.cd_routes.specs.Reading.{routes, error_routes}
+use Rattle.cd_routes.specs.Reading.{routes, error_routes, known_names, named_routes_read}
 use Rattle.cd_routes.specs.declared.listen.Listen.{Listen}
 use Rattle.cd_routes.specs.declared.listen.ListenText.{ListenText}
+use Rattle.cd_routes.specs.declared.named.KnownName.{KnownName}
 use Rattle.cd_routes.specs.declared.server.Server.{Server}
 
 -- ---- what it listens on
@@ -72,16 +74,22 @@ protocols ms at =
 
 -- ---- the whole
 
+-- its members, where these are the names of its named routes
+unfoldable pub server_members : List ℕ → List KnownName → List Member → Path → Result Server LoadFault
+server_members name known ms at =
+    needed listen (codes "listen") ms at ▷ λ addresses.
+    optional (routes known) (codes "routes") ms at ▷ λ found.
+    optional (error_routes (routes known)) (codes "errors") ms at ▷ λ errors.
+    optional (named_routes_read known) (codes "named_routes") ms at ▷ λ named.
+    timeouts ms at ▷ λ _.
+    protocols ms at ▷ λ _.
+    Ok (record { name = name; listen = addresses; routes = unwrap_or found []; errors = errors; named = unwrap_or named [] })
+
 -- a server of that name
 unfoldable pub server : List ℕ → Reader Server
 server name t at =
-    members (codes "listen routes errors read_timeout read_header_timeout write_timeout idle_timeout keepalive_interval max_header_bytes automatic_https protocols strict_sni_host") t at ▷ λ ms.
-    needed listen (codes "listen") ms at ▷ λ addresses.
-    optional routes (codes "routes") ms at ▷ λ found.
-    optional (error_routes routes) (codes "errors") ms at ▷ λ errors.
-    timeouts ms at ▷ λ _.
-    protocols ms at ▷ λ _.
-    Ok (record { name = name; listen = addresses; routes = unwrap_or found []; errors = errors })
+    members (codes "listen routes errors named_routes read_timeout read_header_timeout write_timeout idle_timeout keepalive_interval max_header_bytes automatic_https protocols strict_sni_host") t at ▷ λ ms.
+    server_members name (known_names ms at) ms at
 
 -- ---- names
 

@@ -3,9 +3,13 @@ ghost use Rattle.cd_match.specs.Holds.{holds};
 ghost use Rattle.cd_routes.specs.declared.route.Route.{Route as RouteSettings, out-Route};
 ghost use Rattle.cd_routes.specs.declared.route.Subroute.{out-Subroute};
 ghost use Rattle.cd_routes.specs.declared.work.Work.TheVariants.{Routes};
-ghost use Rattle.cd_routes.specs.Running.{Rest, nothing_left, with_changes, after, handled, caught, is_taken, with_group, with_error, run_route, run_routes, run_step, run_steps};
-ghost use Rattle.cd_routes.specs.Work.{done, all_changes, weight, route_weight, step_weight, told, weight_left, total, subroute_weight};
+ghost use Rattle.cd_handlers.specs.Invoke.{invoked};
+ghost use Rattle.cd_routes.specs.Invoking.{HasNoCycle};
+ghost use Rattle.cd_routes.specs.Named.{named_routes};
+ghost use Rattle.cd_routes.specs.Running.{Rest, Named, nothing_left, with_changes, after, handled, in_place, caught, is_taken, with_group, with_error, run_route, run_routes, run_step, run_steps};
+ghost use Rattle.cd_routes.specs.Work.{Weights, handler_weight, named_weights, done, all_changes, weight, route_weight, step_weight, told, weight_left, total, subroute_weight};
 
+use crate::named::{NamedRoute, route_named};
 use crate::outcome::{Outcome, bare_answer};
 use crate::route::{Route, Step, Subroute};
 use crate::work::{Progress, Work, behind, first_of, take_next};
@@ -127,8 +131,8 @@ fn from_first_taken<'r>(
     routes: &'r [Route],
     scene: &Scene<'_>,
 ) -> Result<&'r [Route], NoMemory>
-    ensures same { IfOk result (λ left. (rest : Rest) → run_routes left.now rest scene.now ≡ run_routes routes.now rest scene.now) }
-    ensures less { IfOk result (λ left. total (map route_weight left.now) ≤ total (map route_weight routes.now)) }
+    ensures same { IfOk result (λ left. (named : Named) (rest : Rest) → run_routes named left.now rest scene.now ≡ run_routes named routes.now rest scene.now) }
+    ensures less { IfOk result (λ left. (w : Weights) → total (map (route_weight w) left.now) ≤ total (map (route_weight w) routes.now)) }
     ensures first { IfOk result (λ left. (r : RouteSettings) (others : List RouteSettings) → left.now ≡ r ∷ others
         → true ≡ (holds (out-Route r).matching scene.now && not (is_taken (out-Route r).group scene.now))) }
 {
@@ -150,11 +154,11 @@ fn entered<'r>(
     rest: Vec<Work<'r>>,
     scene: Scene<'r>,
 ) -> Result<Progress<'r, 'r>, NoMemory>
-    ensures meaning { IfOk result (λ progress. told progress
-        ≡ run_steps (out-Route route.now).handle
-        (if (out-Route route.now).terminal then nothing_left else done rest.entry.items)
+    ensures meaning { IfOk result (λ progress. (named : Named) → told named progress
+        ≡ run_steps named (out-Route route.now).handle
+        (if (out-Route route.now).terminal then nothing_left else done named rest.entry.items)
         (with_group (out-Route route.now).group scene.entry)) }
-    ensures less { IfOk result (λ progress. weight_left progress ≤ weight rest.entry.items + route_weight route.now) }
+    ensures less { IfOk result (λ progress. (w : Weights) → weight_left w progress ≤ weight w rest.entry.items + route_weight w route.now) }
 {
     let scene = with_group(alloc, &route.group, scene)?;
     let mut rest = behind(route.terminal, rest);
@@ -171,8 +175,8 @@ fn on_routes<'r>(
     rest: Vec<Work<'r>>,
     scene: Scene<'r>,
 ) -> Result<Progress<'r, 'r>, NoMemory>
-    ensures meaning { IfOk result (λ progress. told progress ≡ run_routes routes.now (done rest.entry.items) scene.entry) }
-    ensures less { IfOk result (λ progress. weight_left progress ≤ weight rest.entry.items + total (map route_weight routes.now)) }
+    ensures meaning { IfOk result (λ progress. (named : Named) → told named progress ≡ run_routes named routes.now (done named rest.entry.items) scene.entry) }
+    ensures less { IfOk result (λ progress. (w : Weights) → weight_left w progress ≤ weight w rest.entry.items + total (map (route_weight w) routes.now)) }
 {
     let Ok(left) = from_first_taken(alloc, routes, &scene) else {
         return Err(let_go(scene));
@@ -192,8 +196,8 @@ fn on_routes<'r>(
 // What follows a handler that has done this.
 #[tactic(auto, unfolding(crate::specs::Running::with_changes))]
 fn after<'r>(deed: Deed<'r, 'r>, rest: Vec<Work<'r>>) -> Progress<'r, 'r>
-    ensures meaning { told result ≡ after deed.entry.changes (done rest.entry.items) deed.entry.effect }
-    ensures less { weight_left result ≤ weight rest.entry.items + 2 }
+    ensures meaning { (named : Named) → told named result ≡ after deed.entry.changes (done named rest.entry.items) deed.entry.effect }
+    ensures less { (w : Weights) → weight_left w result ≤ weight w rest.entry.items + 2 }
 {
     let Deed { effect, changes } = deed;
     match effect {
@@ -208,19 +212,75 @@ fn after<'r>(deed: Deed<'r, 'r>, rest: Vec<Work<'r>>) -> Progress<'r, 'r>
     }
 }
 
-// A handler, and what follows it.
+// A handler by itself, and what follows it.
 #[tactic(auto, using(crate::proofs::Pushes::after_same))]
-fn handle<'r>(
+fn apply<'r>(
     alloc: Global,
     handler: &'r Handler,
     rest: Vec<Work<'r>>,
     scene: Scene<'r>,
 ) -> Result<Progress<'r, 'r>, NoMemory>
-    ensures meaning { IfOk result (λ progress. told progress ≡ handled handler.now (done rest.entry.items) scene.entry) }
-    ensures less { IfOk result (λ progress. weight_left progress ≤ weight rest.entry.items + 2) }
+    ensures meaning { IfOk result (λ progress. (named : Named) → told named progress ≡ handled handler.now (done named rest.entry.items) scene.entry) }
+    ensures less { IfOk result (λ progress. (w : Weights) → weight_left w progress ≤ weight w rest.entry.items + 2) }
 {
     let done = deed(alloc, handler, scene)?;
     Ok(after(done, rest))
+}
+
+// A route, and what follows it.
+fn on_route<'r>(
+    alloc: Global,
+    route: &'r Route,
+    rest: Vec<Work<'r>>,
+    scene: Scene<'r>,
+) -> Result<Progress<'r, 'r>, NoMemory>
+    ensures meaning { IfOk result (λ progress. (named : Named) → told named progress ≡ run_route named route.now (done named rest.entry.items) scene.entry) }
+    ensures less { IfOk result (λ progress. (w : Weights) → weight_left w progress ≤ weight w rest.entry.items + route_weight w route.now) }
+{
+    let Ok(enters) = enters(alloc, route, &scene) else {
+        return Err(let_go(scene));
+    };
+    if !enters {
+        return Ok(Progress::Goes(rest, scene));
+    }
+    entered(alloc, route, rest, scene)
+}
+
+// The named route of a name, and what follows it. A name that is unknown does nothing.
+fn invoke<'r>(
+    alloc: Global,
+    named: &'r [NamedRoute],
+    name: &Text,
+    rest: Vec<Work<'r>>,
+    scene: Scene<'r>,
+) -> Result<Progress<'r, 'r>, NoMemory>
+    requires { HasNoCycle named.now }
+    ensures meaning { IfOk result (λ progress. told (named_routes named.now) progress ≡ named_routes named.now name.now (done (named_routes named.now) rest.entry.items) scene.entry) }
+    ensures less { IfOk result (λ progress. weight_left (named_weights named.now) progress ≤ weight (named_weights named.now) rest.entry.items + (2 + named_weights named.now name.now)) }
+{
+    match route_named(named, name) {
+        None => Ok(Progress::Goes(rest, scene)),
+        Some(found) => on_route(alloc, &found.route, rest, scene),
+    }
+}
+
+// A handler, and what follows it.
+fn handle<'r>(
+    alloc: Global,
+    named: &'r [NamedRoute],
+    handler: &'r Handler,
+    rest: Vec<Work<'r>>,
+    scene: Scene<'r>,
+) -> Result<Progress<'r, 'r>, NoMemory>
+    requires { HasNoCycle named.now }
+    ensures meaning { IfOk result (λ progress. told (named_routes named.now) progress
+        ≡ in_place (named_routes named.now) (invoked handler.now) handler.now (done (named_routes named.now) rest.entry.items) scene.entry) }
+    ensures less { IfOk result (λ progress. weight_left (named_weights named.now) progress ≤ weight (named_weights named.now) rest.entry.items + handler_weight (named_weights named.now) (invoked handler.now)) }
+{
+    match handler.invoked() {
+        None => apply(alloc, handler, rest, scene),
+        Some(name) => invoke(alloc, named, name, rest, scene),
+    }
 }
 
 // Steps, and what follows them.
@@ -228,12 +288,14 @@ fn handle<'r>(
 #[tactic(auto, unfolding(crate::specs::Running::in_order))]
 fn on_steps<'r>(
     alloc: Global,
+    named: &'r [NamedRoute],
     steps: &'r [Step],
     rest: Vec<Work<'r>>,
     scene: Scene<'r>,
 ) -> Result<Progress<'r, 'r>, NoMemory>
-    ensures meaning { IfOk result (λ progress. told progress ≡ run_steps steps.now (done rest.entry.items) scene.entry) }
-    ensures less { IfOk result (λ progress. weight_left progress ≤ weight rest.entry.items + total (map step_weight steps.now)) }
+    requires { HasNoCycle named.now }
+    ensures meaning { IfOk result (λ progress. told (named_routes named.now) progress ≡ run_steps (named_routes named.now) steps.now (done (named_routes named.now) rest.entry.items) scene.entry) }
+    ensures less { IfOk result (λ progress. weight_left (named_weights named.now) progress ≤ weight (named_weights named.now) rest.entry.items + total (map (step_weight (named_weights named.now)) steps.now)) }
 {
     match first_of(steps) {
         None => Ok(Progress::Goes(rest, scene)),
@@ -242,7 +304,7 @@ fn on_steps<'r>(
             let Ok(()) = rest.push(Work::Steps(others)) else {
                 return Err(let_go(scene));
             };
-            begin(alloc, step, rest, scene)
+            begin(alloc, named, step, rest, scene)
         }
     }
 }
@@ -251,16 +313,18 @@ fn on_steps<'r>(
 #[cycle(run)]
 fn begin<'r>(
     alloc: Global,
+    named: &'r [NamedRoute],
     step: &'r Step,
     rest: Vec<Work<'r>>,
     scene: Scene<'r>,
 ) -> Result<Progress<'r, 'r>, NoMemory>
-    ensures meaning { IfOk result (λ progress. told progress ≡ run_step step.now (done rest.entry.items) scene.entry) }
-    ensures less { IfOk result (λ progress. weight_left progress ≤ weight rest.entry.items + step_weight step.now) }
+    requires { HasNoCycle named.now }
+    ensures meaning { IfOk result (λ progress. told (named_routes named.now) progress ≡ run_step (named_routes named.now) step.now (done (named_routes named.now) rest.entry.items) scene.entry) }
+    ensures less { IfOk result (λ progress. weight_left (named_weights named.now) progress ≤ weight (named_weights named.now) rest.entry.items + step_weight (named_weights named.now) step.now) }
 {
     match step {
-        Step::Handler(handler) => handle(alloc, handler, rest, scene),
-        Step::Subroute(subroute) => nest(alloc, subroute, rest, scene),
+        Step::Handler(handler) => handle(alloc, named, handler, rest, scene),
+        Step::Subroute(subroute) => nest(alloc, named, subroute, rest, scene),
     }
 }
 
@@ -281,14 +345,16 @@ fn in_front<'r>(
 #[cycle(run)]
 fn nest<'r>(
     alloc: Global,
+    named: &'r [NamedRoute],
     subroute: &'r Subroute,
     rest: Vec<Work<'r>>,
     scene: Scene<'r>,
 ) -> Result<Progress<'r, 'r>, NoMemory>
-    ensures meaning { IfOk result (λ progress. told progress
-        ≡ caught (option_map (map run_route) (out-Subroute subroute.now).errors) (done rest.entry.items)
-        (run_routes (out-Subroute subroute.now).routes (done rest.entry.items) scene.entry)) }
-    ensures less { IfOk result (λ progress. weight_left progress ≤ weight rest.entry.items + subroute_weight (out-Subroute subroute.now)) }
+    requires { HasNoCycle named.now }
+    ensures meaning { IfOk result (λ progress. told (named_routes named.now) progress
+        ≡ caught (option_map (map (run_route (named_routes named.now))) (out-Subroute subroute.now).errors) (done (named_routes named.now) rest.entry.items)
+        (run_routes (named_routes named.now) (out-Subroute subroute.now).routes (done (named_routes named.now) rest.entry.items) scene.entry)) }
+    ensures less { IfOk result (λ progress. weight_left (named_weights named.now) progress ≤ weight (named_weights named.now) rest.entry.items + subroute_weight (named_weights named.now) (out-Subroute subroute.now)) }
 {
     match &subroute.errors {
         None => {
@@ -302,7 +368,7 @@ fn nest<'r>(
             let Ok(tried) = in_front(alloc, subroute.routes.as_slice(), &rest) else {
                 return Err(let_go(scene));
             };
-            match run(alloc, tried, scene)? {
+            match run(alloc, named, tried, scene)? {
                 Outcome::Answered(answer) => Ok(Progress::Ends(Outcome::Answered(answer))),
                 Outcome::Failed(scene, status, message) => {
                     let mut rest = rest;
@@ -320,24 +386,32 @@ fn nest<'r>(
 #[cycle(run)]
 fn advance<'r>(
     alloc: Global,
+    named: &'r [NamedRoute],
     work: Vec<Work<'r>>,
     scene: Scene<'r>,
 ) -> Result<Progress<'r, 'r>, NoMemory>
-    ensures meaning { IfOk result (λ progress. told progress ≡ done work.entry.items scene.entry) }
-    ensures less { IfOk result (λ progress. weight_left progress ≤ weight work.entry.items) }
+    requires { HasNoCycle named.now }
+    ensures meaning { IfOk result (λ progress. told (named_routes named.now) progress ≡ done (named_routes named.now) work.entry.items scene.entry) }
+    ensures less { IfOk result (λ progress. weight_left (named_weights named.now) progress ≤ weight (named_weights named.now) work.entry.items) }
 {
     let mut work = work;
     match take_next(&mut work) {
         None => Ok(Progress::Ends(nothing_left(scene))),
         Some(Work::Routes(routes)) => on_routes(alloc, routes, work, scene),
-        Some(Work::Steps(steps)) => on_steps(alloc, steps, work, scene),
+        Some(Work::Steps(steps)) => on_steps(alloc, named, steps, work, scene),
     }
 }
 
 // Does all that is to be done. It calls itself at a subroute with errors alone.
 #[cycle(run)]
-fn run<'r>(alloc: Global, work: Vec<Work<'r>>, scene: Scene<'r>) -> Result<Outcome<'r>, NoMemory>
-    ensures { IfOk result (λ outcome. outcome ≡ done work.entry.items scene.entry) }
+fn run<'r>(
+    alloc: Global,
+    named: &'r [NamedRoute],
+    work: Vec<Work<'r>>,
+    scene: Scene<'r>,
+) -> Result<Outcome<'r>, NoMemory>
+    requires { HasNoCycle named.now }
+    ensures { IfOk result (λ outcome. outcome ≡ done (named_routes named.now) work.entry.items scene.entry) }
 {
     let mut left = List::new(alloc);
     let mut progress = Progress::Goes(work, scene);
@@ -350,7 +424,7 @@ fn run<'r>(alloc: Global, work: Vec<Work<'r>>, scene: Scene<'r>) -> Result<Outco
                 };
                 progress = Progress::Goes(work, scene);
             }
-            Progress::Goes(work, scene) => progress = advance(alloc, work, scene)?,
+            Progress::Goes(work, scene) => progress = advance(alloc, named, work, scene)?,
         }
     }
 }
@@ -359,14 +433,16 @@ fn run<'r>(alloc: Global, work: Vec<Work<'r>>, scene: Scene<'r>) -> Result<Outco
 #[tactic(auto, using(crate::proofs::Pushes::done_one))]
 pub fn run_routes<'r>(
     alloc: Global,
+    named: &'r [NamedRoute],
     routes: &'r [Route],
     scene: Scene<'r>,
 ) -> Result<Outcome<'r>, NoMemory>
-    ensures { IfOk result (λ outcome. outcome ≡ run_routes routes.now nothing_left scene.entry) }
+    requires { HasNoCycle named.now }
+    ensures { IfOk result (λ outcome. outcome ≡ run_routes (named_routes named.now) routes.now nothing_left scene.entry) }
 {
     let mut work = Vec::new(alloc);
     match work.push(Work::Routes(routes)) {
-        Ok(()) => run(alloc, work, scene),
+        Ok(()) => run(alloc, named, work, scene),
         Err(_) => Err(let_go(scene)),
     }
 }

@@ -1,8 +1,9 @@
 ghost use Rattle.cd_text.specs.Gives.{Gives};
 ghost use Rattle.cd_module.specs.declared.fault.LoadFault.{LoadFault};
-ghost use Rattle.cd_routes.specs.Server.{server, timeouts, protocols};
+ghost use Rattle.cd_routes.specs.Server.{server, server_members, timeouts, protocols};
 
 use crate::listen::Listen;
+use crate::named::{KnownName, NamedRoute, known_names, read_named_member};
 use crate::reading::{read_errors_member, read_routes_member};
 use crate::route::Route;
 use cd_module::{
@@ -21,6 +22,8 @@ pub struct Server {
     pub routes: List<Route>,
     /// What is done where the routes fail.
     pub errors: Option<List<Route>>,
+    /// What handlers invoke, by rising name.
+    pub named: List<NamedRoute>,
 }
 
 // Times and sizes, which have no effect so far.
@@ -48,6 +51,32 @@ fn read_protocols(alloc: Global, fields: &Fields<'_>, at: &Place<'_>) -> Result<
     Ok(())
 }
 
+// The members of a server, where these are the names of its named routes.
+#[tactic(auto, unfolding(crate::specs::Server::server_members))]
+fn read_members(
+    alloc: Global,
+    name: &Text,
+    known: &[KnownName],
+    fields: &Fields<'_>,
+    at: &Place<'_>,
+) -> Result<Server, LoadFault>
+    ensures { Gives LoadFault.NoMemory result (server_members name.now known.now fields.now.members.now at.now) }
+{
+    let listen = needed::<Listen>(alloc, fields, at, "listen")?;
+    let routes = read_routes_member(alloc, known, fields, at, "routes")?;
+    let errors = read_errors_member(alloc, known, fields, at, "errors")?;
+    let named = read_named_member(alloc, known, fields, at, "named_routes")?;
+    read_timeouts(alloc, fields, at)?;
+    read_protocols(alloc, fields, at)?;
+    Ok(Server {
+        name: name.copy(alloc)?,
+        listen,
+        routes: routes.unwrap_or(List::new(alloc)),
+        errors,
+        named: named.unwrap_or(List::new(alloc)),
+    })
+}
+
 impl Named for Server {
     ghost named = { server };
 
@@ -62,18 +91,9 @@ impl Named for Server {
             alloc,
             tree,
             at,
-            "listen routes errors read_timeout read_header_timeout write_timeout idle_timeout keepalive_interval max_header_bytes automatic_https protocols strict_sni_host",
+            "listen routes errors named_routes read_timeout read_header_timeout write_timeout idle_timeout keepalive_interval max_header_bytes automatic_https protocols strict_sni_host",
         )?;
-        let listen = needed::<Listen>(alloc, &fields, at, "listen")?;
-        let routes = read_routes_member(alloc, &fields, at, "routes")?;
-        let errors = read_errors_member(alloc, &fields, at, "errors")?;
-        read_timeouts(alloc, &fields, at)?;
-        read_protocols(alloc, &fields, at)?;
-        Ok(Server {
-            name: name.copy(alloc)?,
-            listen,
-            routes: routes.unwrap_or(List::new(alloc)),
-            errors,
-        })
+        let known = known_names(alloc, &fields, at)?;
+        read_members(alloc, name, known.as_slice(), &fields, at)
     }
 }

@@ -1,6 +1,6 @@
 ghost use Rattle.std.specs.Prelude.{◌≡◌, ◌≤◌, ◌∷◌, [], ◌++◌, MatchOption, if◌then◌else◌};
-ghost use Rattle.cd_routes.specs.Running.{nothing_left};
-ghost use Rattle.cd_routes.specs.Work.{done, weight};
+ghost use Rattle.cd_routes.specs.Running.{Named, nothing_left};
+ghost use Rattle.cd_routes.specs.Work.{Weights, done, weight};
 
 use crate::outcome::Outcome;
 use crate::route::{Route, Step};
@@ -26,8 +26,8 @@ pub enum Progress<'a, 'r> {
 /// What follows a route: nothing, where the route is terminal.
 #[tactic(auto, unfolding(crate::specs::Work::done, crate::specs::Work::weight))]
 pub fn behind<'a>(terminal: bool, rest: Vec<Work<'a>>) -> Vec<Work<'a>>
-    ensures meaning { done result.items ≡ (if terminal then nothing_left else done rest.entry.items) }
-    ensures less { weight result.items ≤ weight rest.entry.items }
+    ensures meaning { (named : Named) → done named result.items ≡ (if terminal then nothing_left else done named rest.entry.items) }
+    ensures less { (w : Weights) → weight w result.items ≤ weight w rest.entry.items }
 {
     let mut rest = rest;
     if terminal {

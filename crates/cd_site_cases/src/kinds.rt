@@ -3,7 +3,9 @@ ghost use Rattle.cd_tree.specs.Tree.{IsSound};
 
 use crate::configurations::configuration_outcome;
 use crate::fill::fill_outcome;
-use crate::parts::{error_subroutes_outcome, listen_outcome, names_outcome};
+use crate::parts::{
+    error_subroutes_outcome, expanded_routes_outcome, listen_outcome, names_outcome,
+};
 use crate::scene::scene_outcome;
 use crate::servers::{
     handle_outcome, line_outcome, match_outcome, routes_outcome, server_outcome,
@@ -75,6 +77,8 @@ fn outcome_of_part(alloc: Global, row: &Tree) -> Result<Outcome, RowFault> {
         names_outcome(alloc, row)
     } else if has(row, "error_subroutes") {
         error_subroutes_outcome(alloc, row)
+    } else if has(row, "expanded_routes") {
+        expanded_routes_outcome(alloc, row)
     } else if has(row, "configuration") {
         configuration_outcome(alloc, row)
     } else {

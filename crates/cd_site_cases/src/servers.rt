@@ -2,6 +2,7 @@
 //!
 //! The rest of a server stands around a part of one: `routes`; `handle`, the handlers of its one route; `match`, the matchers of a
 //! route that answers `yes`, before one that answers `no`; or `line_after`, the handlers before an answer of what is asked for then.
+ghost use Rattle.cd_routes.specs.Invoking.{HasNoCycle};
 ghost use Rattle.cd_tree.specs.Tree.{IsSound};
 
 use crate::asked::request_of;
@@ -151,7 +152,10 @@ fn answered_outcome(alloc: Global, row: &Tree, server: &Server) -> Result<Outcom
         None => says(alloc, "found", "fine"),
         Some(asked) => {
             let request = request_of(alloc, asked)?;
-            answer_outcome(alloc, row, server, &request)
+            match server.first_in_cycle(alloc)? {
+                None => answer_outcome(alloc, row, server, &request),
+                Some(_) => Err(RowFault::Malformed("a named route leads to itself")),
+            }
         }
     }
 }
@@ -161,7 +165,9 @@ fn answer_outcome(
     row: &Tree,
     server: &Server,
     request: &Request,
-) -> Result<Outcome, RowFault> {
+) -> Result<Outcome, RowFault>
+    requires { HasNoCycle (server.now).named }
+{
     let answer = answer_of(alloc, row, server, request)?;
     if has(row, "found") {
         shortly(alloc, &answer)
@@ -176,7 +182,9 @@ fn answer_of<'a>(
     row: &Tree,
     server: &'a Server,
     request: &'a Request,
-) -> Result<Answer<'a>, RowFault> {
+) -> Result<Answer<'a>, RowFault>
+    requires { HasNoCycle (server.now).named }
+{
     match find(row, "vars") {
         None => Ok(server_answer(alloc, server, request)?),
         Some(pairs) => {

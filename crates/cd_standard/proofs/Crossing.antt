@@ -18,10 +18,12 @@ use Rattle.cd_handlers.proofs.handler.Handler.TheSendSync as handler
 use Rattle.cd_routes.proofs.listen.Listen.TheSendSync as listen
 use Rattle.cd_routes.proofs.route.Step.TheLaws.TheKnot as routes
 use Rattle.cd_routes.specs.contracts.route.Route as Route
+use Rattle.cd_routes.specs.contracts.named.NamedRoute as NamedRoute
 use Rattle.cd_routes.specs.contracts.server.Server as Server
-use Rattle.cd_standard.proofs.admin.Admin.TheSendSync as admin
+use Rattle.cd_admin.proofs.admin.Admin.TheSendSync as admin
 use Rattle.cd_standard.proofs.echo.Echo.TheSendSync as echo
 use Rattle.cd_standard.specs.contracts.app.App as App
+use Rattle.cd_standard.specs.contracts.compiled.Compiled as Compiled
 use Rattle.cd_standard.specs.contracts.configuration.Configuration as Configuration
 use Rattle.cd_standard.specs.contracts.http.Http as Http
 
@@ -51,8 +53,11 @@ route_parts_send = routes.send-Route handler.the_field_send group_send sets_send
 route_send : IsSend Route.the_row
 route_send = let r = route_parts_send in search (r, sendable) depth 60 fits 20000
 
+named_send : IsSend NamedRoute.the_row
+named_send = declared_send NamedRoute.the_type (text.the_send, (route_send, tt))
+
 pub server_send : IsSend Server.the_row
-server_send = declared_send Server.the_type (text.the_send, (listen.the_send, (list_send Route.the_row route_send, (lists_send Route.the_row route_send, tt))))
+server_send = declared_send Server.the_type (text.the_send, (listen.the_send, (list_send Route.the_row route_send, (lists_send Route.the_row route_send, (list_send NamedRoute.the_row named_send, tt)))))
 
 http_send : IsSend Http.the_row
 http_send = declared_send Http.the_type (list_send Server.the_row server_send, tt)
@@ -60,8 +65,11 @@ http_send = declared_send Http.the_type (list_send Server.the_row server_send, t
 app_send : IsSend App.the_row
 app_send = variants_send App.enum ((echo.the_send, tt), ((http_send, tt), tt))
 
-pub configuration_send : IsSend Configuration.the_row
-configuration_send = declared_send Configuration.the_type (admin.the_send, (list_send App.the_row app_send, tt))
+pub settings_send : IsSend Configuration.the_row
+settings_send = declared_send Configuration.the_type (admin.the_send, (list_send App.the_row app_send, tt))
+
+pub configuration_send : IsSend Compiled.the_row
+configuration_send = declared_send Compiled.the_type (settings_send, tt)
 
 -- ---- threads may share it
 
@@ -89,8 +97,11 @@ route_parts_sync = routes.sync-Route handler.the_field_sync group_sync sets_sync
 route_sync : IsSync Route.the_row
 route_sync = let r = route_parts_sync in search (r, sendable) depth 60 fits 20000
 
+named_sync : IsSync NamedRoute.the_row
+named_sync = declared_sync NamedRoute.the_type (text.the_sync, (route_sync, tt))
+
 pub server_sync : IsSync Server.the_row
-server_sync = declared_sync Server.the_type (text.the_sync, (listen.the_sync, (list_sync Route.the_row route_sync, (lists_sync Route.the_row route_sync, tt))))
+server_sync = declared_sync Server.the_type (text.the_sync, (listen.the_sync, (list_sync Route.the_row route_sync, (lists_sync Route.the_row route_sync, (list_sync NamedRoute.the_row named_sync, tt)))))
 
 http_sync : IsSync Http.the_row
 http_sync = declared_sync Http.the_type (list_sync Server.the_row server_sync, tt)
@@ -98,5 +109,8 @@ http_sync = declared_sync Http.the_type (list_sync Server.the_row server_sync, t
 app_sync : IsSync App.the_row
 app_sync = variants_sync App.enum ((echo.the_sync, tt), ((http_sync, tt), tt))
 
-pub configuration_sync : IsSync Configuration.the_row
-configuration_sync = declared_sync Configuration.the_type (admin.the_sync, (list_sync App.the_row app_sync, tt))
+pub settings_sync : IsSync Configuration.the_row
+settings_sync = declared_sync Configuration.the_type (admin.the_sync, (list_sync App.the_row app_sync, tt))
+
+pub configuration_sync : IsSync Compiled.the_row
+configuration_sync = declared_sync Compiled.the_type (settings_sync, tt)

@@ -20,11 +20,12 @@ use Rattle.cd_module.specs.declared.limits.TheConstants.{MAX_MODULES}
 use Rattle.cd_module_set.specs.Acts.{Acts, DoAlike, nobody}
 use Rattle.cd_standard.specs.Acting.{acts_of, acts_of_tree, acts_in, plan_of_tree}
 use Rattle.cd_standard.specs.Configuration.{configuration}
-use Rattle.cd_standard.specs.Loading.{accepted, judged, limits, loaded, nothing_said, of_ids, of_object, of_settings, planned, all_distinct}
+use Rattle.cd_standard.specs.declared.checks.Check.TheVariants.{NamedRoutes}
+use Rattle.cd_standard.specs.Loading.{HaveNoCycle, servers_of, each_checked, accepted, judged, limits, loaded, nothing_said, of_ids, of_object, of_settings, planned, all_distinct}
 use Rattle.cd_standard.specs.Plans.{admin_plans, app_modules, app_plan, app_name, app_addresses, apps_of, modules_of, addresses_of, root}
 use Rattle.cd_legal.specs.declared.plan.PlanApp.{PlanApp}
 use Rattle.cd_standard.specs.declared.app.App.{App}
-use Rattle.cd_standard.specs.declared.admin.Admin.{Admin}
+use Rattle.cd_admin.specs.declared.admin.Admin.{Admin}
 use Rattle.cd_standard.specs.declared.configuration.Configuration.{Configuration}
 use Rattle.cd_standard.specs.declared.loading.Configured.{Configured}
 
@@ -40,9 +41,10 @@ went : {A B : Type 0} (r : Result A LoadFault) (next : A → Result B LoadFault)
 went (Ok a) next x h = record { value = a; is = refl; rest = h }
 went (Err fault) next x h = cc
 
--- it has as many modules as there may be, and is the configuration with its plan
+-- no named route leads to itself, it has as many modules as there may be, and is the configuration with its plan
 pub record Keeps (l : Configured) : Type 0 where
   pub is : l ≡ planned l.configuration
+  pub acyclic : HaveNoCycle (servers_of l.configuration)
   pub few : length (modules_of l.configuration) ≤ MAX_MODULES
 
 few_by : (n m : ℕ) (b : Bool) (limit : Limit) → nat_le n m ≡ b → ◌≡◌ {A = Result (Unit {0}) LoadFault} (if b then Ok tt else Err (limit_reached limit)) (Ok tt) → n ≤ m
@@ -56,10 +58,11 @@ accepted_keeps : (c : Configuration) (l : Configured) → accepted c ≡ Ok l �
 accepted_keeps c l h =
     let whole = went (judged c) (λ _. Ok (planned c)) l h in
     let same : planned c ≡ l = cc in
-    let limited = went (limits c) (λ _. all_distinct [] (addresses_of c)) tt whole.is in
+    let named = went (each_checked NamedRoutes (servers_of c)) (λ _. limits c ▷ λ _. all_distinct [] (addresses_of c)) tt whole.is in
+    let limited = went (limits c) (λ _. all_distinct [] (addresses_of c)) tt named.rest in
     let modules = went (within Modules (length (modules_of c))) _ tt limited.is in
     let few = within_few (length (modules_of c)) modules.is in
-    subst Keeps same (record { is = refl; few = few })
+    subst Keeps same (record { is = refl; acyclic = named.is; few = few })
 
 settings_keep : (t : Tree) (l : Configured) → of_settings t ≡ Ok l → Keeps l
 settings_keep t l h = let read = went (configuration t root) (λ c. accepted c) l h in accepted_keeps read.value l read.rest
@@ -68,12 +71,15 @@ object_keeps : (t : Tree) (l : Configured) → of_object t ≡ Ok l → Keeps l
 object_keeps t l h = settings_keep t l (went (of_ids (id_fault t)) (λ _. of_settings t) l h).rest
 
 loaded_by : (t : Tree) (l : Configured) (b : Bool) → (if b then Ok (planned nothing_said) else (all_layer (out-Tree t) root ▷ λ _. of_object t)) ≡ Ok l → Keeps l
-loaded_by t l true h = let same : planned nothing_said ≡ l = cc in subst Keeps same (record { is = refl; few = omega arith })
+loaded_by t l true h = let same : planned nothing_said ≡ l = cc in subst Keeps same (record { is = refl; acyclic = refl; few = omega arith })
 loaded_by t l false h = object_keeps t l (went (all_layer (out-Tree t) root) (λ _. of_object t) l h).rest
 
 pub loaded_keeps : (t : Tree) (l : Configured) → loaded t ≡ Ok l → Keeps l
 unfolding loaded
 loaded_keeps t l h = loaded_by t l (is_null t) h
+
+pub none_in_cycle : (t : Tree) (l : Configured) → loaded t ≡ Ok l → HaveNoCycle (servers_of l.configuration)
+none_in_cycle t l h = (loaded_keeps t l h).acyclic
 
 -- ---- its plan
 

@@ -1,6 +1,6 @@
 pub mod Adding
 pub mod Counts
-pub mod Errors
+pub mod Checked
 pub mod Levels
 pub mod Examples
 pub mod Doing

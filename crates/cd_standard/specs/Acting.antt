@@ -1,3 +1,4 @@
+-- Part of the main theorem.
 -- What a configuration does: who answers at an address, and with what.
 use Rattle.std.specs.Prelude.{◌&&◌, ◌||◌, Bool, false, not, if◌then◌else◌, [], codes, Option, Some, None, is_some, Result, Ok, Err}
 use Rattle.std.specs.List.{find, list_any}

@@ -1,3 +1,4 @@
+-- Part of the main theorem.
 -- The modules and the apps of a configuration, in the order in which they are made and started.
 use Rattle.std.specs.Prelude.{ℕ, suc, if◌then◌else◌, List, [], ◌∷◌, ◌++◌, map, codes, decimal, Option, Some, None, option_map}
 use Rattle.std.specs.List.{flat_map}
@@ -13,11 +14,12 @@ use Rattle.cd_handlers.specs.Names.{handler_name}
 use Rattle.cd_routes.specs.Names.{subroute_name}
 use Rattle.cd_routes.specs.declared.listen.Listen.{Listen}
 use Rattle.cd_routes.specs.declared.listen.ListenText.{ListenText}
+use Rattle.cd_routes.specs.declared.named.NamedRoute.{NamedRoute}
 use Rattle.cd_routes.specs.declared.route.Route.{Route, Route-F, fold-Route}
 use Rattle.cd_routes.specs.declared.route.Step.{Step, fold-Step}
 use Rattle.cd_routes.specs.declared.route.Step.TheOpen.{Step-F, Subroute-F}
 use Rattle.cd_routes.specs.declared.server.Server.{Server}
-use Rattle.cd_standard.specs.declared.admin.Admin.{Admin}
+use Rattle.cd_admin.specs.declared.admin.Admin.{Admin}
 use Rattle.cd_standard.specs.declared.app.App.{App}
 use Rattle.cd_standard.specs.declared.app.App.TheVariants.{Echo, Http}
 use Rattle.cd_standard.specs.declared.configuration.Configuration.{Configuration}
@@ -111,9 +113,17 @@ routes_modules routes = in_elements 0 (map route_modules routes)
 abbrev pub errors_modules : Option (List Route) → Modules
 errors_modules errors = in_errors (option_map (map route_modules) errors)
 
--- its routes, then its error routes; a server itself is no module
+-- a named route stands under its name
+abbrev pub named_modules : Path → NamedRoute → List PlanModule
+named_modules at r = route_modules r.route (at ▸ r.name)
+
+-- what follows the routes of a server: its error routes, then its named routes
+abbrev pub after_routes : Server → Modules
+after_routes s at = errors_modules s.errors at ++ flat_map (named_modules (at ▸ codes "named_routes")) s.named
+
+-- its routes, then its error routes, then its named routes by name; a server itself is no module
 abbrev pub server_modules : Path → Server → List PlanModule
-server_modules servers s = routes_modules s.routes (servers ▸ s.name ▸ codes "routes") ++ errors_modules s.errors (servers ▸ s.name)
+server_modules servers s = routes_modules s.routes (servers ▸ s.name ▸ codes "routes") ++ after_routes s (servers ▸ s.name)
 
 abbrev pub app_name : App → List ℕ
 app_name (Echo echo) = codes "echo"

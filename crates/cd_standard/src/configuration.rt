@@ -1,10 +1,10 @@
-ghost use Rattle.std.specs.Prelude.{◌≡◌, IfOk};
-ghost use Rattle.cd_standard.specs.Configuration.{apps, apps_or_none, configuration, admin_or_usual};
+ghost use Rattle.std.specs.Prelude.{◌≡◌};
+ghost use Rattle.cd_standard.specs.Configuration.{apps, apps_or_none, configuration};
 
-use crate::admin::Admin;
 use crate::app::App;
+use cd_admin::Admin;
 use cd_module::{LoadFault, Settings, fields_of, object_by_name, optional};
-use cd_text::{List, NoMemory};
+use cd_text::List;
 use cd_tree::{Place, Tree};
 use std::alloc::Global;
 
@@ -44,15 +44,6 @@ fn apps_or_none(alloc: Global, given: Option<Apps>) -> List<App>
     }
 }
 
-fn admin_or_usual(alloc: Global, given: Option<Admin>) -> Result<Admin, NoMemory>
-    ensures { IfOk result (λ made. made ≡ admin_or_usual given) }
-{
-    match given {
-        Some(admin) => Ok(admin),
-        None => Admin::usual(alloc),
-    }
-}
-
 impl Settings for Configuration {
     ghost reader = { configuration };
 
@@ -62,7 +53,7 @@ impl Settings for Configuration {
         let admin = optional::<Admin>(alloc, &fields, at, "admin")?;
         let apps = optional::<Apps>(alloc, &fields, at, "apps")?;
         Ok(Configuration {
-            admin: admin_or_usual(alloc, admin)?,
+            admin: Admin::or_usual(alloc, admin)?,
             apps: apps_or_none(alloc, apps),
         })
     }

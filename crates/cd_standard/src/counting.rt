@@ -5,14 +5,14 @@ ghost use Rattle.std.specs.List.{flat_map};
 ghost use Rattle.cd_tree.specs.Path.{◌▸◌};
 ghost use Rattle.cd_routes.specs.declared.route.Subroute.{out-Subroute};
 ghost use Rattle.cd_standard.specs.Loading.{app_servers, servers_of};
-ghost use Rattle.cd_standard.specs.Plans.{addresses_of, admin_addresses, app_addresses, app_modules, errors_modules, in_elements, inside_app, listen_addresses, matcher_modules, modules_of, route_modules, routes_modules, server_addresses, server_modules, set_modules, step_modules};
+ghost use Rattle.cd_standard.specs.Plans.{addresses_of, admin_addresses, app_addresses, app_modules, errors_modules, in_elements, inside_app, listen_addresses, matcher_modules, modules_of, named_modules, after_routes, route_modules, routes_modules, server_addresses, server_modules, set_modules, step_modules};
 ghost use Rattle.cd_standard.specs.Walking.{Counts, in_matcher, in_subroute};
 
-use crate::admin::Admin;
 use crate::app::App;
 use crate::configuration::Configuration;
+use cd_admin::Admin;
 use cd_match::{Matcher, MatcherSet};
-use cd_routes::{Listen, Route, Server, Step, Subroute};
+use cd_routes::{Listen, NamedRoute, Route, Server, Step, Subroute};
 use cd_text::List;
 
 // ---- servers
@@ -137,7 +137,30 @@ fn modules_in_server(server: &Server) -> usize
     ensures { Counts result (λ at. server_modules at server.now) }
 {
     let routes = modules_in_routes(server.routes.as_slice());
-    routes.saturating_add(modules_in_errors(&server.errors))
+    routes.saturating_add(modules_after_routes(server))
+}
+
+fn modules_after_routes(server: &Server) -> usize
+    ensures { Counts result (after_routes server.now) }
+{
+    let errors = modules_in_errors(&server.errors);
+    errors.saturating_add(modules_in_named(server.named.as_slice()))
+}
+
+fn modules_in_named(named: &[NamedRoute]) -> usize
+    ensures { Counts result (λ at. flat_map (named_modules at) named.now) }
+{
+    let mut found = 0usize;
+    for one in named {
+        found = found.saturating_add(modules_in_one(one));
+    }
+    found
+}
+
+fn modules_in_one(one: &NamedRoute) -> usize
+    ensures { Counts result (λ at. named_modules at one.now) }
+{
+    modules_in_route(&one.route)
 }
 
 fn modules_in_errors(errors: &Option<List<Route>>) -> usize

@@ -1,41 +1,60 @@
-//! What is said of a whole configuration: its limits, and that no address is listened on twice.
+//! What is said of a whole configuration: that no named route leads to itself, its limits, and that no address is listened on twice.
 ghost use Rattle.std.specs.Prelude.{◌≡◌, ◌≢◌, [], length};
-ghost use Rattle.std.specs.List.{flat_map};
 ghost use Rattle.cd_text.specs.Gives.{Gives};
 ghost use Rattle.cd_addr.specs.Addresses.{is_address, written};
 ghost use Rattle.cd_module.specs.Faults.{repeated_address, within};
-ghost use Rattle.cd_routes.specs.Catching.{error_subroutes};
-ghost use Rattle.cd_standard.specs.Loading.{all_distinct, app_servers, few_errors, is_among, judged, limits, servers_of};
+ghost use Rattle.cd_text.specs.Steps.{◌▷◌};
+ghost use Rattle.cd_standard.specs.Loading.{HaveNoCycle, all_distinct, each_checked, is_among, judged, limits, servers_of};
 ghost use Rattle.cd_standard.specs.Plans.{addresses_of, modules_of};
 
 use crate::app::App;
+use crate::checks::{Check, check_apps};
 use crate::configuration::Configuration;
 use crate::counting::{count_addresses, count_modules, count_servers};
 use crate::listening::{Listened, addresses_of};
 use cd_addr::write;
 use cd_module::{Limit, LoadFault};
 use cd_outside::Address;
-use cd_routes::Server;
 use std::alloc::Global;
 
-/// The first fault of the whole of a configuration. Its modules and addresses are counted, and its addresses are written out only
-/// where there are not too many.
+/// The first fault of the whole of a configuration. Named routes come first, since nothing is counted where one leads to itself.
+/// Modules and addresses are counted, and addresses are written out only where there are not too many.
 pub fn judge(alloc: Global, configuration: &Configuration) -> Result<(), LoadFault>
     ensures { Gives LoadFault.NoMemory result (judged configuration.now) }
 {
+    check_named_routes(alloc, configuration)?;
     check_limits(alloc, configuration)?;
     check_addresses(alloc, configuration)
+}
+
+// ---- named routes
+
+fn check_named_routes(alloc: Global, configuration: &Configuration) -> Result<(), LoadFault>
+    ensures { Gives LoadFault.NoMemory result (each_checked Check.NamedRoutes (servers_of configuration.now)) }
+{
+    check_apps(alloc, configuration.apps.as_slice(), Check::NamedRoutes)
 }
 
 // ---- limits
 
 fn check_limits(alloc: Global, configuration: &Configuration) -> Result<(), LoadFault>
+    requires { HaveNoCycle (servers_of configuration.now) }
     ensures { Gives LoadFault.NoMemory result (limits configuration.now) }
 {
     check_count_of_modules(alloc, configuration)?;
     check_count_of_addresses(alloc, configuration)?;
     check_count_of_servers(alloc, configuration)?;
-    check_errors(alloc, configuration.apps.as_slice())
+    check_routes(alloc, configuration)
+}
+
+// How much there is in the routes of servers.
+fn check_routes(alloc: Global, configuration: &Configuration) -> Result<(), LoadFault>
+    requires { HaveNoCycle (servers_of configuration.now) }
+    ensures { Gives LoadFault.NoMemory result (each_checked Check.ErrorSubroutes (servers_of configuration.now) ▷ λ _. each_checked Check.ExpandedRoutes (servers_of configuration.now)) }
+{
+    let apps = configuration.apps.as_slice();
+    check_apps(alloc, apps, Check::ErrorSubroutes)?;
+    check_apps(alloc, apps, Check::ExpandedRoutes)
 }
 
 #[tactic(auto, using(crate::proofs::Counts::within_counted))]
@@ -57,40 +76,6 @@ fn check_count_of_servers(alloc: Global, configuration: &Configuration) -> Resul
     ensures { Gives LoadFault.NoMemory result (within Limit.Servers (length (servers_of configuration.now))) }
 {
     Limit::Servers.allows(alloc, count_servers(configuration))
-}
-
-fn check_errors(alloc: Global, apps: &[App]) -> Result<(), LoadFault>
-    ensures { Gives LoadFault.NoMemory result (few_errors (flat_map app_servers apps.now)) }
-{
-    for app in apps {
-        check_app_errors(alloc, app)?;
-    }
-    Ok(())
-}
-
-fn check_app_errors(alloc: Global, app: &App) -> Result<(), LoadFault>
-    ensures { Gives LoadFault.NoMemory result (few_errors (app_servers app.now)) }
-{
-    match app {
-        App::Echo(_) => Ok(()),
-        App::Http(http) => check_server_errors(alloc, http.servers.as_slice()),
-    }
-}
-
-fn check_server_errors(alloc: Global, servers: &[Server]) -> Result<(), LoadFault>
-    ensures { Gives LoadFault.NoMemory result (few_errors servers.now) }
-{
-    for server in servers {
-        check_errors_of(alloc, server)?;
-    }
-    Ok(())
-}
-
-#[tactic(auto, using(crate::proofs::Counts::within_counted))]
-fn check_errors_of(alloc: Global, server: &Server) -> Result<(), LoadFault>
-    ensures { Gives LoadFault.NoMemory result (within Limit.ErrorSubroutes (error_subroutes server.now)) }
-{
-    Limit::ErrorSubroutes.allows(alloc, server.error_subroutes())
 }
 
 // ---- addresses

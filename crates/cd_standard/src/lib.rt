@@ -1,19 +1,22 @@
 //! The standard modules: what a whole configuration says, its first fault, its plan of modules and apps, and what it does.
 //!
-//! `Configuration` is read out of a tree as all settings are (specs/Configuration.antt): `admin`, and `apps` with `echo` and
-//! `http`. What a configuration plans is in specs/Plans.antt: which modules are made, and which apps are started, each in its
-//! order, with what each opens. `load` gives what a tree comes to (`loaded` of specs/Loading.antt): what was read and its plan,
-//! or the first fault in this order: no object, ids, the settings, limits, addresses that are listened on twice.
+//! `Configuration` is read out of a tree as all settings are (specs/Configuration.antt): `admin`, by cd_admin, and `apps` with
+//! `echo` and `http`. What a configuration plans is in specs/Plans.antt: which modules are made, and which apps are started, each
+//! in its order, with what each opens. `load` gives what a tree comes to (`loaded` of specs/Loading.antt): what was read and its
+//! plan, or the first fault in this order: no object, ids, the settings, named routes that lead to themselves, limits, addresses
+//! that are listened on twice.
 //!
-//! `Standard` is the set of these modules (`ModuleSet`). What a configuration does is in specs/Acting.antt: who answers at an
+//! `Standard` is the set of these modules (`ModuleSet`). What it compiles is the configuration, with the fact that no named route
+//! leads to itself (`Compiled`), which the answers of a server need. What a configuration does is in specs/Acting.antt: who answers at an
 //! address, the admin API, a server, or `echo`; a server's answers are those of cd_routes. The addresses are compared one after
 //! another.
 #![tactic(auto)]
 
 mod acting;
-mod admin;
 mod administering;
 mod app;
+mod checks;
+mod compiled;
 mod configuration;
 mod counting;
 mod echo;
@@ -25,8 +28,9 @@ mod planning;
 mod standard;
 mod walking;
 
-pub use admin::Admin;
 pub use app::App;
+pub use checks::Check;
+pub use compiled::Compiled;
 pub use configuration::Configuration;
 pub use echo::Echo;
 pub use http::Http;

@@ -3,9 +3,9 @@ ghost use Rattle.std.specs.Prelude.{◌≡◌, ◌++◌, map, IfOk, OnOk};
 ghost use Rattle.std.specs.List.{flat_map};
 ghost use Rattle.cd_standard.specs.Plans.{addresses_of, admin_addresses, admin_plans, app_addresses, app_name, app_plan, apps_of, listen_addresses, server_addresses, text_addresses};
 
-use crate::admin::Admin;
 use crate::app::App;
 use crate::configuration::Configuration;
+use cd_admin::Admin;
 use cd_legal::PlanApp;
 use cd_outside::{Address, Key};
 use cd_routes::{Listen, ListenText, Server};

@@ -4,11 +4,11 @@ ghost use Rattle.cd_text.specs.Gives.{Gives};
 ghost use Rattle.cd_ids.specs.Ids.{id_fault};
 ghost use Rattle.cd_standard.specs.Loading.{accepted, loaded, nothing_said, of_ids, of_object, of_settings, planned};
 
-use crate::admin::Admin;
 use crate::configuration::Configuration;
 use crate::judging::judge;
 use crate::listening::apps_of;
 use crate::planning::modules_of;
+use cd_admin::Admin;
 use cd_ids::{IdFault, Index};
 use cd_legal::Plan;
 use cd_module::{LoadFault, LoadKind, Settings};
@@ -26,8 +26,9 @@ pub struct Configured {
 /// Loads a configuration: reads it and plans it, or gives its first fault. Null says nothing, and is fine.
 ///
 /// The order of faults: a tree that is no object; its ids, where a repeated id has both paths; its settings, as they are read
-/// (Caddy, JSON Config Structure); too many modules, addresses, servers, and subroutes with errors in a server; an address
-/// that is listened on twice, at the second place in the order in which addresses are opened, the admin API's first.
+/// (Caddy, JSON Config Structure); the first named route that leads to itself, of the first such server; too many modules,
+/// addresses, servers, subroutes with errors in a server, and too much weight of a server's routes; an address that is listened on
+/// twice, at the second place in the order in which addresses are opened, the admin API's first.
 #[tactic(auto, unfolding(crate::specs::Loading::loaded))]
 pub fn load(alloc: Global, tree: &Tree) -> Result<Configured, LoadFault>
     ensures { Gives LoadFault.NoMemory result (loaded tree.now) }

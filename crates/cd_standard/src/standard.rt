@@ -3,9 +3,10 @@ ghost use Rattle.std.specs.Prelude.{◌≡◌, IfOk};
 ghost use Rattle.cd_admin.specs.Deciding.{change_of};
 ghost use Rattle.cd_standard.specs.Acting.{acts_of, acts_of_tree, plan_of_tree};
 
-use crate::admin::Admin;
+use crate::compiled::Compiled;
 use crate::configuration::Configuration;
 use crate::loading::{Configured, load};
+use cd_admin::Admin;
 use cd_echo::echo_answer;
 use cd_module::LoadFault;
 use cd_module_set::{Line, Loaded, ModuleSet, Target};
@@ -22,27 +23,29 @@ use std::alloc::Global;
 pub struct Standard;
 
 impl ModuleSet for Standard {
-    type Compiled = Configuration;
+    type Compiled = Compiled;
 
     ghost plan = { plan_of_tree };
 
     ghost acts = { acts_of_tree };
 
-    ghost form = { acts_of };
+    ghost form = { λ c. acts_of c.configuration };
 
     ghost change = { change_of plan_of_tree };
 
     #[tactic(auto, using(crate::proofs::Doing::idle_does_nothing))]
-    fn nothing(alloc: Global) -> Result<Configuration, NoMemory> {
+    fn nothing(alloc: Global) -> Result<Compiled, NoMemory> {
         let mut admin = Admin::usual(alloc)?;
         admin.disabled = true;
-        Ok(Configuration {
-            admin,
-            apps: List::new(alloc),
+        Ok(Compiled {
+            configuration: Configuration {
+                admin,
+                apps: List::new(alloc),
+            },
         })
     }
 
-    #[tactic(auto, using(crate::proofs::Doing::plans_as_loaded, crate::proofs::Doing::few_modules, crate::proofs::Doing::few_apps, crate::proofs::Doing::does_as_loaded))]
+    #[tactic(auto, using(crate::proofs::Doing::plans_as_loaded, crate::proofs::Doing::few_modules, crate::proofs::Doing::few_apps, crate::proofs::Doing::does_as_loaded, crate::proofs::Doing::none_in_cycle))]
     fn load(alloc: Global, tree: Tree) -> Result<Loaded<Standard>, LoadFault> {
         let Configured {
             configuration,
@@ -51,33 +54,35 @@ impl ModuleSet for Standard {
         Ok(Loaded {
             tree,
             plan,
-            compiled: configuration,
+            compiled: Compiled { configuration },
         })
     }
 
-    fn target(compiled: &Configuration, at: &Address) -> Target {
-        compiled.target_at(at)
+    fn target(compiled: &Compiled, at: &Address) -> Target {
+        compiled.configuration.target_at(at)
     }
 
+    #[tactic(auto, using(crate::proofs::Checked::found_has_none))]
     fn answer<'a>(
         alloc: Global,
-        compiled: &'a Configuration,
+        compiled: &'a Compiled,
         at: &Address,
         request: &'a Request,
     ) -> Result<Option<Answer<'a>>, NoMemory> {
-        if compiled.admin_at(at) {
+        let configuration = &compiled.configuration;
+        if configuration.admin_at(at) {
             return Ok(None);
         }
-        match compiled.server_at(at) {
+        match configuration.server_at(at) {
             Some(server) => Ok(Some(server_answer(alloc, server, request)?)),
-            None if compiled.echo_at(at) => Ok(Some(echo_answer(alloc, request))),
+            None if configuration.echo_at(at) => Ok(Some(echo_answer(alloc, request))),
             None => Ok(None),
         }
     }
 
     fn lines(
         alloc: Global,
-        _compiled: &Configuration,
+        _compiled: &Compiled,
         _at: &Address,
         _request: &Request,
         _answer: &Answer<'_>,
@@ -88,7 +93,7 @@ impl ModuleSet for Standard {
 
 fn crosses<T: Send + Sync>(_value: &T) {}
 
-/// A law: a configuration may go to another thread, and threads may share it.
-pub fn configurations_cross_threads(configuration: &Configuration) {
-    crosses(configuration)
+/// A law: a compiled configuration may go to another thread, and threads may share it.
+pub fn configurations_cross_threads(compiled: &Compiled) {
+    crosses(compiled)
 }

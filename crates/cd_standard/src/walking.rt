@@ -6,12 +6,12 @@ ghost use Rattle.std.specs.Prelude.{◌≡◌, ◌++◌, ◌∷◌, [], map, cod
 ghost use Rattle.std.specs.List.{flat_map};
 ghost use Rattle.cd_tree.specs.Path.{◌▸◌};
 ghost use Rattle.cd_routes.specs.declared.route.Subroute.{out-Subroute};
-ghost use Rattle.cd_standard.specs.Plans.{planned, in_elements, matcher_modules, set_modules, step_modules, route_modules, routes_modules, errors_modules, server_modules};
+ghost use Rattle.cd_standard.specs.Plans.{planned, in_elements, matcher_modules, set_modules, step_modules, route_modules, routes_modules, errors_modules, named_modules, after_routes, server_modules};
 ghost use Rattle.cd_standard.specs.Walking.{in_matcher};
 
 use cd_legal::PlanModule;
 use cd_match::{Matcher, MatcherSet};
-use cd_routes::{Route, Server, Step, Subroute};
+use cd_routes::{NamedRoute, Route, Server, Step, Subroute};
 use cd_text::{List, NoMemory, Text};
 use cd_tree::Place;
 use std::alloc::Global;
@@ -270,5 +270,48 @@ fn add_server(
 {
     let here = at.member(server.name.as_str());
     add_routes(alloc, server.routes.as_slice(), &here.member("routes"), out)?;
-    add_errors(alloc, &server.errors, &here, out)
+    add_after_routes(alloc, server, &here, out)
+}
+
+// The error routes and the named routes of a server.
+fn add_after_routes(
+    alloc: Global,
+    server: &Server,
+    at: &Place<'_>,
+    out: &mut List<PlanModule>,
+) -> Result<(), NoMemory>
+    ensures { OnOk result (out.new ≡ out.old ++ after_routes server.now at.now) }
+{
+    add_errors(alloc, &server.errors, at, out)?;
+    add_all_named(
+        alloc,
+        server.named.as_slice(),
+        &at.member("named_routes"),
+        out,
+    )
+}
+
+fn add_all_named(
+    alloc: Global,
+    named: &[NamedRoute],
+    at: &Place<'_>,
+    out: &mut List<PlanModule>,
+) -> Result<(), NoMemory>
+    ensures { OnOk result (out.new ≡ out.old ++ flat_map (named_modules at.now) named.now) }
+{
+    for one in named {
+        add_named(alloc, one, at, out)?;
+    }
+    Ok(())
+}
+
+fn add_named(
+    alloc: Global,
+    one: &NamedRoute,
+    at: &Place<'_>,
+    out: &mut List<PlanModule>,
+) -> Result<(), NoMemory>
+    ensures { OnOk result (out.new ≡ out.old ++ named_modules at.now one.now) }
+{
+    add_route(alloc, &one.route, &at.member(one.name.as_str()), out)
 }

@@ -1,6 +1,6 @@
 use denote.Exit.{no}
 use denote.Param.Send.{arg_send, arg_sync, param_send, param_sync}
-use Rattle.cd_standard.specs.contracts.configuration.Configuration.{the_row}
+use Rattle.cd_standard.specs.contracts.compiled.Compiled.{the_row}
 use Rattle.cd_standard.proofs.Crossing.{configuration_send, configuration_sync}
 use Rattle.cd_admin_cases.proofs.deciding.decided.Goals as goal
 

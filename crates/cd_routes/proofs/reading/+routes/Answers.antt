@@ -7,7 +7,7 @@ use Rattle.cd_handlers.proofs.Readers.{step_failed}
 use Rattle.cd_routes.proofs.reading.+routes.Goals as goal
 
 pub read_routes-returns : goal.read_routes-returns
-read_routes-returns t c = rw routes_are c.read_route_list.ensures
+read_routes-returns t c = rw (routes_are c.args.known.now) c.read_route_list.ensures
 
 pub read_route-returns-in_err-fields : goal.read_route-returns-in_err-fields
 unfolding route
@@ -84,6 +84,6 @@ read_each_route-loop-place-preserved t c =
     let within : c.loop-place.place < length c.args.items.now = omega (arith, ap length e, c.loop-place-test.true) in
     let is : c.item-item.result ≡ get_or c.args.items.now c.loop-place.place c.item-item.result = c.item-item.is ∙ ap (λ z. get_or z c.loop-place.place c.item-item.result) e in
     rw c.in_ok-push.ensures.ok
-    (each_step (route routes) c.loop-place.place c.args.items.now c.args.at.now c.loop-place.found c.item-item.result c.in_ok-read_route.field-0 within is
-    (ap (route routes c.item-item.result) (sym c.element-here.ensures) ∙ c.in_ok-read_route.ensures)
+    (each_step (route c.args.known.now (routes c.args.known.now)) c.loop-place.place c.args.items.now c.args.at.now c.loop-place.found c.item-item.result c.in_ok-read_route.field-0 within is
+    (ap (route c.args.known.now (routes c.args.known.now) c.item-item.result) (sym c.element-here.ensures) ∙ c.in_ok-read_route.ensures)
     ∙ c.loop-place.invariant)

@@ -5,10 +5,10 @@ use Rattle.cd_routes.specs.Reading.{routes, route, step}
 use Rattle.cd_routes.proofs.reading.+routes.Given as goal
 
 abbrev pub invariant-read_each_route-loop-place : goal.invariant-read_each_route-loop-place
-invariant-read_each_route-loop-place l = ahead l.found (each (route routes) l.place (drop l.place l.fn.items) l.at) ≡ each (route routes) 0 l.fn.items l.at
+invariant-read_each_route-loop-place l = ahead l.found (each (route l.known (routes l.known)) l.place (drop l.place l.fn.items) l.at) ≡ each (route l.known (routes l.known)) 0 l.fn.items l.at
 
 abbrev pub invariant-read_each_step-loop-place : goal.invariant-read_each_step-loop-place
-invariant-read_each_step-loop-place l = ahead l.found (each (step routes) l.place (drop l.place l.fn.items) l.at) ≡ each (step routes) 0 l.fn.items l.at
+invariant-read_each_step-loop-place l = ahead l.found (each (step l.known (routes l.known)) l.place (drop l.place l.fn.items) l.at) ≡ each (step l.known (routes l.known)) 0 l.fn.items l.at
 
 abbrev pub decreases-read_routes : goal.decreases-read_routes
 decreases-read_routes l = 4 * depth l.tree.now + 2

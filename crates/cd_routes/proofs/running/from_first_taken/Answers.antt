@@ -10,6 +10,6 @@ loop-route-preserved c =
     let others = c.in-Some.others.now in
     let x = c.args.scene.now in
     record {
-      same = λ rest. sym (ap (λ rs. run_routes rs rest x) c.in-Some.ensures ∙ routes_more r others rest x ∙ route_skipped r (run_routes others rest) x (search rules)) ∙ c.loop-route.invariant.same rest;
-      less = omega (arith, c.loop-route.invariant.less, ap (λ rs. total (map route_weight rs)) c.in-Some.ensures);
+      same = λ named rest. sym (ap (λ rs. run_routes named rs rest x) c.in-Some.ensures ∙ routes_more named r others rest x ∙ route_skipped named r (run_routes named others rest) x (search rules)) ∙ c.loop-route.invariant.same named rest;
+      less = λ w. omega (arith, c.loop-route.invariant.less w, ap (λ rs. total (map (route_weight w) rs)) c.in-Some.ensures);
     }

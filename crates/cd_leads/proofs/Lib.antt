@@ -1,0 +1,9 @@
+pub mod Leading
+pub mod Walks
+pub mod Orders
+pub mod Depth
+pub mod Searches
+pub mod Falling
+pub mod Roams
+pub mod Numbers
+pub mod Totalling

@@ -1,0 +1,9 @@
+pub mod Leads
+pub mod Ways
+pub mod Orders
+pub mod Walking
+pub mod Depth
+pub mod Seeking
+pub mod Classes
+pub mod Roaming
+pub mod Totals
