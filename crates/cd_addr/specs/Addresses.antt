@@ -1,3 +1,4 @@
+-- Part of the main theorem.
 -- The addresses that a text writes, and the text that an address has (Caddy, Conventions, Network addresses).
 use Rattle.std.specs.Prelude.{ℕ, ◌+◌, ◌-◌, ◌==◌, ◌&&◌, ◌||◌, not, nat_lt, nat_le, Bool, if◌then◌else◌, List, [], ◌∷◌, ◌++◌, length, map, codes, decimal, Option, Some, None, Result, Ok, Err}
 use Rattle.std.specs.Char.{is_ascii_hexdigit, is_ascii_alphanumeric, to_ascii_lowercase}

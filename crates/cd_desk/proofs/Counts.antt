@@ -20,6 +20,8 @@ use Rattle.cd_legal.specs.declared.plan.Plan.{Plan}
 use Rattle.cd_legal.specs.State.{part_keys}
 use Rattle.cd_desk.specs.Rows.{line_at}
 use Rattle.cd_desk.specs.Drafting.{HasNew}
+use Rattle.cd_legal.specs.declared.state.Life.TheVariants.{Live}
+use Rattle.cd_desk.proofs.Wholes.{live_whole}
 use Rattle.cd_desk.proofs.Openings.{line_part, line_plan, length_map}
 use Rattle.cd_desk.proofs.Lists.{get_set_same, same_at}
 
@@ -109,8 +111,8 @@ module _ {F : Type 0} (calls : F → Option (List FixtureCall)) (v w : Desk F) (
         (subst (λ (z : ℕ). AddsTo calls v w (Started l.number z (length e.opens.opens.takes.0) (failed_of result))) (started_place v.books w.books t l e.place (calls v.fixtures) (calls w.fixtures) result e.number e.opens i) e.adds),
   )
 
-line_length : (p : Part) (r : Row) (plan : Plan) → r.plan.value ≡ plan → length (line_at p r).parts.items ≡ length (part_keys p plan)
-line_length p r plan e = sym (line_at p r).all ∙ (ap (λ z. length (part_keys z (line_at p r).plan.value)) (line_part p r) ∙ ap (λ z. length (part_keys p z)) (line_plan p r ∙ e))
+line_length : (p : Part) (r : Row) (plan : Plan) → r.life ≡ Live → r.plan.value ≡ plan → length (line_at p r).parts.items ≡ length (part_keys p plan)
+line_length p r plan live e = sym (live_whole p r live) ∙ (ap (λ z. length (part_keys z (line_at p r).plan.value)) (line_part p r) ∙ ap (λ z. length (part_keys p z)) (line_plan p r ∙ e))
 
 -- a new draft, of which all is left
 pub new_is : (b : Books) (d : ℕ) (t : Tree) (p : Plan) (l : Left) → HasNew b d t p → l ≡ record { number = d; made = 0; modules = length p.modules; started = 0; apps = length p.apps; failed = false } → IsLeft b t l
@@ -122,9 +124,9 @@ new_is b d t p l h e = subst (λ z. IsLeft b t z) (sym e) (record {
     live = h.unused.life;
     failed = h.unused.failed;
     made = h.modules.0;
-    modules = line_length Instance h.row p h.plan ∙ length_map (λ m. m.keys) p.modules;
+    modules = line_length Instance h.row p h.unused.life h.plan ∙ length_map (λ m. m.keys) p.modules;
     started = h.apps.0;
-    apps = line_length App h.row p h.plan ∙ length_map (λ m. m.keys) p.apps;
+    apps = line_length App h.row p h.unused.life h.plan ∙ length_map (λ m. m.keys) p.apps;
     unended = (h.modules.1, h.apps.1);
   };
   tree = h.tree;

@@ -27,6 +27,7 @@ use Rattle.cd_desk.proofs.Lists.{get_drop, drop_change, same_at}
 use Rattle.cd_desk.proofs.Standing.{Steps, Shown, shown, rows_after, closed_stays, plain_calls}
 use Rattle.cd_desk.proofs.Openings.{none_is, length_map, line_part, line_plan}
 use Rattle.cd_desk.proofs.Ticketing.{no_calls}
+use Rattle.cd_desk.proofs.Wholes.{live_whole}
 
 -- the row of a draft with another life
 lives_shows : (retired : List ℕ) (now : Life) (place : ℕ) (v w : Books) (x : Drafted) (m : Lives now place v w) → Shows retired m.changes.was x → is_retired retired now ≡ m.changes.was.retired → Shows retired m.changes.is (record x { life = now })
@@ -42,8 +43,8 @@ lives_shows retired now place v w x m sh over = record {
   over = over ∙ sym m.retired;
 }
 
-pub many : (p : Part) (retired : List ℕ) (r : Row) (x : Drafted) → Shows retired r x → length (part_keys p x.plan) ≡ length (line_at p r).parts.items
-many p retired r x sh = ap (λ (z : Plan). length (part_keys p z)) (sh.plan ∙ sym (line_plan p r)) ∙ (ap (λ z. length (part_keys z (line_at p r).plan.value)) (sym (line_part p r)) ∙ (line_at p r).all)
+pub many : (p : Part) (retired : List ℕ) (r : Row) (x : Drafted) → r.life ≡ Live → Shows retired r x → length (part_keys p x.plan) ≡ length (line_at p r).parts.items
+many p retired r x live sh = ap (λ (z : Plan). length (part_keys p z)) (sh.plan ∙ sym (line_plan p r)) ∙ (ap (λ z. length (part_keys z (line_at p r).plan.value)) (sym (line_part p r)) ∙ live_whole p r live)
 
 not_there : (b : Bool) → (b ≡ true → ⊥) → b ≡ false
 not_there true never = absurd (never refl)
@@ -68,8 +69,8 @@ module _ {F : Type 0} (calls : F → Option (List FixtureCall)) where
       let whole : IsComplete r = subst (λ z. IsComplete z) row_is can.complete in
       let passes : is_complete x ≡ true = is_complete-by x (record {
         opened = record { live = sh.shows.life ∙ whole.live; unfailed = none_is x.failed (sh.shows.failed ∙ whole.unfailed) };
-        made = sh.shows.made ∙ (whole.made ∙ (sym (many Instance s.retired r x sh.shows) ∙ length_map (λ m. m.keys) x.plan.modules));
-        started = sh.shows.started ∙ (whole.started ∙ (sym (many App s.retired r x sh.shows) ∙ length_map (λ m. m.keys) x.plan.apps));
+        made = sh.shows.made ∙ (whole.made ∙ (sym (many Instance s.retired r x whole.live sh.shows) ∙ length_map (λ m. m.keys) x.plan.modules));
+        started = sh.shows.started ∙ (whole.started ∙ (sym (many App s.retired r x whole.live sh.shows) ∙ length_map (λ m. m.keys) x.plan.apps));
       }) in
       let may : allowed s (Publish d n v.serial change) ≡ true = allowed-by s (Publish d n v.serial change) (record { running = a.halted ∙ can.running; complete = ap (holds is_complete) there ∙ passes; current = sym a.serial; next = refl }) in
       let f : Drafted → Drafted = λ y. record y { life = Published n } in

@@ -54,8 +54,8 @@ module _ {F : Type 0} (calls : F → Option (List FixtureCall)) (opening b : Des
       let made : l.made ≡ x.made = sym (w.made ∙ f.made) in
       let started : l.started ≡ x.started = sym (w.started ∙ f.started) in
       let failed : l.failed ≡ is_some x.failed = sym (w.failed ∙ f.failed) in
-      let modules : l.modules ≡ length x.plan.modules = sym f.modules ∙ (sym (many Instance s.retired i.row x w) ∙ length_map (λ m. m.keys) x.plan.modules) in
-      let apps : l.apps ≡ length x.plan.apps = sym f.apps ∙ (sym (many App s.retired i.row x w) ∙ length_map (λ m. m.keys) x.plan.apps) in
+      let modules : l.modules ≡ length x.plan.modules = sym f.modules ∙ (sym (many Instance s.retired i.row x f.live w) ∙ length_map (λ m. m.keys) x.plan.modules) in
+      let apps : l.apps ≡ length x.plan.apps = sym f.apps ∙ (sym (many App s.retired i.row x f.live w) ∙ length_map (λ m. m.keys) x.plan.apps) in
       record {
         draft = x;
         there = ap (slice_get s.drafts) i.at.number ∙ sh.is;
@@ -110,9 +110,9 @@ module _ {F : Type 0} (calls : F → Option (List FixtureCall)) (opening b : Des
           live = sym w.life ∙ live;
           failed = sym w.failed;
           made = sym w.made;
-          modules = sym (many Instance (state_at log).retired r x w) ∙ length_map (λ m. m.keys) x.plan.modules;
+          modules = sym (many Instance (state_at log).retired r x (sym w.life ∙ live) w) ∙ length_map (λ m. m.keys) x.plan.modules;
           started = sym w.started;
-          apps = sym (many App (state_at log).retired r x w) ∙ length_map (λ m. m.keys) x.plan.apps;
+          apps = sym (many App (state_at log).retired r x (sym w.life ∙ live) w) ∙ length_map (λ m. m.keys) x.plan.apps;
           unended = (sym w.cleaned ∙ whole.1, sym w.stopped ∙ whole.0);
         };
         tree = sym w.tree;

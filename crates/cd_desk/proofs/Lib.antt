@@ -19,3 +19,5 @@ pub mod Retirings
 pub mod Supersedings
 pub mod Trims
 pub mod Emptied
+pub mod Wholes
+pub mod Clearings

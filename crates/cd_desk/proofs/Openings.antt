@@ -32,6 +32,8 @@ use Rattle.cd_desk.specs.Rows.{Shows, ShowsAt, line_at}
 use Rattle.cd_desk.specs.Books.{Opens, other}
 use Rattle.cd_desk.specs.Desks.{Agrees}
 use Rattle.cd_desk.specs.Opening.{CanOpenOf, IsReady, opening_entry}
+use Rattle.cd_legal.specs.declared.state.Life.TheVariants.{Live}
+use Rattle.cd_desk.proofs.Wholes.{live_whole}
 use Rattle.cd_desk.proofs.Keeping.{calls_join}
 use Rattle.cd_desk.proofs.Lists.{get_drop, drop_change, same_at}
 use Rattle.cd_desk.proofs.Standing.{Known, Steps, Shown, shown, rows_after, closed_stays, plain_calls}
@@ -82,11 +84,11 @@ pub length_map : {A B : Type 0} (f : A → B) (xs : List A) → length (map f xs
 length_map f [] = refl
 length_map f (x ∷ xs) = ap suc (length_map f xs)
 
-ready_is : (p : Part) (retired : List ℕ) (r : Row) (x : Drafted) → Shows retired r x → IsReady p r → instances_ready p x ≡ true
-ready_is Instance retired r x sh ready = refl
-ready_is App retired r x sh ready =
+ready_is : (p : Part) (retired : List ℕ) (r : Row) (x : Drafted) → r.life ≡ Live → Shows retired r x → IsReady p r → instances_ready p x ≡ true
+ready_is Instance retired r x live sh ready = refl
+ready_is App retired r x live sh ready =
     eq-eqb x.made (length x.plan.modules)
-    (sh.made ∙ (ready ∙ (sym r.modules.all ∙ (ap (λ z. length (part_keys z r.modules.plan.value)) r.instances ∙ (ap (λ (z : Plan). length (part_keys Instance z)) (r.modules_plan ∙ sym sh.plan) ∙ length_map (λ m. m.keys) x.plan.modules)))))
+    (sh.made ∙ (ready ∙ (sym (live_whole Instance r live) ∙ (ap (λ z. length (part_keys z r.modules.plan.value)) r.instances ∙ (ap (λ (z : Plan). length (part_keys Instance z)) (r.modules_plan ∙ sym sh.plan) ∙ length_map (λ m. m.keys) x.plan.modules)))))
 
 -- the row of an opening shows the draft
 shows_opened : (p : Part) (retired : List ℕ) (r t : Row) (x : Drafted) (result : Result (Unit {0}) Key) → Shows retired r x → t.tree ≡ r.tree → t.plan ≡ r.plan → (line_at p t).opened ≡ (line_at p r).opened + 1 → (line_at p t).ended ≡ (line_at p r).ended → line_at (other p) t ≡ line_at (other p) r
@@ -149,19 +151,20 @@ module _ {F : Type 0} (calls : F → Option (List FixtureCall)) where
       let sh : Shown s.retired r (slice_get rest place) = shown s.retired r (slice_get rest place) (subst (λ z. ShowsAt s.retired z (slice_get rest place)) o.changes.there (a.rows place)) in
       let x : Drafted = sh.draft in
       let there : slice_get s.drafts d ≡ Some x = ap (slice_get s.drafts) number ∙ (sym (get_drop first s.drafts place) ∙ sh.is) in
+      let live : r.life ≡ Live = ap (λ (z : Row). z.life) (sym row_is) ∙ can.live in
       let wait = (line_at p r).wait i o.opens.was o.opens.there (omega arith) in
       let keys : List Key = keys_at (part_keys p x.plan) i in
       let plan_is : part_keys (line_at p r).part (line_at p r).plan.value ≡ part_keys p x.plan = ap (λ z. part_keys z (line_at p r).plan.value) (line_part p r) ∙ ap (part_keys p) (line_plan p r ∙ sym sh.shows.plan) in
       let keys_are : reverse o.opens.was.waiting.items ≡ keys = wait.0 ∙ ap (λ z. keys_at z i) plan_is in
       let left : (line_at p r).opened < length (line_at p r).parts.items = subst (λ (z : Row). (line_at p z).opened < length (line_at p z).parts.items) row_is can.left in
-      let many : length (part_keys p x.plan) ≡ length (line_at p r).parts.items = ap length (sym plan_is) ∙ (line_at p r).all in
+      let many : length (part_keys p x.plan) ≡ length (line_at p r).parts.items = ap length (sym plan_is) ∙ live_whole p r live in
       let ends : Ends keys done v.books.pool.held result = subst (λ z. Ends z done v.books.pool.held result) keys_are o.opens.takes.1 in
       let fits : holds (λ k. keys_fit (keys_in s.pairs) k (length done) failed) (slice_get (part_keys p x.plan) i) ≡ true =
       ap (holds (λ k. keys_fit (keys_in s.pairs) k (length done) failed)) (keys_there (part_keys p x.plan) i (omega arith)) ∙ fit (keys_in s.pairs) keys done result v.books.pool.held (ap keys_in a.pairs) ends in
       let passes : may_open p i (length done) failed s.pairs x ≡ true =
       opens-by p i (length done) failed s.pairs x (record {
-        opened = record { live = sh.shows.life ∙ (ap (λ z. z.life) (sym row_is) ∙ can.live); unfailed = none_is x.failed (sh.shows.failed ∙ (ap (λ z. z.failed) (sym row_is) ∙ can.unfailed)) };
-        ready = ready_is p s.retired r x sh.shows (subst (λ z. IsReady p z) row_is can.ready);
+        opened = record { live = sh.shows.life ∙ live; unfailed = none_is x.failed (sh.shows.failed ∙ (ap (λ z. z.failed) (sym row_is) ∙ can.unfailed)) };
+        ready = ready_is p s.retired r x live sh.shows (subst (λ z. IsReady p z) row_is can.ready);
         next = sym (shows_count p s.retired r x sh.shows);
         fit = fits;
       }) in

@@ -41,7 +41,7 @@ by_at App r = refl
 pub room_for : (rows : List Row) (p : Part) (j : ℕ) (r : Row) (i f : ℕ) → slice_get rows j ≡ Some r → sum_by row_waits rows ≤ f → IfSome (slice_get (line_at p r).parts.items i) (λ a. waits a ≤ f)
 room_for rows p j r i f there room = part_room (slice_get (line_at p r).parts.items i) f (λ a e. let one = one_of_sum waits (line_at p r).parts.items i a e in let all = one_of_sum row_waits rows j r there in let whole = split_waits p r in omega arith)
 
-part_free : (o : Option Held) → ((a : Held) → o ≡ Some a → a.leases.items ≡ []) → leases_in o ≡ []
+pub part_free : (o : Option Held) → ((a : Held) → o ≡ Some a → a.leases.items ≡ []) → leases_in o ≡ []
 part_free None all = refl
 part_free (Some a) all = all a refl
 

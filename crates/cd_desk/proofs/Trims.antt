@@ -25,6 +25,7 @@ use Rattle.cd_desk.specs.Desks.{Keeps}
 use Rattle.cd_desk.specs.Lefts.{IsLeft}
 use Rattle.cd_desk.specs.Closings.{IsRest, IsClosing, MayClean, IsStopped, IsStoppedAt, CanRetire}
 use Rattle.cd_desk.specs.Trimming.{is_done, is_closed_row, Trims}
+use Rattle.cd_desk.specs.Clearing.{IsCleared}
 use Rattle.cd_desk.proofs.Lists.{get_drop}
 use Rattle.cd_desk.proofs.Placing.{split_at}
 use Rattle.cd_desk.proofs.Standing.{Shown, shown}
@@ -122,6 +123,9 @@ module _ (v w : Books) (t : Trims v w) where
       let s = still_there is.place is.row is.there (λ closed. (let e : false ≡ true = sym (ap (λ (z : Life). is_done z is.row.retired) is.life ∙ is.unretired) ∙ first (is_done is.row.life is.row.retired) _ closed in cc)) in
       record { place = s.0; row = is.row; there = s.2; life = is.life; unretired = is.unretired; stopped = is.stopped }
 
+  pub cleared_stays : (d : ℕ) → IsCleared v d → IsCleared w d
+  cleared_stays d is place r at closed = is (t.gone + place) r (row_was d place r at) closed
+
   pub drafts_stay : w.first + length w.rows.items ≡ v.first + length v.rows.items
   drafts_stay =
       let rest : length w.rows.items ≡ length v.rows.items - t.gone = ap length t.rows ∙ length-drop t.gone v.rows.items in
@@ -147,6 +151,11 @@ module _ (v w : Books) (t : Trims v w) where
 pub some_there : (all : List Row) → holds is_closed_row (slice_get all 0) ≡ true → 0 < length all
 some_there [] e = cc
 some_there (r ∷ rest) e = omega arith
+
+pub closed_there : (all : List Row) (place : ℕ) → holds is_closed_row (slice_get all place) ≡ true → place < length all
+closed_there [] place e = cc
+closed_there (r ∷ rest) zero e = omega arith
+closed_there (r ∷ rest) (suc place) e = let h = closed_there rest place e in omega (arith, h)
 
 pub fewer_wait : (rows : List Row) → sum_by row_waits (drop 1 rows) ≤ sum_by row_waits rows
 fewer_wait [] = omega arith

@@ -8,6 +8,7 @@ use Rattle.cd_desk.specs.declared.instance.Instance.{Instance as Held}
 use Rattle.cd_desk.specs.declared.line.Line.{Line}
 use Rattle.cd_desk.specs.declared.row.Row.{Row}
 use Rattle.cd_desk.specs.declared.books.Books.{Books}
+use Rattle.cd_desk.specs.Lines.{IsWhole}
 use Rattle.cd_desk.specs.Books.{RowAt}
 
 -- how many drafts were made
@@ -21,6 +22,7 @@ pub record IsNew (kind : Part) (p : Plan) (held : List Held) (l : Line) : Type 0
   pub parts : l.parts.items ≡ held
   pub opened : l.opened ≡ 0
   pub ended : l.ended ≡ 0
+  pub whole : IsWhole l
 
 -- live, and nothing has happened to it
 pub record IsUnused (r : Row) : Type 0 where

@@ -4,11 +4,13 @@ pub mod Lines
 pub mod Rows
 pub mod Books
 pub mod Desks
+pub mod Rooms
 pub mod Opening
 pub mod Drafting
 pub mod Publishing
 pub mod Lefts
 pub mod Closings
 pub mod Trimming
+pub mod Clearing
 pub mod Emptying
 pub mod Serials

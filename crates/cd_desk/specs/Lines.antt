@@ -1,13 +1,17 @@
 -- The instances of a draft, or its apps, one behind the other.
-use Rattle.std.specs.Prelude.{◌≡◌, ℕ, ◌≤◌, ◌+◌, ◌-◌, cond, List, [], reverse, slice_get, slice_set, Option, Some, Result, is_ok}
+use Rattle.std.specs.Prelude.{◌≡◌, ℕ, ◌≤◌, ◌+◌, ◌-◌, cond, List, [], length, reverse, slice_get, slice_set, Option, Some, Result, is_ok}
 use Rattle.cd_outside.specs.declared.key.Key.{Key}
 use Rattle.cd_outside.specs.declared.fixtures.FixtureCall.{FixtureCall}
 use Rattle.cd_pool.specs.Pairs.{Holdings}
-use Rattle.cd_legal.specs.State.{part_of}
+use Rattle.cd_legal.specs.State.{part_of, part_keys}
 use Rattle.cd_desk.specs.declared.instance.Instance.{Instance}
 use Rattle.cd_desk.specs.declared.line.Line.{Line}
 use Rattle.cd_desk.specs.Instances.{Takes, Gives}
 use Rattle.cd_desk.specs.Waiting.{waits}
+
+-- each that the plan names is there
+abbrev pub IsWhole : Line → Type 0
+IsWhole l = length (part_keys l.part l.plan.value) ≡ length l.parts.items
 
 -- the next one was opened
 pub record OpensNext (d : ℕ) (l m : Line) (old new : Holdings) (before after : Option (List FixtureCall)) (result : Result (Unit {0}) Key) : Type 0 where

@@ -1,4 +1,5 @@
 ghost use Rattle.std.specs.Prelude.{◌≡◌, ◌<◌, ◌≤◌, [], IfOk, IfErr, length};
+ghost use Rattle.cd_legal.specs.declared.limits.TheConstants.{MAX_PASSES};
 ghost use Rattle.cd_desk.specs.Desks.{Holds, none_open};
 
 use crate::books::Books;
@@ -53,7 +54,7 @@ fn new_desk<F: Fixtures>(alloc: Global, fixtures: F, tickets: Tickets, callers: 
 // No caller has a ticket.
 fn tickets_for(by_caller: Vec<Option<u32>>, callers: u32) -> Tickets
     requires places { by_caller.items ≡ none_open callers }
-    requires few { callers ≤ 65536 }
+    requires few { callers ≤ MAX_PASSES }
     ensures { result.by_caller ≡ by_caller }
 {
     let _ = callers;
@@ -63,7 +64,7 @@ fn tickets_for(by_caller: Vec<Option<u32>>, callers: u32) -> Tickets
 impl<F: Fixtures> Desk<F> {
     /// A desk at which nothing has happened, with places for the requests of the callers 0 to `callers` - 1.
     pub fn new(alloc: Global, fixtures: F, callers: u32) -> Result<Desk<F>, NoDesk<F>>
-        requires few { callers ≤ 65536 }
+        requires few { callers ≤ MAX_PASSES }
         ensures holds { IfOk result (λ desk. Holds F.calls desk desk []) }
         ensures fixtures { IfOk result (λ desk. desk.fixtures ≡ fixtures) }
         ensures tickets { IfOk result (λ desk. desk.tickets.by_caller.items ≡ none_open callers) }

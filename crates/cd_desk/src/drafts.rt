@@ -5,9 +5,10 @@ ghost use Rattle.cd_legal.specs.declared.part.Part.TheVariants as part;
 ghost use Rattle.cd_legal.specs.State.{part_keys};
 ghost use Rattle.cd_desk.specs.Rows.{row_waits};
 ghost use Rattle.cd_desk.specs.Waiting.{IsEmpty, AllWait};
-ghost use Rattle.cd_legal.specs.declared.limits.TheConstants.{MAX_DRAFTS};
+ghost use Rattle.cd_legal.specs.declared.limits.TheConstants.{MAX_DRAFTS, MAX_MODULES};
 ghost use Rattle.cd_desk.specs.declared.drafts.DraftFault.TheVariants as fault;
 ghost use Rattle.cd_desk.specs.Desks.{AddsTo, Keeps};
+ghost use Rattle.cd_desk.specs.Lines.{IsWhole};
 ghost use Rattle.cd_desk.specs.Drafting.{IsUnused, IsNew, HasNew, drafts_in};
 
 use crate::books::Books;
@@ -33,7 +34,7 @@ pub enum DraftFault {
 // Of these instances none is opened.
 fn new_line(part: Part, plan: &Plan, parts: Vec<Instance>) -> Line
     requires wait { AllWait parts.items (part_keys part plan.now) }
-    requires bound { length parts.items ≤ 65537 }
+    requires bound { length parts.items ≤ MAX_MODULES + 1 }
     ensures { IsNew part plan.now parts.items result }
 {
     let plan = Snapshot::of(plan);
@@ -50,6 +51,7 @@ fn new_line(part: Part, plan: &Plan, parts: Vec<Instance>) -> Line
 fn new_row(tree: &Tree, plan: &Plan, modules: Line, apps: Line) -> Row
     requires modules { (modules.part ≡ part.Instance) × (modules.plan.value ≡ plan.now) }
     requires apps { (apps.part ≡ part.App) × (apps.plan.value ≡ plan.now) }
+    requires whole { IsWhole modules × IsWhole apps }
     ensures tree { result.tree.value ≡ tree.now }
     ensures plan { result.plan.value ≡ plan.now }
     ensures modules { result.modules ≡ modules }
@@ -90,8 +92,8 @@ impl<F: Fixtures> Desk<F> {
     ///
     /// `Spent` where as many drafts were made as a history may have, and `NoMemory`. The history is as it was after both.
     pub fn draft(&mut self, alloc: Global, tree: &Tree, plan: &Plan) -> Result<u64, DraftFault>
-        requires modules { length plan.now.modules ≤ 65536 }
-        requires apps { length plan.now.apps ≤ 65537 }
+        requires modules { length plan.now.modules ≤ MAX_MODULES }
+        requires apps { length plan.now.apps ≤ MAX_MODULES + 1 }
         ensures entry { IfOk result (λ d. AddsTo F.calls self.old self.new (entry.Draft d tree.now plan.now)) }
         ensures row { IfOk result (λ d. HasNew self.new.books d tree.now plan.now) }
         ensures err { OnErr result (Keeps F.calls self.old self.new) }

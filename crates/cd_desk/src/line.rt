@@ -1,4 +1,5 @@
-ghost use Rattle.std.specs.Prelude.{◌≡◌, ◌≤◌, ◌-◌, length};
+ghost use Rattle.std.specs.Prelude.{◌≡◌, ◌<◌, ◌≤◌, ◌+◌, ◌-◌, length};
+ghost use Rattle.cd_legal.specs.declared.limits.TheConstants.{MAX_MODULES};
 ghost use Rattle.cd_legal.specs.State.{part_keys};
 ghost use Rattle.cd_desk.specs.Waiting.{Wait, Spent};
 
@@ -6,7 +7,8 @@ use crate::instance::Instance;
 use cd_legal::{Part, Plan};
 use std::snapshot::Snapshot;
 
-/// The instances of a draft, or its apps, in the order of the plan: those that are opened come before those that wait.
+/// The instances of a draft, or its apps, in the order of the plan: those that are opened come before those that wait. Once each
+/// that was opened is ended, they may be gone.
 pub struct Line {
     pub(crate) part: Part,
     pub(crate) plan: Snapshot<Plan>,
@@ -15,10 +17,10 @@ pub struct Line {
     pub(crate) opened: u32,
     // how many of these are ended: cleaned, or stopped
     pub(crate) ended: u32,
-    ghost all: { length (part_keys part plan.value) ≡ length parts.items },
     ghost over: { ended ≤ opened },
-    ghost within: { opened ≤ length parts.items },
-    ghost bound: { length parts.items ≤ 65537 },
+    ghost all: { 0 < length parts.items → length (part_keys part plan.value) ≡ length parts.items },
+    ghost within: { ended < opened → opened ≤ length parts.items },
+    ghost bound: { length parts.items ≤ MAX_MODULES + 1 },
     ghost wait: { Wait opened parts.items (part_keys part plan.value) },
     ghost spent: { Spent (opened - ended) parts.items },
 }

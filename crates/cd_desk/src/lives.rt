@@ -1,5 +1,4 @@
 ghost use Rattle.std.specs.Prelude.{◌≡◌, ◌+◌, None};
-ghost use Rattle.std.specs.Vec.{vec_capacity};
 ghost use Rattle.cd_legal.specs.declared.entry.Change.{Change};
 ghost use Rattle.cd_legal.specs.declared.entry.Entry.TheVariants as entry;
 ghost use Rattle.cd_desk.specs.Desks.{AddsTo};
@@ -7,6 +6,7 @@ ghost use Rattle.cd_tree.specs.declared.tree.Tree.{Tree};
 ghost use Rattle.cd_desk.specs.Publishing.{CanPublish};
 ghost use Rattle.cd_desk.specs.Lefts.{IsLeft};
 ghost use Rattle.cd_desk.specs.Closings.{IsClosing, MayClean};
+ghost use Rattle.cd_desk.specs.Rooms.{KeepsRoom};
 
 use crate::closing::Closing;
 use crate::desk::Desk;
@@ -23,7 +23,7 @@ impl<F: Fixtures> Desk<F> {
         ensures serial { self.new.serial ≡ self.old.serial + 1 }
         ensures halted { self.new.halted ≡ self.old.halted }
         ensures faults { F.faults self.new.fixtures ≡ F.faults self.old.fixtures }
-        ensures room { vec_capacity self.new.books.rows ≡ vec_capacity self.old.books.rows }
+        ensures room { KeepsRoom self.old self.new }
     {
         let place = place_of(&self.books, draft);
         self.serial += 1;
@@ -39,7 +39,7 @@ impl<F: Fixtures> Desk<F> {
         ensures at { IsClosing self.new result }
         ensures clean { MayClean self.new.books left.number }
         ensures faults { F.faults self.new.fixtures ≡ F.faults self.old.fixtures }
-        ensures room { vec_capacity self.new.books.rows ≡ vec_capacity self.old.books.rows }
+        ensures room { KeepsRoom self.old self.new }
     {
         let place = place_of(&self.books, left.number);
         set_life(&mut self.books, place, Life::Abandoned);

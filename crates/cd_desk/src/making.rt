@@ -1,8 +1,8 @@
 ghost use Rattle.std.specs.Prelude.{◌≡◌, ◌≤◌, IfErr};
-ghost use Rattle.std.specs.Vec.{vec_capacity};
 ghost use Rattle.cd_outside.specs.Counts.{Rose};
 ghost use Rattle.cd_legal.specs.declared.part.Part.TheVariants as part;
 ghost use Rattle.cd_desk.specs.Opening.{CanOpenOf, OpensEntry};
+ghost use Rattle.cd_desk.specs.Rooms.{KeepsRoom};
 
 use crate::desk::Desk;
 use crate::rows::{make_in, place_of, start_in};
@@ -14,7 +14,7 @@ impl<F: Fixtures> Desk<F> {
         requires can { CanOpenOf part.Instance self.old.books draft }
         ensures entry { OpensEntry F.calls part.Instance self.old self.new draft result }
         ensures later { F.faults self.old.fixtures ≤ F.faults self.new.fixtures }
-        ensures room { vec_capacity self.new.books.rows ≡ vec_capacity self.old.books.rows }
+        ensures room { KeepsRoom self.old self.new }
         ensures cause { IfErr result (λ _. Rose (F.faults self.old.fixtures) (F.faults self.new.fixtures)) }
     {
         let place = place_of(&self.books, draft);
@@ -26,7 +26,7 @@ impl<F: Fixtures> Desk<F> {
         requires can { CanOpenOf part.App self.old.books draft }
         ensures entry { OpensEntry F.calls part.App self.old self.new draft result }
         ensures later { F.faults self.old.fixtures ≤ F.faults self.new.fixtures }
-        ensures room { vec_capacity self.new.books.rows ≡ vec_capacity self.old.books.rows }
+        ensures room { KeepsRoom self.old self.new }
         ensures cause { IfErr result (λ _. Rose (F.faults self.old.fixtures) (F.faults self.new.fixtures)) }
     {
         let place = place_of(&self.books, draft);

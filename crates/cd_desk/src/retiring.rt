@@ -1,5 +1,4 @@
 ghost use Rattle.std.specs.Prelude.{◌≡◌, ◌<◌, ◌+◌, ◌^◌, false, true, Some, List};
-ghost use Rattle.std.specs.Vec.{vec_capacity};
 ghost use Rattle.cd_legal.specs.declared.entry.Entry.TheVariants as entry;
 ghost use Rattle.cd_legal.specs.declared.entry.Signed.{Signed};
 ghost use Rattle.cd_legal.specs.State.{has_number};
@@ -8,6 +7,7 @@ ghost use Rattle.cd_desk.specs.declared.desk.Desk.{Desk};
 ghost use Rattle.cd_desk.specs.Desks.{AddsTo};
 ghost use Rattle.cd_desk.specs.Serials.{row_of};
 ghost use Rattle.cd_desk.specs.Closings.{CanRetire, is_stopped_row};
+ghost use Rattle.cd_desk.specs.Rooms.{KeepsRoom};
 
 use crate::desk::Desk;
 use crate::row::Row;
@@ -34,7 +34,7 @@ impl<F: Fixtures> Desk<F> {
         requires { CanRetire self.old serial }
         ensures entry { AddsTo F.calls self.old self.new (entry.Retire serial) }
         ensures faults { F.faults self.new.fixtures ≡ F.faults self.old.fixtures }
-        ensures room { vec_capacity self.new.books.rows ≡ vec_capacity self.old.books.rows }
+        ensures room { KeepsRoom self.old self.new }
     {
         if serial == 0 {
             self.opening_retired = true;
@@ -53,7 +53,7 @@ impl<F: Fixtures> Desk<F> {
         ensures entry { AddsTo F.calls self.old self.new (entry.Halt (self.old.serial + 1)) }
         ensures halted { self.new.halted ≡ true }
         ensures faults { F.faults self.new.fixtures ≡ F.faults self.old.fixtures }
-        ensures room { vec_capacity self.new.books.rows ≡ vec_capacity self.old.books.rows }
+        ensures room { KeepsRoom self.old self.new }
     {
         let last = are_stopped(self.books.rows.as_slice(), self.serial);
         self.serial += 1;

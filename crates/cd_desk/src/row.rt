@@ -1,5 +1,7 @@
 ghost use Rattle.std.specs.Prelude.{◌≡◌};
 ghost use Rattle.cd_legal.specs.declared.part.Part.TheVariants as part;
+ghost use Rattle.cd_legal.specs.declared.state.Life.TheVariants.{Live};
+ghost use Rattle.cd_desk.specs.Lines.{IsWhole};
 
 use crate::line::Line;
 use cd_legal::{Life, Plan};
@@ -20,4 +22,5 @@ pub struct Row {
     ghost started: { apps.part ≡ part.App },
     ghost modules_plan: { modules.plan.value ≡ plan.value },
     ghost apps_plan: { apps.plan.value ≡ plan.value },
+    ghost whole: { life ≡ Live → IsWhole modules × IsWhole apps },
 }

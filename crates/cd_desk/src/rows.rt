@@ -1,7 +1,8 @@
-ghost use Rattle.std.specs.Prelude.{◌≡◌, ◌<◌, ◌+◌, ◌≤◌, IfErr, length};
+ghost use Rattle.std.specs.Prelude.{◌≡◌, ◌≢◌, ◌<◌, ◌+◌, ◌≤◌, IfErr, length};
 ghost use Rattle.std.specs.Vec.{vec_capacity};
 ghost use Rattle.cd_outside.specs.Counts.{Rose};
 ghost use Rattle.cd_legal.specs.declared.part.Part.TheVariants as part;
+ghost use Rattle.cd_legal.specs.declared.state.Life.TheVariants.{Live};
 ghost use Rattle.cd_desk.specs.declared.row.Row.{Row};
 ghost use Rattle.cd_desk.specs.Books.{HasRow, CanOpen, CanEnd, Opens, Ends, Lives, Retires};
 
@@ -59,6 +60,7 @@ pub(crate) fn start_in<F: Fixtures>(
 // The draft at this place gets another life.
 pub(crate) fn set_life(books: &mut Books, place: usize, life: Life)
     requires there { place < length books.old.rows.items }
+    requires over { life ≢ Live }
     ensures lives { Lives life place books.old books.new }
     ensures capacity { vec_capacity books.new.rows ≡ vec_capacity books.old.rows }
 {

@@ -1,11 +1,11 @@
 ghost use Rattle.std.specs.Prelude.{◌≡◌, ◌<◌, ◌≤◌, ℕ, IfOk, IfErr, is_err, false};
-ghost use Rattle.std.specs.Vec.{vec_capacity};
 ghost use Rattle.cd_outside.specs.Counts.{Rose};
 ghost use Rattle.cd_tree.specs.declared.tree.Tree.{Tree};
 ghost use Rattle.cd_legal.specs.declared.entry.Entry.TheVariants as entry;
 ghost use Rattle.cd_desk.specs.Instances.{failed_in};
 ghost use Rattle.cd_desk.specs.Desks.{AddsTo};
 ghost use Rattle.cd_desk.specs.Lefts.{IsLeft, one_made, one_started, step_at};
+ghost use Rattle.cd_desk.specs.Rooms.{KeepsRoom};
 
 use crate::desk::Desk;
 use crate::left::{Left, Step};
@@ -33,7 +33,7 @@ impl<F: Fixtures> Desk<F> {
         ensures at { (t : Tree) → IsLeft self.old.books t left.old → IsLeft self.new.books t left.new }
         ensures step { IfOk result (λ step. step ≡ step_at left.new.made left.new.modules) }
         ensures later { F.faults self.old.fixtures ≤ F.faults self.new.fixtures }
-        ensures room { vec_capacity self.new.books.rows ≡ vec_capacity self.old.books.rows }
+        ensures room { KeepsRoom self.old self.new }
         ensures cause { IfErr result (λ _. Rose (F.faults self.old.fixtures) (F.faults self.new.fixtures)) }
     {
         let made = self.make(left.number);
@@ -60,7 +60,7 @@ impl<F: Fixtures> Desk<F> {
         ensures at { (t : Tree) → IsLeft self.old.books t left.old → IsLeft self.new.books t left.new }
         ensures step { IfOk result (λ step. step ≡ step_at left.new.started left.new.apps) }
         ensures later { F.faults self.old.fixtures ≤ F.faults self.new.fixtures }
-        ensures room { vec_capacity self.new.books.rows ≡ vec_capacity self.old.books.rows }
+        ensures room { KeepsRoom self.old self.new }
         ensures cause { IfErr result (λ _. Rose (F.faults self.old.fixtures) (F.faults self.new.fixtures)) }
     {
         let started = self.start(left.number);

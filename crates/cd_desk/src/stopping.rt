@@ -1,5 +1,4 @@
 ghost use Rattle.std.specs.Prelude.{◌≡◌, ◌<◌, ◌-◌, ◌==◌, ◌&&◌, cond, [], ◌∷◌};
-ghost use Rattle.std.specs.Vec.{vec_capacity};
 ghost use Rattle.cd_outside.specs.declared.fixtures.FixtureCall.TheVariants as call;
 ghost use Rattle.cd_outside.specs.FixtureCall.{CallsGrow};
 ghost use Rattle.cd_legal.specs.Serials.{has_serial};
@@ -7,6 +6,7 @@ ghost use Rattle.cd_legal.specs.declared.entry.Entry.TheVariants as entry;
 ghost use Rattle.cd_desk.specs.Desks.{AddsTo};
 ghost use Rattle.cd_desk.specs.Lefts.{step_at};
 ghost use Rattle.cd_desk.specs.Closings.{IsClosing, MayClean};
+ghost use Rattle.cd_desk.specs.Rooms.{KeepsRoom};
 
 use crate::closing::Closing;
 use crate::desk::Desk;
@@ -51,7 +51,7 @@ impl<F: Fixtures> Desk<F> {
         ensures clean { MayClean self.old.books closing.old.number → MayClean self.new.books closing.old.number }
         ensures step { result ≡ step_at closing.new.apps 0 }
         ensures faults { F.faults self.new.fixtures ≡ F.faults self.old.fixtures }
-        ensures room { vec_capacity self.new.books.rows ≡ vec_capacity self.old.books.rows }
+        ensures room { KeepsRoom self.old self.new }
     {
         let place = place_of(&self.books, closing.number);
         stop_in(&mut self.books, &mut self.fixtures, place);
@@ -73,7 +73,7 @@ impl<F: Fixtures> Desk<F> {
         ensures clean { MayClean self.new.books closing.old.number }
         ensures step { result ≡ step_at closing.new.instances 0 }
         ensures faults { F.faults self.new.fixtures ≡ F.faults self.old.fixtures }
-        ensures room { vec_capacity self.new.books.rows ≡ vec_capacity self.old.books.rows }
+        ensures room { KeepsRoom self.old self.new }
     {
         let place = place_of(&self.books, closing.number);
         clean_in(&mut self.books, &mut self.fixtures, place);

@@ -1,7 +1,7 @@
 ghost use Rattle.std.specs.Prelude.{◌≡◌, ◌<◌, ◌+◌, ◌-◌, ◌^◌, length, slice_get, Some, None};
-ghost use Rattle.std.specs.Vec.{vec_capacity};
 ghost use Rattle.cd_legal.specs.declared.entry.Entry.TheVariants as entry;
 ghost use Rattle.cd_desk.specs.Desks.{AddsTo, HasTicket, told_at};
+ghost use Rattle.cd_desk.specs.Rooms.{KeepsRoom};
 
 use crate::desk::Desk;
 use cd_outside::Fixtures;
@@ -27,7 +27,7 @@ impl<F: Fixtures> Desk<F> {
         ensures entry { AddsTo F.calls self.old self.new (entry.Begin caller result) }
         ensures serial { result ≡ self.old.serial }
         ensures faults { F.faults self.new.fixtures ≡ F.faults self.old.fixtures }
-        ensures room { vec_capacity self.new.books.rows ≡ vec_capacity self.old.books.rows }
+        ensures room { KeepsRoom self.old self.new }
     {
         self.tickets.by_caller[caller as usize] = Some(self.serial);
         self.begun = self.begun.saturating_add(1);
@@ -39,7 +39,7 @@ impl<F: Fixtures> Desk<F> {
         requires { HasTicket self.old.tickets.by_caller.items caller }
         ensures entry { AddsTo F.calls self.old self.new (entry.Finish caller) }
         ensures faults { F.faults self.new.fixtures ≡ F.faults self.old.fixtures }
-        ensures room { vec_capacity self.new.books.rows ≡ vec_capacity self.old.books.rows }
+        ensures room { KeepsRoom self.old self.new }
     {
         self.tickets.by_caller[caller as usize] = None;
     }

@@ -1,5 +1,6 @@
 ghost use Rattle.std.specs.Prelude.{◌≡◌, ◌+◌, ℕ, true, length, slice_get};
 ghost use Rattle.std.specs.Vec.{vec_capacity};
+ghost use Rattle.cd_desk.specs.Rooms.{KeepsRoom};
 ghost use Rattle.cd_legal.specs.State.{holds};
 ghost use Rattle.cd_tree.specs.declared.tree.Tree.{Tree};
 ghost use Rattle.cd_desk.specs.declared.closing.Closing.{Closing};
@@ -8,9 +9,11 @@ ghost use Rattle.cd_desk.specs.Desks.{Keeps};
 ghost use Rattle.cd_desk.specs.Drafting.{drafts_in};
 ghost use Rattle.cd_desk.specs.Lefts.{IsLeft};
 ghost use Rattle.cd_desk.specs.Closings.{IsClosing, MayClean, CanRetire};
+ghost use Rattle.cd_desk.specs.Clearing.{IsCleared};
 ghost use Rattle.cd_desk.specs.Trimming.{is_done, is_closed_row, Trims, IsTrimmed};
 
 use crate::books::Books;
+use crate::clearing::clear;
 use crate::closing::Closing;
 use crate::desk::Desk;
 use crate::drafting::end_all;
@@ -30,6 +33,14 @@ fn is_done(life: Life, retired: bool) -> bool
     }
 }
 
+// Whether the draft of the row is closed.
+pub(crate) fn is_closed(row: &Row) -> bool
+    ensures { result ≡ is_closed_row row.now }
+{
+    is_done(row.life, row.retired)
+        && (row.apps.ended == row.apps.opened && row.modules.ended == row.modules.opened)
+}
+
 // Whether the draft of the first row, if there is one, is closed.
 fn is_first_closed(rows: &[Row]) -> bool
     ensures { result ≡ holds is_closed_row (slice_get rows.now 0) }
@@ -37,8 +48,7 @@ fn is_first_closed(rows: &[Row]) -> bool
     let Some(row) = rows.first() else {
         return false;
     };
-    is_done(row.life, row.retired)
-        && (row.apps.ended == row.apps.opened && row.modules.ended == row.modules.opened)
+    is_closed(row)
 }
 
 // Spends a line of which each one that was opened is ended.
@@ -96,8 +106,8 @@ fn trim(books: &mut Books)
 }
 
 impl<F: Fixtures> Desk<F> {
-    /// Spends a closing of which nothing is left, and lets the rows of closed drafts go, up to the first draft that is not
-    /// closed. It takes no memory.
+    /// Spends a closing of which nothing is left, and lets go of what is kept of its draft. The rows of closed drafts go too, up to
+    /// the first draft that is not closed. It takes no memory.
     pub fn closed(&mut self, closing: Closing)
         requires apps { closing.apps ≡ 0 }
         requires instances { closing.instances ≡ 0 }
@@ -109,9 +119,12 @@ impl<F: Fixtures> Desk<F> {
         ensures clean { (draft : ℕ) → MayClean self.old.books draft → MayClean self.new.books draft }
         ensures retire { (serial : ℕ) → CanRetire self.old serial → CanRetire self.new serial }
         ensures trimmed { IsTrimmed self.new.books }
-        ensures room { vec_capacity self.new.books.rows ≡ vec_capacity self.old.books.rows }
+        ensures cleared { IsCleared self.new.books closing.number }
+        ensures room { KeepsRoom self.old self.new }
     {
+        let number = closing.number;
         closing.end();
+        clear(&mut self.books, number);
         trim(&mut self.books);
     }
 }

@@ -1,3 +1,4 @@
+-- Part of the main theorem.
 -- What the app `echo` answers.
 use Rattle.std.specs.Prelude.{[], false}
 use Rattle.cd_wire.specs.declared.answer.Answer.{Answer}

@@ -1,3 +1,4 @@
+-- Part of the main theorem.
 -- Texts with their placeholders replaced. A placeholder is `{`, a name without braces, and `}`; there is no escape.
 -- What is written and what is filled in are treated by the form that the text is filled for.
 use Rattle.std.specs.Prelude.{ℕ, ◌==◌, ◌||◌, Bool, List, [], ◌∷◌, ◌++◌, length, codes, nat_lt, if◌then◌else◌, option_map, unwrap_or, Result, Ok, Err}

@@ -1,3 +1,4 @@
+-- Part of the main theorem.
 -- The state in which a request meets the first route.
 use Rattle.std.specs.Prelude.{ℕ, List, [], ◌∷◌, codes, if◌then◌else◌, None, unwrap_or, nat_eq}
 use Rattle.std.specs.List.{starts_with}

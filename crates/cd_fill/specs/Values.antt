@@ -1,3 +1,4 @@
+-- Part of the main theorem.
 -- What the names of placeholders stand for (Caddy, Conventions, Placeholders). An unknown name stands for nothing at all, an
 -- absent query, field or variable for the empty text.
 use Rattle.std.specs.Prelude.{ℕ, ◌==◌, Bool, List, [], map, filter, fold, drop, length, codes, decimal, if◌then◌else◌, Option, Some, None, unwrap_or, nat_eq}

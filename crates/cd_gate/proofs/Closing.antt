@@ -15,6 +15,7 @@ use Rattle.cd_legal.specs.Legal.{state_at, may_retire}
 use Rattle.cd_legal.specs.Owing.{owes_of, owes_nothing}
 use Rattle.cd_legal.proofs.Logs.{prefix_trans}
 use Rattle.cd_legal.proofs.Owing.{owes-none}
+use Rattle.cd_gate.specs.declared.table.TheConstants.{TURN_WORD, BOARD_SLOT}
 use Rattle.cd_gate.specs.declared.view.View.{View}
 use Rattle.cd_gate.specs.declared.view.Gone.{Gone}
 use Rattle.cd_gate.specs.declared.pass.Pass.{Pass}
@@ -125,8 +126,8 @@ module _ {T : Type 0} where
     no_holder : (seat : ℕ) (u : View T) → get_elem? s.views seat ≡ some u → u.turn ≡ true → ⊥
     no_holder seat u e has = off (sym h.idle.1 ∙ (ap (λ (v : View T). v.turn) (root_is ∙ sym (alone seat u e ((k.each seat u e).holds has).0)) ∙ has))
 
-    is_free : get_or s.words 0 0 ≡ 0
-    is_free = dite (ℕ_discrete (get_or s.words 0 0) 0) (λ e. e) (λ ne. let t = (k.taken (omega arith)).0 in absurd (no_holder t.0 t.1 t.2 t.3))
+    is_free : get_or s.words TURN_WORD 0 ≡ 0
+    is_free = dite (ℕ_discrete (get_or s.words TURN_WORD 0) 0) (λ e. e) (λ ne. let t = (k.taken (omega arith)).0 in absurd (no_holder t.0 t.1 t.2 t.3))
 
     each_ends : (i : ℕ) (p : Pass T) → get_elem? all i ≡ some p → IsPrefix (view p).seen r.log × (mine i r.log ≡ (view p).mine)
     each_ends zero p e =
@@ -155,7 +156,7 @@ module _ {T : Type 0} where
         let t = k.duties.whole n may in
         let e : false ≡ true = ap (has_number n) (sym root_free.1) ∙ (ap (λ (v : View T). has_number n v.duties) (sym (alone t.0 t.1 t.2 t.3)) ∙ t.4) in off e
 
-    pub closes : (b : T) × (get_elem? s.homes 0 ≡ some (some (Some b))) × Closes stands o all b
+    pub closes : (b : T) × (get_elem? s.homes BOARD_SLOT ≡ some (some (Some b))) × Closes stands o all b
     closes = let t = k.free is_free in (
       t.0.0,
       r.home t.0.0 t.0.1,

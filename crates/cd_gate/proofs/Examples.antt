@@ -1,14 +1,16 @@
 -- Examples of the definitions that compute: of each one where it is true and one where it is false.
 use Rattle.std.specs.Prelude.{◌≡◌, true, false, [], ◌∷◌, Some, None}
-use Rattle.std.proofs.Common.{refl}
+use Rattle.std.proofs.Common.{refl, arith}
 use Rattle.cd_legal.specs.declared.entry.Change.TheVariants.{First}
 use Rattle.cd_legal.specs.declared.entry.Entry.TheVariants.{Publish, Abandon, Begin, Finish, Retire, Halt}
 use Rattle.cd_legal.specs.declared.limits.TheConstants.{LAST_SERIAL}
 use Rattle.cd_legal.specs.declared.state.State.{State}
 use Rattle.cd_legal.specs.Entry.{signed}
 use Rattle.cd_legal.specs.State.{opening_state}
+use Rattle.cd_gate.specs.declared.pass.Pass.{Pass}
 use Rattle.cd_gate.specs.declared.view.View.{View}
 use Rattle.cd_gate.specs.Duties.{duties_by}
+use Rattle.cd_gate.specs.Passes.{view, HasPlace}
 use Rattle.cd_gate.specs.Rule.{signs_all}
 use Rattle.cd_gate.specs.Steps.{leaves_room, is_due, may_note, longer, first_view, noted}
 
@@ -51,6 +53,14 @@ Notes =
 
 notes : Notes
 notes = (refl, refl, refl, refl, refl, refl, refl)
+
+-- of two places pass 1 has one, and of one place it has none
+module _ {T : Type 0} (p : Pass T) where
+  has_place : (view p).number ≡ 1 → HasPlace 2 p
+  has_place is = omega (arith, is)
+
+  has_none : (view p).number ≡ 1 → HasPlace 1 p → ⊥
+  has_none is has = absurd (omega (arith, is, has))
 
 -- the longer of two beginnings, in either order
 abbrev Longer : Type 0

@@ -1,3 +1,4 @@
+-- Part of the main theorem.
 -- What a call tells that has made these entries.
 use Rattle.std.specs.Prelude.{◌≡◌, ℕ, List, [], ◌∷◌, ◌++◌}
 use mathlib.Core.List.{IsPrefix}

@@ -1,6 +1,7 @@
 -- What callers see of a pass.
-use Rattle.std.specs.Prelude.{◌≡◌, true, false, [], ◌∷◌, Some, None}
+use Rattle.std.specs.Prelude.{◌≡◌, ◌<◌, ℕ, true, false, [], ◌∷◌, Some, None}
 use Rattle.atomic_table.specs.Seated.{TableId}
+use Rattle.cd_gate.specs.declared.table.TheConstants.{BOARD_SLOT}
 use Rattle.cd_gate.specs.declared.view.View.{View}
 use Rattle.cd_gate.specs.declared.gate.Gate.{Gate}
 use Rattle.cd_gate.specs.declared.pass.Pass.{Pass}
@@ -20,7 +21,7 @@ module _ {T : Type 0} where
 
   -- a pass of this table that has the turn, with the board taken out of the slot
   abbrev pub HasTurn : TableId → T → Pass T → Type 0
-  HasTurn z o p = IsOf z o p × (p.seat.me.0.turn ≡ true) × (p.seat.me.1 ≡ (0, None) ∷ [])
+  HasTurn z o p = IsOf z o p × (p.seat.me.0.turn ≡ true) × (p.seat.me.1 ≡ (BOARD_SLOT, None) ∷ [])
 
   -- an idle pass of this gate
   abbrev pub IsIdleOf : Gate T → Pass T → Type 0
@@ -29,6 +30,10 @@ module _ {T : Type 0} where
   -- a pass that has the turn of this gate
   abbrev pub HasTurnOf : Gate T → Pass T → Type 0
   HasTurnOf g p = HasTurn g.table.shared.table_id g.table.shared.key.value p
+
+  -- of so many places, one for each number from 0 on, one is the pass's
+  abbrev pub HasPlace : ℕ → Pass T → Type 0
+  HasPlace places p = (view p).number < places
 
   -- the value that this gate began with
   abbrev pub opening_of : Gate T → T

@@ -13,6 +13,7 @@ use Rattle.cd_legal.specs.Legal.{state_at, may_retire}
 use Rattle.cd_legal.specs.Owing.{owes_of}
 use Rattle.cd_legal.specs.Signing.{IsHistory}
 use Rattle.cd_legal.specs.Whole.{nothing_left}
+use Rattle.cd_gate.specs.declared.table.TheConstants.{TURN_WORD, HISTORY_WORD, WORD_COUNT, BOARD_SLOT, SLOT_COUNT}
 use Rattle.cd_gate.specs.declared.view.View.{View}
 use Rattle.cd_gate.specs.Words.{Slot, Moment, owed}
 use Rattle.cd_gate.specs.Rule.{IsKept}
@@ -38,12 +39,12 @@ pub record Finds {T : Type 0} (stands : T → T → List Signed → Type 0) (ope
 module _ {T : Type 0} where
   -- the moment that a table shows, with this in the slot
   abbrev pub moment_of : State (Option T) (View T) → Slot T → Moment T
-  moment_of s slot = record { turn = slice_index s.words 0; counted = slice_index s.words 1; board = slot; views = s.views }
+  moment_of s slot = record { turn = slice_index s.words TURN_WORD; counted = slice_index s.words HISTORY_WORD; board = slot; views = s.views }
 
   -- the turn was free, and the seat has it, and the slot with the board; or nothing changed
   abbrev pub acquired : (T → T → List Signed → Type 0) → Step (Option T) → Me (Option T) (View T) → ℕ → Me (Option T) (View T) → Type 0
   acquired stands st m found m' =
-      (found ≡ 0 → (log : List Signed) × (b : T) × (m' ≡ (with_turn m.0 log, (0, Some b) ∷ m.1)) × ((o : T) × (m.0.opening ≡ Some o) × Finds stands o m.0 log b))
+      (found ≡ 0 → (log : List Signed) × (b : T) × (m' ≡ (with_turn m.0 log, (BOARD_SLOT, Some b) ∷ m.1)) × ((o : T) × (m.0.opening ≡ Some o) × Finds stands o m.0 log b))
       × (found ≢ 0 → m' ≡ m)
 
   abbrev pub wrote : Entry → Step (Option T) → Me (Option T) (View T) → ℕ → Me (Option T) (View T) → Type 0
@@ -60,8 +61,8 @@ pub record Holds {T : Type 0} (stands : T → T → List Signed → Type 0) (ope
   pub log : List Signed
   pub slot : Slot T
   pub kept : IsKept stands opening log (moment_of s slot)
-  -- the table has two words, and one slot
-  pub wide : length s.words ≡ 2
-  pub deep : length s.homes ≡ 1
+  -- the table has its words, and its slot
+  pub wide : length s.words ≡ WORD_COUNT
+  pub deep : length s.homes ≡ SLOT_COUNT
   -- a board at home is in it
-  pub home : (b : T) → slot ≡ Slot.Home b → get_elem? s.homes 0 ≡ some (some (Some b))
+  pub home : (b : T) → slot ≡ Slot.Home b → get_elem? s.homes BOARD_SLOT ≡ some (some (Some b))

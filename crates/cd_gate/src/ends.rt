@@ -7,6 +7,7 @@ ghost use Rattle.cd_gate.specs.Passes.{opening_of};
 
 use crate::gate::Gate;
 use crate::pass::Pass;
+use crate::table::{BOARD_SLOT, SLOT_COUNT, WORD_COUNT};
 use atomic_table::{Refused, Table};
 use cd_legal::Stands;
 use std::alloc::Global;
@@ -39,13 +40,13 @@ impl<T: Stands> Gate<T> {
         let Ok(mut passes) = Vec::with_capacity(alloc, seats as usize) else {
             return Err(NoGate { value });
         };
-        let Ok(mut slots) = Vec::with_capacity(alloc, 1) else {
+        let Ok(mut slots) = Vec::with_capacity(alloc, SLOT_COUNT) else {
             passes.destroy_empty();
             return Err(NoGate { value });
         };
         let opening = Snapshot::of(&value);
         slots.push_reserved(Some(value));
-        match Table::new(alloc, &[0, 0], slots, &opening) {
+        match Table::new(alloc, &[0; WORD_COUNT], slots, &opening) {
             Ok((table, seat)) => {
                 let gate = Gate { table };
                 passes.push_reserved(Pass { number: 0, seat });
@@ -94,7 +95,7 @@ impl<T: Stands> Gate<T> {
         let Pass { number: _, seat } = self.gather(passes);
         let Gate { table } = self;
         let mut closed = table.close_with(seat);
-        let held = closed.take(0);
+        let held = closed.take(BOARD_SLOT);
         closed.free();
         held.unwrap()
     }

@@ -3,6 +3,7 @@ ghost use Rattle.std.specs.Prelude.{◌≡◌, ◌+◌, ◌∷◌, [], List, Som
 ghost use Rattle.cd_legal.specs.declared.entry.Signed.{Signed};
 ghost use Rattle.cd_legal.specs.Legal.{state_at};
 ghost use Rattle.cd_legal.specs.Whole.{nothing_left};
+ghost use Rattle.cd_gate.specs.declared.table.TheConstants.{BOARD_SLOT, WORD_COUNT, SLOT_COUNT};
 ghost use Rattle.cd_gate.specs.Steps.{may_note, with_turn, without_turn, noted};
 ghost use Rattle.cd_gate.specs.Tables.{Finds};
 ghost use Rattle.cd_gate.specs.Passes.{view, IsIdleOf, HasTurnOf, opening_of};
@@ -10,27 +11,46 @@ ghost use Rattle.cd_gate.specs.Passes.{view, IsIdleOf, HasTurnOf, opening_of};
 use crate::gate::Gate;
 use crate::pass::{Pass, Turn};
 use crate::plays::{Acquire, Names, Note, Release, Says};
-use crate::table::{Place, Top};
+use crate::table::{BOARD_SLOT, HISTORY_WORD, Place, TURN_WORD, Top};
 use cd_legal::Stands;
 use std::marker::Brand;
 use std::sync::Wait;
 use std::thread;
+use std::time::Duration;
+
+// How often the turn is asked for before the thread sleeps in between: a turn is mostly short, but it may wait for a name server.
+const MISSES_BEFORE_SLEEP: u32 = 200;
 
 // Waits for the turn. The board is then in the slot, which the seat has.
 fn wait_for_turn<T: Stands, R: Wait>(rt: &R, top: &Top<T>, seat: &mut Place<T>, turn: u64)
-    requires table { (seat.old.table_id ≡ top.now.table_id) × (top.now.table_id.words ≡ 2) × (top.now.table_id.slots ≡ 1) }
+    requires table { (seat.old.table_id ≡ top.now.table_id) × (top.now.table_id.words ≡ WORD_COUNT) × (top.now.table_id.slots ≡ SLOT_COUNT) }
     requires idle { (seat.old.me.1 ≡ []) × (seat.old.me.0.live ≡ true) }
     requires turn { turn ≡ seat.old.me.0.number + 1 }
     ensures table { seat.new.table_id ≡ seat.old.table_id }
-    ensures entered { (log : List Signed) × (b : T) × (seat.new.me ≡ (with_turn seat.old.me.0 log, (0, Some b) ∷ [])) × ((o : T) × (seat.old.me.0.opening ≡ Some o) × Finds T.stands o seat.old.me.0 log b) }
+    ensures entered { (log : List Signed) × (b : T) × (seat.new.me ≡ (with_turn seat.old.me.0 log, (BOARD_SLOT, Some b) ∷ [])) × ((o : T) × (seat.old.me.0.opening ≡ Some o) × Finds T.stands o seat.old.me.0 log b) }
 {
+    let mut misses = 0;
     for _ in rt.forever() {
-        if top.compare_exchange::<Acquire>(seat, 0, 0, turn) == 0 {
+        let holder = top.compare_exchange::<Acquire>(seat, TURN_WORD, 0, turn);
+        if holder == 0 {
             return;
         }
-        thread::yield_now();
+        if misses < MISSES_BEFORE_SLEEP {
+            misses += 1;
+            thread::yield_now();
+        } else {
+            sleep_while_held(rt, top, holder);
+        }
     }
     unreachable!()
+}
+
+// Sleeps for a millisecond, unless the turn has another holder meanwhile.
+fn sleep_while_held<T: Stands, R: Wait>(rt: &R, top: &Top<T>, holder: u64)
+    requires { top.now.table_id.words ≡ WORD_COUNT }
+{
+    let holder = u32::try_from(holder).unwrap_or(0);
+    top.park_timeout(rt, TURN_WORD, holder, Duration::from_millis(1));
 }
 
 impl<T: Stands> Gate<T> {
@@ -42,7 +62,7 @@ impl<T: Stands> Gate<T> {
     {
         let top = &self.table.shared;
         wait_for_turn(rt, top, &mut pass.seat, u64::from(pass.number) + 1);
-        let value = top.exchange(&mut pass.seat, 0, None).unwrap();
+        let value = top.exchange(&mut pass.seat, BOARD_SLOT, None).unwrap();
         Turn { value }
     }
 
@@ -65,7 +85,9 @@ impl<T: Stands> Gate<T> {
         ensures seen { view pass.new ≡ noted (view pass.old) E.said }
     {
         let _ = about;
-        self.table.shared.fetch_add::<Note<E>>(&mut pass.seat, 1, 1);
+        self.table
+            .shared
+            .fetch_add::<Note<E>>(&mut pass.seat, HISTORY_WORD, 1);
     }
 
     /// Gives the turn back.
@@ -78,8 +100,8 @@ impl<T: Stands> Gate<T> {
     {
         let Turn { value } = turn;
         let top = &self.table.shared;
-        let emptied = top.exchange(&mut pass.seat, 0, Some(value));
+        let emptied = top.exchange(&mut pass.seat, BOARD_SLOT, Some(value));
         let None = emptied else { unreachable!() };
-        top.store::<Release>(&mut pass.seat, 0, 0);
+        top.store::<Release>(&mut pass.seat, TURN_WORD, 0);
     }
 }

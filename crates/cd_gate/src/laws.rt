@@ -12,6 +12,7 @@ ghost use Rattle.cd_legal.specs.Legal.{state_at, may_retire};
 ghost use Rattle.cd_legal.specs.Owing.{owes_nothing};
 ghost use Rattle.cd_legal.specs.Signing.{is_live_in};
 ghost use Rattle.cd_legal.specs.Whole.{nothing_left};
+ghost use Rattle.cd_gate.specs.declared.table.TheConstants.{TURN_WORD, HISTORY_WORD, WORD_COUNT, BOARD_SLOT, SLOT_COUNT};
 ghost use Rattle.cd_gate.specs.declared.view.View.{View};
 ghost use Rattle.cd_gate.specs.declared.view.Gone.{Gone};
 ghost use Rattle.cd_gate.specs.Words.{Slot, Moment, owed};
@@ -19,6 +20,12 @@ ghost use Rattle.cd_gate.specs.Rule.{IsKept, signs_all};
 ghost use Rattle.cd_gate.specs.Steps.{first_view, longer, may_note, with_view, acquire, move_board, note, release, split, join, copy, hand_over, compare};
 
 use cd_legal::Stands;
+
+/// The table has a word for the turn and one that counts the history, and a slot for the board.
+pub fn the_table_has_these_words()
+    ensures words { (TURN_WORD ≡ 0) × (HISTORY_WORD ≡ 1) × (WORD_COUNT ≡ 2) }
+    ensures slots { (BOARD_SLOT ≡ 0) × (SLOT_COUNT ≡ 1) }
+{}
 
 /// A gate begins with the empty history, its board at home, and the pass of number 0.
 pub fn a_gate_begins_by_the_rule<T: Stands>()

@@ -6,7 +6,7 @@
 //! `IsKept` of specs/Rule.antt says how these agree with one history, which no value holds.
 //!
 //! The kinds of steps stand in specs/Steps.antt, and the laws (laws.rt) say of each that it keeps the rule. `Gate`
-//! (entering.rt, handing.rt, and ends.rt for its beginning and end) makes them on a table of two words and one slot (table.rt, plays.rt): specs/Tables.antt
+//! (entering.rt, handing.rt, and ends.rt for its beginning and end) makes them on a table, whose words and slot table.rt names (plays.rt): specs/Tables.antt
 //! says how such a table shows a moment, specs/Passes.antt and specs/Ends.antt what callers see. What calls tell that add entries
 //! stands in specs/Growing.antt and specs/Knowing.antt, with laws in growing.rt and knowing.rt. Of all calls only `enter` waits,
 //! and only `new` takes memory.
@@ -36,7 +36,8 @@ pub use laws::{
     copying_keeps_the_rule, handing_over_keeps_the_rule, joining_keeps_the_rule,
     live_drafts_are_in_views, missing_keeps_the_rule, moving_the_board_keeps_the_rule,
     noting_keeps_the_rule, one_pass_has_the_turn, passes_sign_the_history,
-    releasing_keeps_the_rule, splitting_keeps_the_rule, tickets_are_in_views,
+    releasing_keeps_the_rule, splitting_keeps_the_rule, the_table_has_these_words,
+    tickets_are_in_views,
 };
 pub use pass::{Pass, Turn};
 pub use plays::{Names, Says};

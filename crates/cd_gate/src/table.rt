@@ -1,10 +1,24 @@
-// The table below a gate. Word 0 is the turn: 0, or one more than the number of its holder. Word 1 counts the history. Slot 0 has
-// the board.
+// The table below a gate: its words, and its slot.
 use crate::view::View;
 use atomic_table::{Seat, Shared, Table, TableRule};
 use cd_legal::Stands;
 use std::alloc::Global;
 use std::snapshot::Snapshot;
+
+/// The word of the turn: 0 where it is free, else one more than the number of its holder.
+pub const TURN_WORD: usize = 0;
+
+/// The word that counts the entries of the history.
+pub const HISTORY_WORD: usize = 1;
+
+/// How many words there are.
+pub const WORD_COUNT: usize = 2;
+
+/// The slot of the board.
+pub const BOARD_SLOT: usize = 0;
+
+/// How many slots there are.
+pub const SLOT_COUNT: usize = 1;
 
 pub struct Law;
 

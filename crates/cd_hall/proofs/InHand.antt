@@ -1,6 +1,7 @@
 -- What the board in hand says of the history that a pass has seen, and what is made of it in a turn that supersedes or retires a serial.
 use Rattle.std.proofs.Common.{◌≡◌, ◌≢◌, ◌≤◌, ◌<◌, ℕ, ◌+◌, ◌-◌, ◌^◌, ◌==◌, Bool, true, false, not, nat_lt, nat_le, cond, List, [], ◌∷◌, ◌++◌, Option, Some, None, Result, refl, sym, ap, subst, ◌∙◌, arith, ne_eqb}
 use Rattle.std.specs.Prelude.{◌&&◌}
+use Rattle.std.proofs.lemmas.Bool.{lt-ltb}
 use Rattle.std.proofs.lemmas.Bool.Decides.{nat_tests}
 use Rattle.cd_outside.specs.declared.fixtures.FixtureCall.{FixtureCall}
 use Rattle.cd_tree.specs.declared.tree.Tree.{Tree}
@@ -129,6 +130,18 @@ module _ {T : Type 0} where
       never : (b : Bool) → (b ≡ true → ⊥) → b ≡ false
       never true refuted = absurd (refuted refl)
       never false refuted = refl
+
+  -- it is due exactly where no request runs under it
+  pub halt_free : (v w : View T) (n : ℕ) (due : Bool) → Knows v → nothing_left (state_at v.seen) ≡ true → n ≡ (state_at v.seen).serial → w ≡ noted_all v (Halt ((state_at v.seen).serial + 1) ∷ stopped_of (state_at v.seen) (state_at v.seen).serial)
+      → due ≡ (nat_lt n (state_at w.seen).serial && (open_at n (state_at w.seen).tickets == 0)) → cond due (n ∷ []) [] ≡ cond (open_at (state_at v.seen).serial (state_at w.seen).tickets == 0) ((state_at v.seen).serial ∷ []) []
+  halt_free v w n due knows left current is told =
+      let s : State = state_at v.seen in
+      let ends = stopped_of_ends s (agrees v knows) (unended_at v knows) left s.serial in
+      let serial : (state_at w.seen).serial ≡ s.serial + 1 =
+      ap (λ (z : State). z.serial) (state_noted v w (Halt (s.serial + 1) ∷ stopped_of s s.serial) is) ∙ (rest_along (after s (Halt (s.serial + 1))) (stopped_of s s.serial) ends).serial in
+      let less : nat_lt n (state_at w.seen).serial ≡ true = lt-ltb n (state_at w.seen).serial (omega (arith, serial, current)) in
+      ap (λ (b : Bool). cond b (n ∷ []) []) (told ∙ ap (λ (b : Bool). b && (open_at n (state_at w.seen).tickets == 0)) less)
+      ∙ ap (λ (m : ℕ). cond (open_at m (state_at w.seen).tickets == 0) (m ∷ []) []) current
 
   pub halt_duties : (v w : View T) (ds : List ℕ) → Knows v → Knows w → nothing_left (state_at v.seen) ≡ true → w ≡ noted_all v (Halt ((state_at v.seen).serial + 1) ∷ stopped_of (state_at v.seen) (state_at v.seen).serial) → ds ≡ due_at (state_at w.seen) (state_at v.seen).serial
       → (w.duties ≡ v.duties ++ ds) × (nothing_left (state_at w.seen) ≡ true)

@@ -1,5 +1,6 @@
 pub mod Turned
 pub mod Placing
+pub mod Spreading
 pub mod Rows
 pub mod Told
 pub mod Requested
@@ -8,6 +9,7 @@ pub mod Ended
 pub mod Unended
 pub mod Endings
 pub mod Dues
+pub mod DueThen
 pub mod Leftovers
 pub mod Noted
 pub mod OneByOne
@@ -15,3 +17,4 @@ pub mod GivenUp
 pub mod Retirable
 pub mod InHand
 pub mod Wholes
+mod Examples

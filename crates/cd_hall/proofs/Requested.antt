@@ -2,6 +2,7 @@
 use Rattle.std.proofs.Common.{◌≡◌, ◌≤◌, ◌<◌, ℕ, zero, suc, ◌+◌, ◌==◌, min, Bool, true, false, nat_lt, cond, List, [], ◌∷◌, ◌++◌, length, slice_get, Option, Some, None, Result, refl, sym, ap, subst, ◌∙◌, eq-eqb, arith}
 use Rattle.std.specs.Prelude.{◌&&◌, is_some}
 use Rattle.std.proofs.lemmas.Bool.{eqb-true}
+use Rattle.std.proofs.lemmas.List.{append-nil}
 use mathlib.Core.List.{IsPrefix}
 use Rattle.cd_outside.specs.Counts.{count_end}
 use Rattle.cd_outside.specs.declared.fixtures.FixtureCall.{FixtureCall}
@@ -18,6 +19,7 @@ use Rattle.cd_legal.specs.Begins.{begins_now}
 use Rattle.cd_legal.specs.Entry.{signed, entries}
 use Rattle.cd_legal.specs.State.{conf_of, has_number, ticket_of, open_at}
 use Rattle.cd_legal.specs.Legal.{allowed, after, state_at, may_retire}
+use Rattle.cd_legal.specs.Placed.{Placed}
 use Rattle.cd_legal.specs.Signing.{may_sign, IsHistory}
 use Rattle.cd_legal.specs.Whole.{nothing_left}
 use Rattle.cd_legal.proofs.Histories.{both, first, entries-snoc}
@@ -45,9 +47,10 @@ use Rattle.cd_life.proofs.Shelving.{allowed_more}
 use Rattle.cd_hall.specs.declared.hall.Hall.{Hall}
 use Rattle.cd_hall.specs.declared.hall.Ticket.{Ticket}
 use Rattle.cd_hall.specs.Calls.{IsPassOf, StaysCalm}
-use Rattle.cd_hall.specs.Tickets.{IsTicketOf}
-use Rattle.cd_hall.specs.Turned.{SinceFound}
+use Rattle.cd_hall.specs.Tickets.{HasConfiguration, IsTicketOf, HasBegun}
+use Rattle.cd_hall.specs.Turned.{Turned, SinceFound}
 use Rattle.cd_hall.specs.Turns.{InTurn}
+use Rattle.cd_hall.proofs.Placing.{turned_places}
 use Rattle.cd_hall.proofs.Turned.{found_more}
 
 -- ---- counts of begins
@@ -140,11 +143,13 @@ module _ {A F B : Type 0} {k : _} (calls : F → Option (List FixtureCall)) (fau
       let kept : (state_at (view q).seen).serial ≡ s.serial = ap (λ (z : View (Board A F B k)). (state_at z.seen).serial) seen ∙ ap (λ (z : State). z.serial) (state-snoc (view p).seen (signed (view p).number (Begin (view p).number tk.serial))) in
       record {
         own = ap (λ (z : View (Board A F B k)). z.ticket) seen;
-        there = omega (arith, kept, same);
-        conf = conf
-            ∙ (ap (λ (m : ℕ). conf_of s m) (serial ∙ sym same)
-            ∙ (sym (conf_begun (view p).seen (view p).number (view p).number tk.serial tk.serial)
-            ∙ ap (λ (z : View (Board A F B k)). conf_of (state_at z.seen) tk.serial) (sym seen)));
+        has = record {
+          there = omega (arith, kept, same);
+          conf = conf
+              ∙ (ap (λ (m : ℕ). conf_of s m) (serial ∙ sym same)
+              ∙ (sym (conf_begun (view p).seen (view p).number (view p).number tk.serial tk.serial)
+              ∙ ap (λ (z : View (Board A F B k)). conf_of (state_at z.seen) tk.serial) (sym seen)));
+        };
       }
 
   -- few requests have begun
@@ -221,21 +226,49 @@ module _ {T : Type 0} where
   begin_found v w x n since same seen = found_more v w x w.seen [] (Begin v.number n) since (seen ∙ ap (λ (j : ℕ). noted w (Begin j n)) (number_in v w same))
 
   -- a ticket keeps its configuration while the history grows
-  pub ticket_stays : {A B : Type 0} {k : _} (v w : View T) (tk : Ticket A B k) → IsTicketOf v tk → IsPrefix v.seen w.seen → IsHistory w.seen → w.ticket ≡ v.ticket → IsTicketOf w tk
-  ticket_stays v w tk has front history same =
+  pub configuration_stays : {A B : Type 0} {k : _} (v w : View T) (tk : Ticket A B k) → HasConfiguration v tk → IsPrefix v.seen w.seen → IsHistory w.seen → HasConfiguration w tk
+  configuration_stays v w tk has front history =
       let up = serial-rises v.seen w.seen front history.is_legal in
       let there = has.there in
       record {
-        own = same ∙ has.own;
         there = omega (arith, up, there);
         conf = has.conf ∙ sym (conf-stays v.seen w.seen tk.serial front history.is_legal has.there);
       }
 
+  pub ticket_stays : {A B : Type 0} {k : _} (v w : View T) (tk : Ticket A B k) → IsTicketOf v tk → IsPrefix v.seen w.seen → IsHistory w.seen → w.ticket ≡ v.ticket → IsTicketOf w tk
+  ticket_stays v w tk is front history same = record { own = same ∙ is.own; has = configuration_stays v w tk is.has front history }
+
   -- the ticket when the turn is left
   pub ticket_after : {A B : Type 0} {k : _} (x y : View T) (tk : Ticket A B k) → y ≡ without_turn x → IsTicketOf x tk → IsTicketOf y tk
   ticket_after x y tk is has =
-      let left : IsTicketOf (without_turn x) tk = record { own = has.own; there = has.there; conf = has.conf } in
+      let left : IsTicketOf (without_turn x) tk = record { own = has.own; has = record { there = has.has.there; conf = has.has.conf } } in
       subst (λ (z : View T). IsTicketOf z tk) (sym is) left
+
+  -- the request was begun under its ticket, where fewer had begun than may
+  pub has_begun : {A B : Type 0} {k : _} (v y : View T) (found : List Signed) (tk : Ticket A B k) → Turned v y found (Begin v.number tk.serial ∷ []) → tk.serial ≡ (state_at found).serial → IsTicketOf y tk → begins_now (entries y.seen) ≤ MAX_BEGINS
+      → (begin : Placed) × HasBegun v y tk begin
+  has_begun v y found tk t current is few = (
+    record { before = found; entry = Begin v.number tk.serial },
+    record {
+      places = turned_places v y found (Begin v.number tk.serial ∷ []) t;
+      seen = t.seen;
+      begins = refl;
+      with_ticket = record {
+        conf_is =
+            ap (λ (n : ℕ). conf_of (state_at found) n) (sym current)
+            ∙ (sym (conf_begun found v.number v.number tk.serial tk.serial)
+            ∙ (ap (λ (l : List Signed). conf_of (state_at l) tk.serial) (sym t.is) ∙ sym is.has.conf));
+        serial_is = sym current;
+      };
+      had_room = record { room = found; after = t.seen; before = ([], append-nil found); few = had };
+    },
+  )
+    where
+      next : begins_now (entries y.seen) ≡ begins_now (entries found) + 1
+      next = ap (λ (l : List Signed). begins_now (entries l)) t.is ∙ one_begun found v.number v.number tk.serial
+
+      had : begins_now (entries found) < MAX_BEGINS
+      had = omega (arith, next, few)
 
   pub number_kept : (w x : View T) → x ≡ w → x.number ≡ w.number
   number_kept w x same = ap (λ (z : View T). z.number) same
@@ -244,4 +277,4 @@ module _ {T : Type 0} where
 pub pass_after : {A F B : Type 0} {k : _} (h : Hall A F B k) (p : Pass (Board A F B k)) (v w x : View (Board A F B k)) → IsIdleOf h.gate p → v.number < length (opening_of h.gate).desk.tickets.by_caller.items → w.number ≡ v.number → x.number ≡ w.number → view p ≡ without_turn x
     → IsPassOf h p
 pass_after {A} {F} {B} {k} h p v w x idle seat one two seen =
-    (idle, subst (λ (j : ℕ). j < length (opening_of h.gate).desk.tickets.by_caller.items) (sym (ap (λ (z : View (Board A F B k)). z.number) seen ∙ (two ∙ one))) seat)
+    record { idle = idle; place = subst (λ (j : ℕ). j < length (opening_of h.gate).desk.tickets.by_caller.items) (sym (ap (λ (z : View (Board A F B k)). z.number) seen ∙ (two ∙ one))) seat }

@@ -14,7 +14,7 @@ use Rattle.cd_hall.specs.Ends.{ArePassesOf}
 pub all_passes : {A F B : Type 0} {k : _} (h : Hall A F B k) (passes : List (Pass (Board A F B k))) → IsRowOf h.gate passes → length (opening_of h.gate).desk.tickets.by_caller.items ≡ length passes → ArePassesOf h passes
 all_passes {A} {F} {B} {k} h passes row same i p at =
     let one = row.each i p at in
-    (one.0, subst (λ (n : ℕ). n < length (opening_of h.gate).desk.tickets.by_caller.items) (sym one.1) (subst (λ (n : ℕ). i < n) (sym same) (in_range passes i p at)))
+    record { idle = one.0; place = subst (λ (n : ℕ). n < length (opening_of h.gate).desk.tickets.by_caller.items) (sym one.1) (subst (λ (n : ℕ). i < n) (sym same) (in_range passes i p at)) }
 
 -- after the empty history nothing is left
 pub nothing_ended : IsEnded (state_at [])

@@ -6,6 +6,11 @@ pub if_ok : {A E : Type 0} (P Q : A → Type 0) (r : Result A E) → ((a : A) �
 if_ok P Q (Ok a) goes is = goes a is
 if_ok P Q (Err e) goes is = tt
 
+-- of three things that are said of it
+pub if_ok_all : {A E : Type 0} (P Q S R : A → Type 0) (r : Result A E) → ((a : A) → P a → Q a → S a → R a) → IfOk r P → IfOk r Q → IfOk r S → IfOk r R
+if_ok_all P Q S R (Ok a) goes p q s = goes a p q s
+if_ok_all P Q S R (Err e) goes p q s = tt
+
 -- what was said of a result whose value this one has
 pub if_told : {A E K : Type 0} (P : A → Type 0) (r : Result A E) (o : Result A K) → IfOk r (λ a. o ≡ Ok a) → IfOk o P → IfOk r P
 if_told P (Ok a) o is had = subst (λ z. IfOk z P) is had

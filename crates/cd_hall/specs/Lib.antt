@@ -1,8 +1,10 @@
 pub mod Turned
+pub mod Spread
 pub mod Turns
 pub mod Tickets
 pub mod Drafts
 pub mod Calls
 pub mod Ends
 pub mod Publishing
+pub mod Dues
 pub mod Halting

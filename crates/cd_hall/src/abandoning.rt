@@ -11,6 +11,7 @@ ghost use Rattle.cd_desk.specs.Closings.{IsClosing, MayClean};
 ghost use Rattle.cd_life.specs.Standing.{Stood};
 ghost use Rattle.cd_hall.specs.Calls.{IsPassOf, StaysCalm};
 ghost use Rattle.cd_hall.specs.Drafts.{IsDraftOf, held};
+ghost use Rattle.cd_hall.specs.Spread.{Spreads};
 ghost use Rattle.cd_hall.specs.Turned.{Makes};
 ghost use Rattle.cd_hall.specs.Turns.{InTurn};
 
@@ -31,6 +32,7 @@ impl<M: ModuleSet, F: Fixtures> Hall<M, F> {
         requires draft { IsDraftOf (view pass.old) draft }
         ensures pass { IsPassOf self.now pass.new }
         ensures abandons { Makes (view pass.old) (view pass.new) (λ s. Abandon (held draft).number ∷ ended_all (held draft).number (held draft).made (held draft).started) }
+        ensures spreads { Spreads (view pass.old) (view pass.new) (λ s. Abandon (held draft).number ∷ ended_all (held draft).number (held draft).made (held draft).started) }
         ensures duties { (view pass.new).duties ≡ (view pass.old).duties }
     {
         let mut turn = take_turn(rt, &self.gate, pass);

@@ -1,10 +1,11 @@
 //! The host is halted.
-ghost use Rattle.std.specs.Prelude.{◌≡◌, ◌≤◌, ◌+◌, ◌++◌, ◌∷◌, [], List, IfOk, OnErr, true, false};
+ghost use Rattle.std.specs.Prelude.{◌≡◌, ◌≤◌, ◌+◌, ◌++◌, ◌∷◌, ◌==◌, [], List, IfOk, OnErr, cond, true, false};
 ghost use Rattle.cd_legal.specs.declared.entry.Entry.TheVariants.{Halt};
 ghost use Rattle.cd_legal.specs.declared.entry.Signed.{Signed};
 ghost use Rattle.cd_legal.specs.declared.limits.TheConstants.{LAST_SERIAL};
 ghost use Rattle.cd_legal.specs.Legal.{state_at};
 ghost use Rattle.cd_legal.specs.Runs.{stopped_of};
+ghost use Rattle.cd_legal.specs.State.{open_at};
 ghost use Rattle.cd_legal.specs.Whole.{nothing_left};
 ghost use Rattle.cd_gate.specs.Growing.{noted_all};
 ghost use Rattle.cd_gate.specs.Knowing.{due_at};
@@ -12,7 +13,9 @@ ghost use Rattle.cd_gate.specs.Passes.{view};
 ghost use Rattle.cd_gate.specs.Steps.{noted};
 ghost use Rattle.cd_life.specs.Standing.{Stood};
 ghost use Rattle.cd_hall.specs.Calls.{IsPassOf, duties_in};
+ghost use Rattle.cd_hall.specs.Dues.{DueLater};
 ghost use Rattle.cd_hall.specs.Halting.{IsHalt};
+ghost use Rattle.cd_hall.specs.Spread.{Spread};
 ghost use Rattle.cd_hall.specs.Turned.{Turned, Makes};
 ghost use Rattle.cd_hall.specs.Turns.{InTurn};
 
@@ -44,6 +47,7 @@ impl<M: ModuleSet, F: Fixtures> Hall<M, F> {
         requires pass { IsPassOf self.now pass.old }
         ensures pass { IsPassOf self.now pass.new }
         ensures halts { IfOk result (λ duty. (found : List Signed) × Turned (view pass.old) (view pass.new) found (Halt ((state_at found).serial + 1) ∷ stopped_of (state_at found) (state_at found).serial) × ((state_at found).halted ≡ false) × (duties_in duty ≡ due_at (state_at (view pass.new).seen) (state_at found).serial) × ((view pass.new).duties ≡ (view pass.old).duties ++ duties_in duty)) }
+        ensures spreads { IfOk result (λ duty. (found : List Signed) × Spread (view pass.old) (view pass.new) found (Halt ((state_at found).serial + 1) ∷ stopped_of (state_at found) (state_at found).serial) × ((state_at found).halted ≡ false) × DueLater (view pass.new).seen (state_at found).serial (duties_in duty) × ((view pass.new).duties ≡ (view pass.old).duties ++ duties_in duty)) }
         ensures err { OnErr result (Makes (view pass.old) (view pass.new) (λ s. []) × ((state_at (view pass.new).seen).halted ≡ true) × ((view pass.new).duties ≡ (view pass.old).duties)) }
     {
         let mut turn = take_turn(rt, &self.gate, pass);
@@ -87,6 +91,7 @@ pub(crate) fn halt_in_turn<M: ModuleSet, F: Fixtures>(
     ensures turn { InTurn (Stood F.calls F.faults M.plan M.change) gate.now turn.new pass.new }
     ensures seen { view pass.new ≡ noted_all (view pass.old) (Halt ((state_at (view pass.old).seen).serial + 1) ∷ stopped_of (state_at (view pass.old).seen) (state_at (view pass.old).seen).serial) }
     ensures duty { duties_in result ≡ due_at (state_at (view pass.new).seen) (state_at (view pass.old).seen).serial }
+    ensures free { duties_in result ≡ cond (open_at (state_at (view pass.old).seen).serial (state_at (view pass.new).seen).tickets == 0) ((state_at (view pass.old).seen).serial ∷ []) [] }
     ensures duties { (view pass.new).duties ≡ (view pass.old).duties ++ duties_in result }
     ensures left { nothing_left (state_at (view pass.new).seen) ≡ true }
 {

@@ -2,8 +2,9 @@
 //! leaves the board so that it stands for what the pass has then seen.
 //!
 //! The board is that of `cd_life`, behind a gate of `cd_gate`. What a call has made is `Turned` of specs/Turned.antt: the history
-//! that it found begins with all that the pass had seen, and right after it stand the entries of the call. `InTurn` of
-//! specs/Turns.antt says what holds between two entries of one turn.
+//! that it found begins with all that the pass had seen, and right after it stand the entries of the call. Of calls with several
+//! entries the crates above cite `Spread` of specs/Spread.antt, by which others may stand between them. `InTurn` of
+//! specs/Turns.antt says what holds between two entries of one turn, and specs/Dues.antt which duty comes.
 //!
 //! Files: turns.rt takes a turn, adds entries in it, and leaves it, and names.rt says which entries are added; laws.rt says of a
 //! turn where its entries stand; beginning.rt makes a hall; requests.rt begins and ends requests, and tickets.rt reads their
@@ -38,4 +39,6 @@ pub use duty::Duty;
 pub use faults::{BeginFault, Halted, KeyFailed};
 pub use hall::{Hall, Ticket};
 pub use kept::Kept;
-pub use laws::{tickets_keep_their_configurations, turns_place_their_entries};
+pub use laws::{
+    tickets_keep_their_configurations, turns_place_their_entries, turns_spread_their_entries,
+};

@@ -1,7 +1,6 @@
 // Which entry is added, by what the call hands in.
 use cd_gate::Names;
-use cd_legal::Change;
-use cd_life::{Closing, Draft, Step};
+use cd_life::{Closing, Draft, Origin, Step};
 use cd_module_set::ModuleSet;
 use cd_outside::Key;
 use std::marker::PhantomData;
@@ -57,11 +56,12 @@ impl<M: ModuleSet> Names<(Snapshot<Draft<M>>, Snapshot<Result<Step, Key>>)> for 
 
 pub(crate) struct NamesPublish;
 
-impl Names<(u64, u32, Snapshot<Change>)> for NamesPublish {
+impl Names<(u64, u32, Snapshot<Origin>)> for NamesPublish {
     ghost use Rattle.std.specs.Prelude.{◌+◌};
     ghost use Rattle.cd_legal.specs.declared.entry.Entry.TheVariants.{Publish};
+    ghost use Rattle.cd_life.specs.Origins.{change_of};
 
-    ghost entry = { λ x. Publish x.0 (x.1 + 1) x.1 x.2.value };
+    ghost entry = { λ x. Publish x.0 (x.1 + 1) x.1 (change_of x.2.value) };
 }
 
 pub(crate) struct NamesAbandon;

@@ -11,11 +11,13 @@ ghost use Rattle.cd_gate.specs.Growing.{noted_all};
 ghost use Rattle.cd_gate.specs.Passes.{view};
 ghost use Rattle.cd_gate.specs.Steps.{noted};
 ghost use Rattle.cd_life.specs.Fits.{Suits};
+ghost use Rattle.cd_life.specs.Origins.{change_of};
 ghost use Rattle.cd_life.specs.Shares.{conf_in};
 ghost use Rattle.cd_life.specs.Standing.{Stood};
 ghost use Rattle.cd_hall.specs.Calls.{IsPassOf, StaysCalm};
 ghost use Rattle.cd_hall.specs.Drafts.{IsDraftOf, IsWholeDraft, held};
 ghost use Rattle.cd_hall.specs.Publishing.{refusal, refusal_in, draft_in};
+ghost use Rattle.cd_hall.specs.Spread.{Spread};
 ghost use Rattle.cd_hall.specs.Tickets.{IsTicketOf};
 ghost use Rattle.cd_hall.specs.Turned.{Turned, Makes};
 ghost use Rattle.cd_hall.specs.Turns.{InTurn};
@@ -26,8 +28,8 @@ use crate::names::NamesPublish;
 use crate::superseding::stop_superseded;
 use crate::turns::{add, leave_turn, take_turn};
 use cd_gate::{Gate, Pass, Turn};
-use cd_legal::{Change, LAST_SERIAL, MAX_UNRETIRED};
-use cd_life::{Board, Draft};
+use cd_legal::{LAST_SERIAL, MAX_UNRETIRED};
+use cd_life::{Board, Draft, Origin};
 use cd_module_set::ModuleSet;
 use cd_outside::Fixtures;
 use std::snapshot::Snapshot;
@@ -48,21 +50,22 @@ impl<M: ModuleSet, F: Fixtures> Hall<M, F> {
         rt: &R,
         draft: Draft<M>,
         ticket: &Ticket<M>,
-        change: Change,
+        origin: Origin,
         pass: &mut Pass<Board<M, F>>,
     ) -> Result<(), Kept<M>>
         requires pass { IsPassOf self.now pass.old }
         requires ticket { IsTicketOf (view pass.old) ticket.now }
         requires draft { IsDraftOf (view pass.old) draft }
         requires whole { IsWholeDraft (held draft) }
-        requires change { Suits M.change (conf_in ticket.now.share) change (held draft).tree }
+        requires change { Suits M.change (conf_in ticket.now.share) (change_of origin) (held draft).tree }
         ensures pass { IsPassOf self.now pass.new }
-        ensures publishes { IfOk result (λ _. (found : List Signed) × Turned (view pass.old) (view pass.new) found (Publish (held draft).number (ticket.now.serial + 1) ticket.now.serial change ∷ stopped_of (state_at found) ticket.now.serial) × (refusal (state_at found) ticket.now.serial ≡ None)) }
+        ensures publishes { IfOk result (λ _. (found : List Signed) × Turned (view pass.old) (view pass.new) found (Publish (held draft).number (ticket.now.serial + 1) ticket.now.serial (change_of origin) ∷ stopped_of (state_at found) ticket.now.serial) × (refusal (state_at found) ticket.now.serial ≡ None)) }
+        ensures spreads { IfOk result (λ _. (found : List Signed) × Spread (view pass.old) (view pass.new) found (Publish (held draft).number (ticket.now.serial + 1) ticket.now.serial (change_of origin) ∷ stopped_of (state_at found) ticket.now.serial) × (refusal (state_at found) ticket.now.serial ≡ None)) }
         ensures kept { IfErr result (λ kept. Makes (view pass.old) (view pass.new) (λ s. []) × (draft_in kept ≡ draft) × IsDraftOf (view pass.new) (draft_in kept) × (Some (refusal_in kept) ≡ refusal (state_at (view pass.new).seen) ticket.now.serial)) }
         ensures duties { (view pass.new).duties ≡ (view pass.old).duties }
     {
         let mut turn = take_turn(rt, &self.gate, pass);
-        let published = publish_in_turn(&self.gate, &mut turn, pass, draft, ticket.serial, change);
+        let published = publish_in_turn(&self.gate, &mut turn, pass, draft, ticket.serial, origin);
         leave_turn(&self.gate, turn, pass);
         published
     }
@@ -75,18 +78,18 @@ pub(crate) fn publish_in_turn<M: ModuleSet, F: Fixtures>(
     pass: &mut Pass<Board<M, F>>,
     draft: Draft<M>,
     serial: u32,
-    change: Change,
+    origin: Origin,
 ) -> Result<(), Kept<M>>
     requires turn { InTurn (Stood F.calls F.faults M.plan M.change) gate.now turn.old pass.old }
     requires draft { IsDraftOf (view pass.old) draft }
     requires whole { IsWholeDraft (held draft) }
     requires ticket { (view pass.old).ticket ≡ Some serial }
     requires there { serial ≤ (state_at (view pass.old).seen).serial }
-    requires change { Suits M.change (conf_of (state_at (view pass.old).seen) serial) change (held draft).tree }
+    requires change { Suits M.change (conf_of (state_at (view pass.old).seen) serial) (change_of origin) (held draft).tree }
     requires room { (state_at (view pass.old).seen).halted ≡ false → (state_at (view pass.old).seen).serial ≤ LAST_SERIAL }
     requires left { nothing_left (state_at (view pass.old).seen) ≡ true }
     ensures turn { InTurn (Stood F.calls F.faults M.plan M.change) gate.now turn.new pass.new }
-    ensures publishes { IfOk result (λ _. (view pass.new ≡ noted_all (view pass.old) (Publish draft.left.number (serial + 1) serial change ∷ stopped_of (state_at (view pass.old).seen) serial)) × (refusal (state_at (view pass.old).seen) serial ≡ None)) }
+    ensures publishes { IfOk result (λ _. (view pass.new ≡ noted_all (view pass.old) (Publish draft.left.number (serial + 1) serial (change_of origin) ∷ stopped_of (state_at (view pass.old).seen) serial)) × (refusal (state_at (view pass.old).seen) serial ≡ None)) }
     ensures number { (view pass.new).number ≡ (view pass.old).number }
     ensures kept { IfErr result (λ kept. (view pass.new ≡ view pass.old) × (draft_in kept ≡ draft) × (Some (refusal_in kept) ≡ refusal (state_at (view pass.old).seen) serial)) }
     ensures calm { StaysCalm (view pass.old) (view pass.new) }
@@ -101,7 +104,7 @@ pub(crate) fn publish_in_turn<M: ModuleSet, F: Fixtures>(
     if current == LAST_SERIAL {
         return Err(Kept::Exhausted(draft));
     }
-    publish_next(gate, turn, pass, draft, serial, change);
+    publish_next(gate, turn, pass, draft, serial, origin);
     Ok(())
 }
 
@@ -126,7 +129,7 @@ fn publish_next<M: ModuleSet, F: Fixtures>(
     pass: &mut Pass<Board<M, F>>,
     draft: Draft<M>,
     serial: u32,
-    change: Change,
+    origin: Origin,
 )
     requires turn { InTurn (Stood F.calls F.faults M.plan M.change) gate.now turn.old pass.old }
     requires draft { IsDraftOf (view pass.old) draft }
@@ -134,14 +137,14 @@ fn publish_next<M: ModuleSet, F: Fixtures>(
     requires ticket { (view pass.old).ticket ≡ Some serial }
     requires current { serial ≡ (state_at (view pass.old).seen).serial }
     requires running { (state_at (view pass.old).seen).halted ≡ false }
-    requires change { Suits M.change (conf_of (state_at (view pass.old).seen) serial) change (held draft).tree }
+    requires change { Suits M.change (conf_of (state_at (view pass.old).seen) serial) (change_of origin) (held draft).tree }
     requires room { (state_at (view pass.old).seen).serial < LAST_SERIAL }
     requires left { nothing_left (state_at (view pass.old).seen) ≡ true }
     ensures turn { InTurn (Stood F.calls F.faults M.plan M.change) gate.now turn.new pass.new }
-    ensures seen { view pass.new ≡ noted_all (view pass.old) (Publish draft.left.number (serial + 1) serial change ∷ stopped_of (state_at (view pass.old).seen) serial) }
+    ensures seen { view pass.new ≡ noted_all (view pass.old) (Publish draft.left.number (serial + 1) serial (change_of origin) ∷ stopped_of (state_at (view pass.old).seen) serial) }
     ensures calm { StaysCalm (view pass.old) (view pass.new) }
 {
-    note_publish(gate, turn, pass, draft, serial, change);
+    note_publish(gate, turn, pass, draft, serial, origin);
     stop_superseded(gate, turn, pass, serial);
 }
 
@@ -152,22 +155,22 @@ fn note_publish<M: ModuleSet, F: Fixtures>(
     pass: &mut Pass<Board<M, F>>,
     draft: Draft<M>,
     serial: u32,
-    change: Change,
+    origin: Origin,
 )
     requires turn { InTurn (Stood F.calls F.faults M.plan M.change) gate.now turn.old pass.old }
     requires draft { IsDraftOf (view pass.old) draft }
     requires whole { IsWholeDraft (held draft) }
     requires current { serial ≡ (state_at (view pass.old).seen).serial }
     requires running { (state_at (view pass.old).seen).halted ≡ false }
-    requires change { Suits M.change (conf_of (state_at (view pass.old).seen) serial) change (held draft).tree }
+    requires change { Suits M.change (conf_of (state_at (view pass.old).seen) serial) (change_of origin) (held draft).tree }
     requires room { (state_at (view pass.old).seen).serial < LAST_SERIAL }
     ensures turn { InTurn (Stood F.calls F.faults M.plan M.change) gate.now turn.new pass.new }
-    ensures seen { view pass.new ≡ noted (view pass.old) (Publish draft.left.number (serial + 1) serial change) }
+    ensures seen { view pass.new ≡ noted (view pass.old) (Publish draft.left.number (serial + 1) serial (change_of origin)) }
 {
     let drafted = draft.number();
-    let asked = Snapshot::of(&change);
-    turn.value.publish(draft, serial, change);
-    add::<Board<M, F>, (u64, u32, Snapshot<Change>), NamesPublish>(
+    let asked = Snapshot::of(&origin);
+    turn.value.publish(draft, serial, origin);
+    add::<Board<M, F>, (u64, u32, Snapshot<Origin>), NamesPublish>(
         gate,
         turn,
         pass,

@@ -6,6 +6,7 @@ ghost use Rattle.cd_legal.specs.declared.limits.TheConstants.{MAX_BEGINS};
 ghost use Rattle.cd_legal.specs.Begins.{begins_now};
 ghost use Rattle.cd_legal.specs.Entry.{entries};
 ghost use Rattle.cd_legal.specs.Legal.{state_at};
+ghost use Rattle.cd_legal.specs.Placed.{Placed};
 ghost use Rattle.cd_legal.specs.State.{open_at, ticket_of};
 ghost use Rattle.cd_legal.specs.Whole.{nothing_left};
 ghost use Rattle.cd_gate.specs.Knowing.{due_at};
@@ -14,7 +15,8 @@ ghost use Rattle.cd_gate.specs.Steps.{noted};
 ghost use Rattle.cd_life.specs.Standing.{Stood};
 ghost use Rattle.cd_hall.specs.declared.faults.BeginFault.TheVariants as fault;
 ghost use Rattle.cd_hall.specs.Calls.{IsPassOf, StaysCalm, duties_in};
-ghost use Rattle.cd_hall.specs.Tickets.{IsTicketOf};
+ghost use Rattle.cd_hall.specs.Dues.{DueThen};
+ghost use Rattle.cd_hall.specs.Tickets.{IsTicketOf, HasBegun};
 ghost use Rattle.cd_hall.specs.Turned.{Turned, Makes};
 ghost use Rattle.cd_hall.specs.Turns.{InTurn};
 
@@ -46,6 +48,7 @@ impl<M: ModuleSet, F: Fixtures> Hall<M, F> {
         ensures pass { IsPassOf self.now pass.new }
         ensures begins { IfOk result (λ ticket. (found : List Signed) × Turned (view pass.old) (view pass.new) found (Begin (view pass.old).number ticket.serial ∷ []) × (ticket.serial ≡ (state_at found).serial)) }
         ensures ticket { IfOk result (λ ticket. IsTicketOf (view pass.new) ticket) }
+        ensures begun { IfOk result (λ ticket. (begin : Placed) × HasBegun (view pass.old) (view pass.new) ticket begin) }
         ensures few { IfOk result (λ _. begins_now (entries (view pass.new).seen) ≤ MAX_BEGINS) }
         ensures err { OnErr result (Makes (view pass.old) (view pass.new) (λ s. [])) }
         ensures worn { result ≡ Err fault.Worn → MAX_BEGINS ≤ begins_now (entries (view pass.new).seen) }
@@ -115,6 +118,7 @@ impl<M: ModuleSet, F: Fixtures> Hall<M, F> {
         requires ticket { (view pass.old).ticket ≡ Some ticket.serial }
         ensures pass { IsPassOf self.now pass.new }
         ensures finishes { (found : List Signed) × Turned (view pass.old) (view pass.new) found (Finish (view pass.old).number ∷ []) × (ticket_of (view pass.old).number (state_at found).tickets ≡ Some ticket.serial) }
+        ensures due { (found : List Signed) → Turned (view pass.old) (view pass.new) found (Finish (view pass.old).number ∷ []) → DueThen (state_at found) ticket.serial (duties_in result) }
         ensures left { nothing_left (state_at (view pass.new).seen) ≡ true }
         ensures duty { duties_in result ≡ due_at (state_at (view pass.new).seen) ticket.serial }
         ensures duties { (view pass.new).duties ≡ (view pass.old).duties ++ duties_in result }

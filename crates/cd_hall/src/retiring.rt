@@ -11,6 +11,7 @@ ghost use Rattle.cd_gate.specs.Steps.{noted};
 ghost use Rattle.cd_life.specs.Standing.{Stood};
 ghost use Rattle.cd_hall.specs.Calls.{IsPassOf};
 ghost use Rattle.cd_hall.specs.Publishing.{without_number};
+ghost use Rattle.cd_hall.specs.Spread.{Spreads};
 ghost use Rattle.cd_hall.specs.Turned.{Makes};
 ghost use Rattle.cd_hall.specs.Turns.{InTurn};
 
@@ -32,6 +33,7 @@ impl<M: ModuleSet, F: Fixtures> Hall<M, F> {
         requires duty { has_number duty.serial (view pass.old).duties ≡ true }
         ensures pass { IsPassOf self.now pass.new }
         ensures retires { Makes (view pass.old) (view pass.new) (λ s. block_of s duty.serial) }
+        ensures spreads { Spreads (view pass.old) (view pass.new) (λ s. block_of s duty.serial) }
         ensures duties { (view pass.new).duties ≡ without_number duty.serial (view pass.old).duties }
     {
         let Duty { serial } = duty;

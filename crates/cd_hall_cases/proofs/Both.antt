@@ -35,8 +35,8 @@ module _ {A F B : Type 0} {g : _} (h : Hall A F B g) where
   }
     where
       each : (i : ℕ) (r : OfHall) → get_elem? (p ∷ q ∷ []) i ≡ some r → IsIdleOf h.gate r × ((view r).number ≡ i)
-      each zero r is = subst (λ (z : OfHall). IsIdleOf h.gate z × ((view z).number ≡ 0)) (some-injective p r is) (one.pass.0, one.number)
-      each (suc zero) r is = subst (λ (z : OfHall). IsIdleOf h.gate z × ((view z).number ≡ 1)) (some-injective q r is) (two.pass.0, two.number)
+      each zero r is = subst (λ (z : OfHall). IsIdleOf h.gate z × ((view z).number ≡ 0)) (some-injective p r is) (one.pass.idle, one.number)
+      each (suc zero) r is = subst (λ (z : OfHall). IsIdleOf h.gate z × ((view z).number ≡ 1)) (some-injective q r is) (two.pass.idle, two.number)
       each (suc (suc i)) r is = absurd (some-ne-none r (sym is))
 
   pub free_of : (p q : OfHall) → Has h p 0 None None [] → Has h q 1 None None [] → AreFree (p ∷ q ∷ [])

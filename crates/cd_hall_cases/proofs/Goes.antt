@@ -14,13 +14,12 @@ use Rattle.cd_legal.specs.State.{draft_of, has_number}
 use Rattle.cd_legal.proofs.Logs.{state-append}
 use Rattle.cd_gate.specs.declared.pass.Pass.{Pass}
 use Rattle.cd_gate.specs.declared.view.View.{View}
-use Rattle.cd_gate.specs.Growing.{owes_after}
+use Rattle.cd_gate.specs.Growing.{owes_after, Grows}
 use Rattle.cd_gate.specs.Passes.{view}
 use Rattle.cd_life.specs.declared.board.Board.{Board}
 use Rattle.cd_hall.specs.declared.hall.Hall.{Hall}
 use Rattle.cd_hall.specs.Calls.{IsPassOf}
 use Rattle.cd_hall.specs.Publishing.{without_number}
-use Rattle.cd_hall.specs.Turned.{Turned}
 use Rattle.cd_hall_cases.specs.Passes.{Has}
 
 abbrev pub owes : Option ℕ → Option ℕ → Owes
@@ -59,14 +58,14 @@ block-owes o s n = cleaned-for o s (draft_of n s.published)
 
 -- ---- the pass
 
-pub goes : {A F B : Type 0} {g : _} (h : Hall A F B g) (p q : Pass (Board A F B g)) (k : ℕ) (a b c d : Option ℕ) (ds es : List ℕ) (found : List Signed) (made : List Entry)
-    → Has h p k a b ds → IsPassOf h q → Turned (view p) (view q) found made → owes_after (owes a b) made ≡ owes c d → (view q).duties ≡ es → Has h q k c d es
-goes {A} {F} {B} {g} h p q k a b c d ds es found made was pass t leaves duties = record {
+pub goes : {A F B : Type 0} {g : _} (h : Hall A F B g) (p q : Pass (Board A F B g)) (k : ℕ) (a b c d : Option ℕ) (ds es : List ℕ) (made : List Entry)
+    → Has h p k a b ds → IsPassOf h q → Grows (view p) (view q) made → owes_after (owes a b) made ≡ owes c d → (view q).duties ≡ es → Has h q k c d es
+goes {A} {F} {B} {g} h p q k a b c d ds es made was pass t leaves duties = record {
   pass = pass;
-  number = ap (λ (z : View (Board A F B g)). z.number) t.grows.same ∙ was.number;
-  owes = t.grows.owes ∙ (ap (λ (o : Owes). owes_after o made) was.owes ∙ leaves);
+  number = ap (λ (z : View (Board A F B g)). z.number) t.same ∙ was.number;
+  owes = t.owes ∙ (ap (λ (o : Owes). owes_after o made) was.owes ∙ leaves);
   duties = duties;
-  root = λ first. (ap (λ (z : View (Board A F B g)). z.made) t.grows.same ∙ (was.root first).0, ap (λ (z : View (Board A F B g)). z.joined) t.grows.same ∙ (was.root first).1);
+  root = λ first. (ap (λ (z : View (Board A F B g)). z.made) t.same ∙ (was.root first).0, ap (λ (z : View (Board A F B g)). z.joined) t.same ∙ (was.root first).1);
 }
 
 -- it has the ticket and the draft that it owes the end of

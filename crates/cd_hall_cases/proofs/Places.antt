@@ -51,7 +51,7 @@ module _ {A F B : Type 0} {g : _} (h : Hall A F B g) where
   pub row_of : (qs ps : List OfHall) → AreDone qs ps → IsRowOf h.gate ps
   row_of qs ps done = record {
     some_pass = omega (arith, done.0, done.1);
-    each = λ i p at. let s = done_at qs ps done i p at in (s.has.pass.0, s.has.number);
+    each = λ i p at. let s = done_at qs ps done i p at in (s.has.pass.idle, s.has.number);
     root = λ p at. let s = done_at qs ps done 0 p at in ((s.has.root refl).0 ∙ sym (done.1 ∙ done.0), (s.has.root refl).1);
   }
 

@@ -3,6 +3,7 @@ ghost use Rattle.std.specs.Prelude.{◌≡◌, [], Some, None, IfOk, IfSome, OnE
 ghost use Rattle.cd_tree.specs.declared.tree.Tree.TheVariants.{Bool};
 ghost use Rattle.cd_gate.specs.Passes.{view};
 ghost use Rattle.cd_life.specs.Fits.{Suits};
+ghost use Rattle.cd_life.specs.Origins.{change_of};
 ghost use Rattle.cd_life.specs.Shares.{conf_in};
 ghost use Rattle.cd_hall.specs.Drafts.{IsDraftOf, IsWholeDraft, held};
 ghost use Rattle.cd_hall.specs.Publishing.{draft_in};
@@ -15,8 +16,7 @@ use crate::opening::open;
 use crate::requests::{begin, end};
 use cd_gate::Pass;
 use cd_hall::{Hall, Kept, Ticket, tickets_keep_their_configurations};
-use cd_legal::Change;
-use cd_life::{Board, Draft};
+use cd_life::{Board, Draft, Origin};
 use cd_outside::{Key, MemoryFixtures};
 use cd_text::NoMemory;
 use cd_wire::Request;
@@ -87,16 +87,16 @@ pub fn publish<R: Wait>(
     requires ticket { IsTicketOf (view pass.old) ticket.now }
     ensures { Has hall.now pass.new number (Some ticket.now.serial) None [] }
 {
-    let Ok(change) = change_after(alloc, ticket, wide) else {
+    let Ok(origin) = origin_after(alloc, ticket, wide) else {
         return Err(Refused::NoMemory);
     };
-    let Some(change) = change else {
+    let Some(origin) = origin else {
         return Err(Refused::Halted);
     };
     let Ok(draft) = draft(rt, alloc, hall, pass, ticket, wide, number) else {
         return Err(Refused::NoMemory);
     };
-    publish_draft(rt, hall, pass, ticket, draft, change, number)
+    publish_draft(rt, hall, pass, ticket, draft, origin, number)
 }
 
 // A draft of the wide configuration, or of the plain one.
@@ -135,19 +135,19 @@ fn publish_draft<R: Wait>(
     pass: &mut Pass<Board<Fixed, MemoryFixtures>>,
     ticket: &Ticket<Fixed>,
     draft: Draft<Fixed>,
-    change: Change,
+    origin: Origin,
     number: u32,
 ) -> Result<(), Refused>
     requires has { Has hall.now pass.old number (Some ticket.now.serial) (Some draft.left.number) [] }
     requires ticket { IsTicketOf (view pass.old) ticket.now }
     requires draft { IsDraftOf (view pass.old) draft }
     requires new { IsNew (held draft) (held draft).tree }
-    requires change { Suits fixed_change (conf_in ticket.now.share) change (held draft).tree }
+    requires change { Suits fixed_change (conf_in ticket.now.share) (change_of origin) (held draft).tree }
     ensures { Has hall.now pass.new number (Some ticket.now.serial) None [] }
 {
     let mut draft = draft;
     match open(rt, hall, pass, ticket, &mut draft, number) {
-        Ok(()) => publish_whole(rt, hall, pass, ticket, draft, change, number),
+        Ok(()) => publish_whole(rt, hall, pass, ticket, draft, origin, number),
         Err(key) => {
             give_up(rt, hall, pass, ticket, draft, number);
             Err(Refused::Closed(key))
@@ -186,17 +186,17 @@ fn publish_whole<R: Wait>(
     pass: &mut Pass<Board<Fixed, MemoryFixtures>>,
     ticket: &Ticket<Fixed>,
     draft: Draft<Fixed>,
-    change: Change,
+    origin: Origin,
     number: u32,
 ) -> Result<(), Refused>
     requires has { Has hall.now pass.old number (Some ticket.now.serial) (Some draft.left.number) [] }
     requires ticket { IsTicketOf (view pass.old) ticket.now }
     requires draft { IsDraftOf (view pass.old) draft }
     requires whole { IsWholeDraft (held draft) }
-    requires change { Suits fixed_change (conf_in ticket.now.share) change (held draft).tree }
+    requires change { Suits fixed_change (conf_in ticket.now.share) (change_of origin) (held draft).tree }
     ensures { Has hall.now pass.new number (Some ticket.now.serial) None [] }
 {
-    match hall.publish(rt, draft, ticket, change, pass) {
+    match hall.publish(rt, draft, ticket, origin, pass) {
         Ok(()) => Ok(()),
         Err(kept) => give_back(rt, hall, pass, ticket, kept, number),
     }
@@ -249,21 +249,22 @@ fn give_up<R: Wait>(
     hall.abandon(rt, draft, pass);
 }
 
-// By which change the wide configuration may follow that of the ticket, or the plain one: by none after the halt.
-fn change_after(
+// Where the wide configuration may come from after that of the ticket, or the plain one: from nowhere after the halt.
+fn origin_after(
     alloc: Global,
     ticket: &Ticket<Fixed>,
     wide: bool,
-) -> Result<Option<Change>, NoMemory>
-    ensures { IfOk result (λ change. IfSome change (λ change. Suits fixed_change (conf_in ticket.now.share) change (Bool wide))) }
+) -> Result<Option<Origin>, NoMemory>
+    ensures { IfOk result (λ found. IfSome found (λ origin. Suits fixed_change (conf_in ticket.now.share) (change_of origin) (Bool wide))) }
 {
     if ticket.compiled().running {
-        return Ok(Some(Change::Request(request(alloc, wide)?)));
+        let asked = request(alloc, wide)?;
+        return Ok(Some(Origin::of(&asked)));
     }
     if ticket.halted() {
         return Ok(None);
     }
-    Ok(Some(Change::First))
+    Ok(Some(Origin::First))
 }
 
 // A request for the wide configuration, or for the plain one.

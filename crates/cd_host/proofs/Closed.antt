@@ -19,9 +19,9 @@ use Rattle.cd_hall.specs.declared.hall.Hall.{Hall}
 use Rattle.cd_hall.specs.Calls.{IsPassOf}
 use Rattle.cd_hall.specs.Ends.{IsHalted, EndsAs}
 use Rattle.cd_serve.specs.Attempts.{Works}
-use Rattle.cd_serve.specs.Changes.{IsHalted as HasHaltedBy}
+use Rattle.cd_serve.specs.Changes.{IsHalting as HasHaltedBy}
 use Rattle.cd_host.specs.Hosting.{IsClosed}
-use Rattle.cd_host.specs.Joining.{HasHalted}
+use Rattle.cd_host.specs.OwnPass.{HasHalted}
 use Rattle.cd_host.specs.Seats.{AllFrom, IsIdleAt}
 use Rattle.cd_host.proofs.Halts.{halted-shows}
 use Rattle.cd_host.proofs.Rows.{all-of-row, row-of-all}
@@ -84,7 +84,7 @@ module _ {A F B : Type 0} {g : _} (h : Hall A F B g) (root : View (Board A F B g
     row-is : IsRowOf h.gate (p ∷ passes)
     row-is = record {
       some_pass = omega arith;
-      each = λ i q at. let one = idle-all i q at in (one.is.0, one.number);
+      each = λ i q at. let one = idle-all i q at in (one.is.idle, one.number);
       root = λ q at. root-is q (some-injective p q at);
     }
 

@@ -23,10 +23,11 @@ use Rattle.cd_hall.specs.declared.hall.Ticket.{Ticket}
 use Rattle.cd_hall.specs.Drafts.{Held, IsWholeDraft, new_held}
 use Rattle.cd_hall.specs.Publishing.{without_number}
 use Rattle.cd_hall.specs.Tickets.{IsTicketOf}
-use Rattle.cd_hall.specs.Turned.{Turned, Makes}
+use Rattle.cd_hall.specs.Spread.{Spread, Spreads}
+use Rattle.cd_hall.specs.Turned.{Turned}
 use Rattle.cd_serve.specs.Attempts.{HasMade, Opens, failed_held}
 use Rattle.cd_host.specs.declared.start_how.StartHow.TheVariants as how
-use Rattle.cd_host.specs.Joining.{HasSigned}
+use Rattle.cd_host.specs.OwnPass.{HasSigned}
 use Rattle.cd_host.specs.Starting.{IsTried, HasDrafted}
 use Rattle.cd_host.proofs.Beginning.{for-parts}
 use Rattle.cd_host.proofs.PartEntries.{is_part, Parts, stopped-parts, cleaned-parts, ended-parts}
@@ -47,20 +48,20 @@ parts-owe o [] all = refl
 parts-owe o (e ∷ es) all = ap (λ (q : Owes). owes_after q es) (part-owes o e all.0) ∙ parts-owe o es all.1
 
 module _ {T : Type 0} (v w : View T) (found : List Signed) where
-  owes-then : (e : Entry) (es : List Entry) → Parts es → Turned v w found (e ∷ es) → owed w ≡ owes_by (owed v) e
+  owes-then : (e : Entry) (es : List Entry) → Parts es → Spread v w found (e ∷ es) → owed w ≡ owes_by (owed v) e
   owes-then e es all t = t.grows.owes ∙ parts-owe (owes_by (owed v) e) es all
 
-  pub published-owes : (d n from m : ℕ) (c : Change) (s : State) → Turned v w found (Publish d n from c ∷ stopped_of s m) → (w.ticket ≡ v.ticket) × (w.draft ≡ None)
+  pub published-owes : (d n from m : ℕ) (c : Change) (s : State) → Spread v w found (Publish d n from c ∷ stopped_of s m) → (w.ticket ≡ v.ticket) × (w.draft ≡ None)
   published-owes d n from m c s t =
       let is = owes-then (Publish d n from c) (stopped_of s m) (for-parts (λ j. stopped_all j (started_in s j)) (λ j. stopped-parts j (started_in s j)) (draft_of m s.published)) t in
       (ap (λ (o : Owes). o.ticket) is, ap (λ (o : Owes). o.draft) is)
 
-  pub abandoned-owes : (d made started : ℕ) → Turned v w found (Abandon d ∷ ended_all d made started) → (w.ticket ≡ v.ticket) × (w.draft ≡ None)
+  pub abandoned-owes : (d made started : ℕ) → Spread v w found (Abandon d ∷ ended_all d made started) → (w.ticket ≡ v.ticket) × (w.draft ≡ None)
   abandoned-owes d made started t =
       let is = owes-then (Abandon d) (ended_all d made started) (ended-parts d made started) t in
       (ap (λ (o : Owes). o.ticket) is, ap (λ (o : Owes). o.draft) is)
 
-  pub retired-owes : (s : State) (n : ℕ) → Turned v w found (block_of s n) → (w.ticket ≡ v.ticket) × (w.draft ≡ v.draft)
+  pub retired-owes : (s : State) (n : ℕ) → Spread v w found (block_of s n) → (w.ticket ≡ v.ticket) × (w.draft ≡ v.draft)
   retired-owes s n t =
       let is = owes-then (Retire n) (cleaned_of s n) (for-parts (λ j. cleaned_all j (made_in s j)) (λ j. cleaned-parts j (made_in s j)) (draft_of n s.published)) t in
       (ap (λ (o : Owes). o.ticket) is, ap (λ (o : Owes). o.draft) is)
@@ -82,13 +83,15 @@ module _ {T : Type 0} (v w : View T) (found : List Signed) where
 pub ticket-at-zero : {T A B : Type 0} {g : _} (v w : View T) (t : Ticket A B g) → IsTicketOf v t → t.serial ≡ 0 → w.ticket ≡ v.ticket → IsTicketOf w t
 ticket-at-zero v w t is zero same = record {
   own = same ∙ is.own;
-  there = omega (arith, zero);
-  conf = is.conf ∙ ap (conf_of (state_at v.seen)) zero ∙ sym (ap (conf_of (state_at w.seen)) zero);
+  has = record {
+    there = omega (arith, zero);
+    conf = is.has.conf ∙ ap (conf_of (state_at v.seen)) zero ∙ sym (ap (conf_of (state_at w.seen)) zero);
+  };
 }
 
 -- the first configuration suits it, whatever its tree
 pub first-suits : {T A B : Type 0} {g : _} (makes : Tree → Request → _) (v : View T) (t : Ticket A B g) (tree : Tree) → IsTicketOf v t → t.serial ≡ 0 → Suits makes (conf_in t.share) change.First tree
-first-suits makes v t tree is zero = subst (λ (c : Conf). Suits makes c change.First tree) (sym (is.conf ∙ ap (conf_of (state_at v.seen)) zero)) tt
+first-suits makes v t tree is zero = subst (λ (c : Conf). Suits makes c change.First tree) (sym (is.has.conf ∙ ap (conf_of (state_at v.seen)) zero)) tt
 
 -- ---- the draft
 
@@ -118,7 +121,7 @@ module _ {T : Type 0} (tree : Tree) (plan : Plan) (serial d : ℕ) (v w x y : Vi
       drafted-in-vain tree plan serial v d w x y m.0 m.1 (signs entries (opened d plan) o (whole-plan entries opens.0))
       (subst (λ (n : ℕ). IsTried n false x y) (ap (λ (z : Held). z.number) opens.1 ∙ ap (λ (z : Held). z.number) is) tried)
 
-  pub has-refused : (key : Key) (entries : List Entry) → HasMade w x entries → Opens h g entries (Some key) → Makes x y (λ s. Abandon g.number ∷ ended_all g.number g.made g.started)
+  pub has-refused : (key : Key) (entries : List Entry) → HasMade w x entries → Opens h g entries (Some key) → Spreads x y (λ s. Abandon g.number ∷ ended_all g.number g.made g.started)
       → HasDrafted tree plan (how.FirstRefused key) serial v y
   has-refused key entries o opens gives =
       let f : Failure = opens.0 in

@@ -19,7 +19,7 @@ use Rattle.cd_legal.proofs.Placed.{placed-append}
 use Rattle.cd_legal.proofs.Serials.{retired-below}
 use Rattle.cd_gate.specs.declared.view.View.{View}
 use Rattle.cd_gate.specs.Growing.{all_signed, Places}
-use Rattle.cd_serve.specs.Changes.{IsHalted}
+use Rattle.cd_serve.specs.Changes.{IsHalting}
 use Rattle.cd_serve.proofs.Longer.{none-after}
 use Rattle.cd_host.specs.Program.{halt_entries}
 use Rattle.cd_host.proofs.PartEntries.{is_part, Parts, stopped-parts}
@@ -82,7 +82,7 @@ module _ {T : Type 0} (v w : View T) (work : List Placed) (log : List Signed) wh
   pub record Known : Type 0 where
     pub number : v.number ≡ 0
     pub places : Places v w work
-    pub halted : IsHalted work
+    pub halted : IsHalting work
     pub legal : IsLegal log
     pub within : IsPrefix w.seen log
     pub own : mine 0 log ≡ mine 0 v.seen ++ all_signed 0 (placed_entries work)
@@ -157,7 +157,7 @@ module _ {T : Type 0} (v w : View T) (work : List Placed) (log : List Signed) wh
     pub ended : (s.halted ≡ false) × (mine 0 log ≡ mine 0 v.seen ++ all_signed 0 (halt_entries s))
     ended = (running, h.own ∙ ap (λ (es : List Entry). mine 0 v.seen ++ all_signed 0 es) with-block)
 
-pub program-halts : {T : Type 0} (v w : View T) (work : List Placed) (log : List Signed) → v.number ≡ 0 → Places v w work → IsHalted work → IsLegal log → IsPrefix w.seen log → mine 0 log ≡ mine 0 v.seen ++ all_signed 0 (placed_entries work)
+pub program-halts : {T : Type 0} (v w : View T) (work : List Placed) (log : List Signed) → v.number ≡ 0 → Places v w work → IsHalting work → IsLegal log → IsPrefix w.seen log → mine 0 log ≡ mine 0 v.seen ++ all_signed 0 (placed_entries work)
     → ((k : ℕ) → 1 ≤ k → mine k log ≡ mine k v.seen) → all_retired (state_at log).serial (state_at log).retired ≡ true
     → ((state_at v.seen).halted ≡ false) × (mine 0 log ≡ mine 0 v.seen ++ all_signed 0 (halt_entries (state_at v.seen)))
 program-halts v w work log number places halted legal within own others retired =

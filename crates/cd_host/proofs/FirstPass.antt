@@ -11,7 +11,7 @@ use Rattle.cd_gate.specs.Passes.{view}
 use Rattle.cd_life.specs.declared.board.Board.{Board}
 use Rattle.cd_hall.specs.declared.hall.Hall.{Hall}
 use Rattle.cd_hall.specs.Ends.{ArePassesOf}
-use Rattle.cd_host.specs.Joining.{HasSigned}
+use Rattle.cd_host.specs.OwnPass.{HasSigned}
 use Rattle.cd_host.specs.Seats.{AllFrom, IsUnused}
 use Rattle.cd_host.proofs.Rows.{all-of-row}
 

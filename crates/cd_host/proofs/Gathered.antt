@@ -3,10 +3,9 @@ use Rattle.std.proofs.Common.{◌≡◌, ◌≤◌, ◌<◌, ◌⊎◌, inl, inr
 use Rattle.std.proofs.lemmas.Bool.Decides.{eqb_tells}
 use Rattle.std.proofs.lemmas.List.{append_assoc, append-nil, append_cancel_left, length-append, map-append}
 use mathlib.Core.List.{IsPrefix}
-use Rattle.cd_outside.specs.declared.accepted.Accepted.{Accepted}
-use Rattle.cd_outside.specs.declared.accepted.Accepted.TheVariants as accepted
 use Rattle.cd_outside.specs.declared.past.Past.{Past}
 use Rattle.cd_outside.specs.Telling.{TellsOn}
+use Rattle.std.specs.Prelude.{IfSome}
 use Rattle.cd_legal.specs.declared.entry.Entry.{Entry}
 use Rattle.cd_legal.specs.declared.entry.Signed.{Signed}
 use Rattle.cd_legal.specs.Entry.{entries, mine}
@@ -16,10 +15,10 @@ use Rattle.cd_legal.proofs.Logs.{prefix_trans, mine-append, entries-append}
 use Rattle.cd_legal.proofs.Placed.{placed-entries}
 use Rattle.cd_serve.specs.declared.lane_end.LaneHow.{LaneHow}
 use Rattle.cd_serve.specs.declared.lane_end.LaneHow.TheVariants as how
-use Rattle.cd_serve.specs.Joining.{Slot, SlotsFrom, lanes_of}
-use Rattle.cd_serve.specs.Lanes.{IsOver, IsServed}
+use Rattle.cd_serve.specs.Reports.{ServedLane, ServedLanesFrom, lanes_of}
+use Rattle.cd_serve.specs.Lanes.{IsLaneEnd, IsServed}
 use Rattle.cd_serve.specs.Meanings.{Meaning}
-use Rattle.cd_host.specs.Lanes.{IsAtEnd, AreAtEnd, IsLane, LanesFrom}
+use Rattle.cd_host.specs.ServedLanes.{EndsAccepting, AreAtEnd, IsLane, LanesFrom}
 use Rattle.cd_host.specs.Parts.{IsSignedByLanes}
 use Rattle.cd_host.proofs.Signing.{none-left, none-right, entries-all, entries-none}
 use Rattle.cd_host.proofs.Halts.{halted-stays}
@@ -41,7 +40,7 @@ last-empty xs ys (z ∷ zs) is =
     let two = length-append xs ys in
     absurd (omega arith)
 
-record Alone (start found history : List Signed) (k : ℕ) (s : Slot) : Type 0 where
+record Alone (start found history : List Signed) (k : ℕ) (s : ServedLane) : Type 0 where
   unused : mine k s.seen_before ≡ []
   all_seen : mine k history ≡ mine k s.seen_now
   start_free : mine k start ≡ []
@@ -49,7 +48,7 @@ record Alone (start found history : List Signed) (k : ℕ) (s : Slot) : Type 0 w
 
 module _ (m : Meaning) (start found history : List Signed) where
   -- the pass of a lane has made its entries there alone
-  alone : (k : ℕ) (s : Slot) → IsPrefix found history → IsLane m start found history k s → Alone start found history k s
+  alone : (k : ℕ) (s : ServedLane) → IsPrefix found history → IsLane m start found history k s → Alone start found history k s
   alone k s q l =
       let before : List Placed = placed k s.seen_before in
       let own : List Entry = placed_entries l.own in
@@ -76,7 +75,7 @@ module _ (m : Meaning) (start found history : List Signed) where
           let same : rest ++ behind ≡ more = append_cancel_left s.seen_now (rest ++ behind) more (one ∙ sym two) in
           none-right (mine k rest) (mine k behind) (sym (mine-append k rest behind) ∙ ap (mine k) same ∙ none)
 
-  pub slots-of : (k : ℕ) (ss : List Slot) → IsPrefix found history → LanesFrom m start found history k ss → SlotsFrom m history k ss
+  pub slots-of : (k : ℕ) (ss : List ServedLane) → IsPrefix found history → LanesFrom m start found history k ss → ServedLanesFrom m history k ss
   slots-of k [] q all = tt
   slots-of k (s ∷ ss) q all =
       let l = all.0 in
@@ -98,13 +97,13 @@ module _ (m : Meaning) (start found history : List Signed) where
   abbrev Apart : ℕ → Type 0
   Apart j = (mine j start ≡ []) × (mine j history ≡ mine j found)
 
-  apart-one : (k : ℕ) (s : Slot) → IsPrefix found history → IsLane m start found history k s → Apart k
+  apart-one : (k : ℕ) (s : ServedLane) → IsPrefix found history → IsLane m start found history k s → Apart k
   apart-one k s q l = let a : Alone start found history k s = alone k s q l in (a.start_free, a.all_found)
 
   next-one : (k j : ℕ) → k ≤ j → ¬ (j ≡ k) → k + 1 ≤ j
   next-one k j low ne = grind arith
 
-  apart-each : (k : ℕ) (ss : List Slot) → IsPrefix found history → LanesFrom m start found history k ss → (j : ℕ) → k ≤ j → j < k + length ss → Apart j
+  apart-each : (k : ℕ) (ss : List ServedLane) → IsPrefix found history → LanesFrom m start found history k ss → (j : ℕ) → k ≤ j → j < k + length ss → Apart j
   apart-each k [] q all j low high = absurd (omega arith)
   apart-each k (s ∷ ss) q all j low high = ⊎_elim
       (λ e. subst Apart (sym e.1) (apart-one k s q all.0))
@@ -117,7 +116,7 @@ module _ (m : Meaning) (start found history : List Signed) where
   beyond : (j lanes : ℕ) → (j < lanes + 1) ⊎ (lanes < j)
   beyond j lanes = grind arith
 
-  pub apart-all : (ss : List Slot) → IsPrefix start found → IsPrefix found history → LanesFrom m start found history 1 ss → IsSignedByLanes (length ss) history → (j : ℕ) → 1 ≤ j → (mine j start ≡ []) × (mine j history ≡ mine j found)
+  pub apart-all : (ss : List ServedLane) → IsPrefix start found → IsPrefix found history → LanesFrom m start found history 1 ss → IsSignedByLanes (length ss) history → (j : ℕ) → 1 ≤ j → (mine j start ≡ []) × (mine j history ≡ mine j found)
   apart-all ss p q all signed j low = ⊎_elim
       (λ within. apart-each 1 ss q all j low (omega (arith, within)))
       (λ past. let none = signed j past in (none-within j start (prefix_trans start found history p q) none, none ∙ sym (none-within j found q none)))
@@ -125,19 +124,19 @@ module _ (m : Meaning) (start found history : List Signed) where
 
   -- ---- how they ended
 
-  over-at : (h : LaneHow) (last : Option Accepted) (seen : List Signed) → (h ≡ how.Halted → (state_at seen).halted ≡ true) → IsPrefix seen found → (state_at found).halted ≡ false → IsOver h last
-      → (last ≡ Some accepted.Ended) ⊎ (last ≡ Some accepted.Failed)
-  over-at how.Ended last seen halted p running is = inl is
-  over-at how.AcceptFault last seen halted p running is = inr is
-  over-at how.Halted last seen halted p running is = absurd (let e : true ≡ false = sym (halted-stays seen found p (halted refl)) ∙ running in cc)
+  over-at : (h : LaneHow) (before now : ℕ) (p past : Past) (seen : List Signed) → (h ≡ how.Halted → (state_at seen).halted ≡ true) → IsPrefix seen found → (state_at found).halted ≡ false
+      → IsLaneEnd h before now p past → EndsAccepting before now past
+  over-at how.Ended before now p past seen halted within running is = inl is.0
+  over-at how.AcceptFault before now p past seen halted within running is = inr (is.0, is.2)
+  over-at how.Halted before now p past seen halted within running is = absurd (let e : true ≡ false = sym (halted-stays seen found within (halted refl)) ∙ running in cc)
 
-  at-end-of : (k : ℕ) (s : Slot) (old new : Option Past) → IsLane m start found history k s → (own : List Placed) → (state_at found).halted ≡ false
-      → TellsOn (IsServed m k s.seen_now own s.lane.failed_before s.lane.failed_now s.end) old new → IsAtEnd new
+  at-end-of : (k : ℕ) (s : ServedLane) (old new : Option Past) → IsLane m start found history k s → (own : List Placed) → (state_at found).halted ≡ false
+      → TellsOn (IsServed m k s.seen_now own s.lane.failed_before s.lane.failed_now s.end) old new → IfSome new (EndsAccepting s.lane.failed_before s.lane.failed_now)
   at-end-of k s None None l own running told = tt
-  at-end-of k s (Some p) (Some past) l own running told = over-at s.end.how past.last s.seen_now l.halted l.over running told.over
+  at-end-of k s (Some p) (Some past) l own running told = over-at s.end.how s.lane.failed_before s.lane.failed_now p past s.seen_now l.halted l.over running told.over
   at-end-of k s (Some p) None l own running told = absurd told
   at-end-of k s None (Some past) l own running told = absurd told
 
-  pub all-at-end : (k : ℕ) (ss : List Slot) → LanesFrom m start found history k ss → (state_at found).halted ≡ false → AreAtEnd (lanes_of ss)
+  pub all-at-end : (k : ℕ) (ss : List ServedLane) → LanesFrom m start found history k ss → (state_at found).halted ≡ false → AreAtEnd (lanes_of ss)
   all-at-end k [] all running = tt
   all-at-end k (s ∷ ss) all running = (at-end-of k s s.lane.told_before s.lane.told_now all.0 all.0.own running all.0.served, all-at-end (k + 1) ss all.1 running)

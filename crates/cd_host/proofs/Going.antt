@@ -14,7 +14,7 @@ use Rattle.cd_gate.specs.declared.view.View.{View}
 use Rattle.cd_gate.specs.Growing.{all_signed}
 use Rattle.cd_gate.proofs.Grown.{places_both}
 use Rattle.cd_host.specs.Parts.{IsAlone}
-use Rattle.cd_host.specs.Joining.{HasSigned}
+use Rattle.cd_host.specs.OwnPass.{HasSigned}
 use Rattle.cd_host.proofs.Signing.{none-left, none-right, own-alone, mine-length}
 
 pub alone-front : (front log : List Signed) → IsPrefix front log → IsAlone log → IsAlone front

@@ -11,11 +11,11 @@ use Rattle.cd_gate.specs.Passes.{view}
 use Rattle.cd_gate.proofs.Longer.{prefix_self}
 use Rattle.cd_life.specs.declared.board.Board.{Board}
 use Rattle.cd_hall.specs.declared.hall.Hall.{Hall}
-use Rattle.cd_serve.specs.Joining.{Span, LanesTold, lanes_of}
+use Rattle.cd_serve.specs.Reports.{Span, LanesTold, lanes_of}
 use Rattle.cd_serve.specs.Meanings.{Meaning}
 use Rattle.cd_serve.proofs.Joined.{lanes-told}
 use Rattle.cd_host.specs.Gone.{AreGone}
-use Rattle.cd_host.specs.Lanes.{AreAtEnd, AreUntouched}
+use Rattle.cd_host.specs.ServedLanes.{AreAtEnd, AreUntouched}
 use Rattle.cd_host.specs.Parts.{IsAlone, IsSignedByLanes}
 use Rattle.cd_host.specs.Seats.{AllFrom, IsIdleAt, IsUnused}
 use Rattle.cd_host.specs.Seated.{AreServed, spans}

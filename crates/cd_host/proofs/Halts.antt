@@ -16,10 +16,10 @@ use Rattle.cd_legal.proofs.Logs.{state-append}
 use Rattle.cd_legal.proofs.Placed.{placed-entries}
 use Rattle.cd_gate.specs.declared.view.View.{View}
 use Rattle.cd_gate.specs.Growing.{Places}
-use Rattle.cd_serve.specs.Changes.{IsHalted}
+use Rattle.cd_serve.specs.Changes.{IsHalting}
 use Rattle.cd_serve.specs.Episodes.{is_halt, another_halted}
 use Rattle.cd_serve.proofs.Halts.{halted-by-another}
-use Rattle.cd_host.specs.Joining.{HasHalted}
+use Rattle.cd_host.specs.OwnPass.{HasHalted}
 
 halted-after : (s : State) (e : Entry) → s.halted ≡ true → (after s e).halted ≡ true
 halted-after s (Halt n) is = refl
@@ -80,7 +80,7 @@ own-halt k s (x ∷ xs) is = either-way (is_halt x.entry) (list_any is_halt (ent
 
 module _ {T : Type 0} where
   -- a pass that has halted has seen the halt
-  halt-shows : (v w : View T) (work : List Placed) → Places v w work → IsHalted work → (state_at w.seen).halted ≡ true
+  halt-shows : (v w : View T) (work : List Placed) → Places v w work → IsHalting work → (state_at w.seen).halted ≡ true
   halt-shows v w work p h =
       let k : ℕ = v.number in
       let all : entries (mine k w.seen) ≡ entries (mine k v.seen) ++ placed_entries work =

@@ -14,9 +14,9 @@ use Rattle.cd_legal.proofs.Logs.{prefix_trans, mine-append, entries-append}
 use Rattle.cd_legal.proofs.Placed.{placed-entries}
 use Rattle.cd_gate.specs.declared.view.View.{View}
 use Rattle.cd_gate.specs.Growing.{all_signed, Places}
-use Rattle.cd_serve.specs.Changes.{IsHalted}
+use Rattle.cd_serve.specs.Changes.{IsHalting}
 use Rattle.cd_serve.specs.Episodes.{is_halt, another_halted}
-use Rattle.cd_host.specs.Joining.{IsJoined, AreBetween}
+use Rattle.cd_host.specs.OwnPass.{IsJoined, AreBetween}
 use Rattle.cd_host.specs.Parts.{HasParts, IsAlone}
 use Rattle.cd_host.specs.Program.{Start, start_entries, halt_entries}
 use Rattle.cd_host.proofs.Ending.{program-halts}
@@ -82,11 +82,11 @@ module _ {T : Type 0} (first : Tree) (plan : Plan) (start : Start) (v w y z : Vi
     others k pos = (between k pos).1
 
     -- it halted a host that ran, and its entries end the history
-    halts-then : (work : List Placed) → Places y z work → IsHalted work → ((state_at y.seen).halted ≡ false) × (mine 0 log ≡ mine 0 y.seen ++ all_signed 0 (halt_entries (state_at y.seen)))
+    halts-then : (work : List Placed) → Places y z work → IsHalting work → ((state_at y.seen).halted ≡ false) × (mine 0 log ≡ mine 0 y.seen ++ all_signed 0 (halt_entries (state_at y.seen)))
     halts-then work p h =
         program-halts y z work log y-number p h j.legal j.seen (log-own work p ∙ ap (λ (l : List Signed). l ++ all_signed 0 (placed_entries work)) (sym (y-own work p))) others j.retired
 
-    halts-itself : (work : List Placed) → Places y z work → IsHalted work → HasParts first plan start log
+    halts-itself : (work : List Placed) → Places y z work → IsHalting work → HasParts first plan start log
     halts-itself work p h =
         let end = halts-then work p h in
         parted-by-halt first plan start y.seen log y-begun (prefix_trans y.seen z.seen log p.seen j.seen) end.0 (y-own work p) end.1 others
@@ -102,7 +102,7 @@ module _ {T : Type 0} (first : Tree) (plan : Plan) (start : Start) (v w y z : Vi
     pub joined-running : another_halted 0 log ≡ false → (state_at y.seen).halted ≡ false
     joined-running nobody = ⊎_elim (λ own. runs own.0 own.1 own.2) (λ other. absurd (let f : true ≡ false = sym (by-lane other.0 other.1) ∙ nobody in cc)) j.halts
       where
-        runs : (work : List Placed) → Places y z work → IsHalted work → (state_at y.seen).halted ≡ false
+        runs : (work : List Placed) → Places y z work → IsHalting work → (state_at y.seen).halted ≡ false
         runs work p h = (halts-then work p h).0
 
         by-lane : Places y z [] → (state_at z.seen).halted ≡ true → another_halted 0 log ≡ true

@@ -1,10 +1,12 @@
 mod Examples
+mod RunExamples
 mod Signing
 mod Halts
 mod PartEntries
 mod Parted
 mod Gathered
 mod Untouched
+mod Unfailing
 mod Alike
 mod Beginning
 mod Ending

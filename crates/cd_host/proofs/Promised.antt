@@ -23,7 +23,7 @@ use Rattle.cd_gate.specs.declared.pass.Pass.{Pass}
 use Rattle.cd_gate.specs.declared.view.View.{View}
 use Rattle.cd_gate.specs.Growing.{all_signed}
 use Rattle.cd_gate.specs.Passes.{view}
-use Rattle.cd_serve.specs.Joining.{Span}
+use Rattle.cd_serve.specs.Reports.{Span}
 use Rattle.cd_serve.specs.Episodes.{another_halted}
 use Rattle.cd_serve.specs.Meanings.{Meaning}
 use Rattle.cd_host.specs.declared.host_end.HostHow.{HostHow}
@@ -32,10 +32,10 @@ use Rattle.cd_host.specs.declared.start_how.StartHow.{StartHow}
 use Rattle.cd_host.specs.declared.start_how.StartHow.TheVariants as start_how
 use Rattle.cd_host.specs.Gone.{MayFollow, HaveCome, AreGone}
 use Rattle.cd_host.specs.Hosting.{IsClosed, is_served}
-use Rattle.cd_host.specs.Joining.{HasSigned, IsJoined}
+use Rattle.cd_host.specs.OwnPass.{HasSigned, IsJoined}
 use Rattle.cd_host.specs.Parts.{HasParts, IsAlone}
 use Rattle.cd_host.specs.Program.{Start, start_entries}
-use Rattle.cd_host.specs.Runs.{Given, Ran, Promises}
+use Rattle.cd_host.specs.Runs.{Observed, Ran, Promises}
 use Rattle.cd_host.specs.Starting.{IsHow}
 use Rattle.cd_host.proofs.Alike.{all-alike}
 use Rattle.cd_host.proofs.Beginning.{begins-with, refused-failed}
@@ -67,7 +67,7 @@ decided-fit plan makes log same all = all-alike plan makes (λ tree request. new
 
 -- ---- the run
 
-module _ {T : Type 0} (m : Meaning) (first : Tree) (plan : Plan) (served : Bool) (given : Given) (v w y : View T) (passes : List (Pass T)) (log : List Signed) where
+module _ {T : Type 0} (m : Meaning) (first : Tree) (plan : Plan) (served : Bool) (given : Observed) (v w y : View T) (passes : List (Pass T)) (log : List Signed) where
   -- what the calls of a run tell, from the program's new pass on
   pub record Known : Type 0 where
     pub number : v.number ≡ 0
@@ -145,12 +145,12 @@ module _ {T : Type 0} (m : Meaning) (first : Tree) (plan : Plan) (served : Bool)
 
 -- ---- by how it ended
 
--- a mishap that is covered made the count rise
+-- a interruption that is covered made the count rise
 below-end : (n : ℕ) → (n < count_end) ⊎ (count_end ≤ n)
 below-end n = grind arith
 
-rose : (mishaps before now : ℕ) → 1 ≤ mishaps → Covers mishaps before now 0 → Rose before now
-rose mishaps before now some_failed covers = ⊎_elim (λ low. let c = covers low (omega arith) in omega (arith, c, some_failed)) (λ high. omega (arith, high)) (below-end now)
+rose : (interruptions before now : ℕ) → 1 ≤ interruptions → Covers interruptions before now 0 → Rose before now
+rose interruptions before now some_failed covers = ⊎_elim (λ low. let c = covers low (omega arith) in omega (arith, c, some_failed)) (λ high. omega (arith, high)) (below-end now)
 
 -- which start goes with which end
 pub goes-with : (h : StartHow) (start : Start) (ended : HostHow) → IsHow h start → MayFollow h ended → (start ≡ Start.published) ⊎ (is_served ended ≡ false)
@@ -158,7 +158,7 @@ goes-with start_how.Published start ended is follows = inl is
 goes-with (start_how.FirstRefused key) start ended is follows = inr (ap is_served follows)
 goes-with start_how.NoMemory start ended is follows = inr (ap is_served follows)
 
-module _ (m : Meaning) (first : Tree) (given : Given) where
+module _ (m : Meaning) (first : Tree) (given : Observed) where
   -- what was run is what is promised of such an end
   pub promised : (h : StartHow) (start : Start) (ended : HostHow) → IsHow h start → MayFollow h ended → Ran m first start (is_served ended) given → Promises m first ended given
   promised start_how.Published start ended is follows ran = ⊎_elim

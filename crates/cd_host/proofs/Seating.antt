@@ -19,9 +19,9 @@ use Rattle.cd_hall.specs.declared.hall.Hall.{Hall}
 use Rattle.cd_hall.specs.Calls.{IsPassOf}
 use Rattle.cd_serve.specs.Meanings.{Meaning}
 use Rattle.cd_serve.specs.Lanes.{IsServed}
-use Rattle.cd_serve.specs.Joining.{Span, Slot as Served, lanes_of}
+use Rattle.cd_serve.specs.Reports.{Span, ServedLane as Served, lanes_of}
 use Rattle.cd_host.specs.declared.slot.Slot.{Slot}
-use Rattle.cd_host.specs.Lanes.{IsLane, LanesFrom}
+use Rattle.cd_host.specs.ServedLanes.{IsLane, LanesFrom}
 use Rattle.cd_host.specs.Seats.{AllFrom, IsIdleAt, IsReady, IsWithin}
 use Rattle.cd_host.specs.Seated.{span_of, spans, IsServedSlot, HaveTheirs, AreServed}
 

@@ -1,5 +1,5 @@
 -- The start of the program, step by step.
-use Rattle.std.proofs.Common.{◌≡◌, inl, inr, ℕ, ◌+◌, ◌&&◌, nat_lt, Bool, true, false, cond, List, [], ◌∷◌, ◌++◌, length, Option, Some, None, refl, ap, sym, ◌∙◌}
+use Rattle.std.proofs.Common.{◌≡◌, inl, inr, ℕ, ◌+◌, ◌==◌, ◌&&◌, nat_lt, Bool, true, false, cond, List, [], ◌∷◌, ◌++◌, length, Option, Some, None, refl, ap, sym, ◌∙◌, subst}
 use Rattle.std.proofs.lemmas.List.{append-nil, append_assoc}
 use Rattle.cd_outside.specs.declared.key.Key.{Key}
 use Rattle.cd_tree.specs.declared.tree.Tree.{Tree}
@@ -11,50 +11,51 @@ use Rattle.cd_legal.specs.declared.entry.Signed.{Signed}
 use Rattle.cd_legal.specs.declared.state.State.{State}
 use Rattle.cd_legal.specs.declared.state.OpenTicket.{OpenTicket}
 use Rattle.cd_legal.specs.Entry.{entries}
-use Rattle.cd_legal.specs.Legal.{allowed, after, legal_from, state_from, state_of, state_at, may_retire}
+use Rattle.cd_legal.specs.Legal.{allowed, after, legal_from, state_from, state_of, state_at}
 use Rattle.cd_legal.specs.Signing.{IsHistory}
 use Rattle.cd_legal.specs.Runs.{Failure, opened, opened_until, ended_all, undone_after, stopped_of, block_of}
-use Rattle.cd_legal.specs.State.{opening_state}
+use Rattle.cd_legal.specs.State.{opening_state, open_at}
 use Rattle.cd_legal.proofs.Facts.{can}
 use Rattle.cd_legal.proofs.Histories.{first as one-holds, state_from-append}
 use Rattle.cd_legal.proofs.Logs.{legal-back, state-append}
 use Rattle.cd_gate.specs.declared.view.View.{View}
 use Rattle.cd_gate.specs.Growing.{all_signed}
-use Rattle.cd_gate.specs.Knowing.{due_at}
 use Rattle.cd_hall.specs.Publishing.{Refusal, refusal}
+use Rattle.cd_hall.specs.Dues.{is_last_at, is_before_halt, DueBy, DueThen}
+use Rattle.cd_hall.specs.Spread.{Spread}
 use Rattle.cd_hall.specs.Turned.{Turned}
 use Rattle.cd_host.specs.declared.start_how.StartHow.{StartHow}
 use Rattle.cd_host.specs.declared.start_how.StartHow.TheVariants as how
-use Rattle.cd_host.specs.Joining.{HasSigned}
+use Rattle.cd_host.specs.OwnPass.{HasSigned}
 use Rattle.cd_host.specs.Parts.{IsAlone}
 use Rattle.cd_host.specs.Program.{Start, start_entries}
 use Rattle.cd_host.specs.Starting.{IsDrafted, IsHow, first_entries, IsTried, HasDrafted, HasFinished, HasStarted}
 use Rattle.cd_host.proofs.Going.{alone-front, signs-none, signs-both, number-stays, seen-alone}
 use Rattle.cd_host.proofs.PartEntries.{is_part, Parts, opened-parts, until-parts, undone-parts}
 use Rattle.cd_host.proofs.Signing.{entries-all}
-use Rattle.cd_host.proofs.Turning.{signs-turned, found-alone}
+use Rattle.cd_host.proofs.Turning.{signs-turned, found-alone, signs-spread}
 
 -- ---- states
 
--- what is made, started, stopped and cleaned leaves the serial, the tickets, and what is retired
+-- what is made, started, stopped and cleaned leaves the serial and the tickets, and halts nothing
 record Keeps (s t : State) : Type 0 where
   serial : t.serial ≡ s.serial
   tickets : t.tickets ≡ s.tickets
-  retired : t.retired ≡ s.retired
+  halted : t.halted ≡ s.halted
 
 part-keeps : (s : State) (e : Entry) → is_part e ≡ true → Keeps s (after s e)
-part-keeps s (Made d i taken failed) is = record { serial = refl; tickets = refl; retired = refl }
-part-keeps s (Started d a taken failed) is = record { serial = refl; tickets = refl; retired = refl }
-part-keeps s (Stopped d a) is = record { serial = refl; tickets = refl; retired = refl }
-part-keeps s (Cleaned d i) is = record { serial = refl; tickets = refl; retired = refl }
+part-keeps s (Made d i taken failed) is = record { serial = refl; tickets = refl; halted = refl }
+part-keeps s (Started d a taken failed) is = record { serial = refl; tickets = refl; halted = refl }
+part-keeps s (Stopped d a) is = record { serial = refl; tickets = refl; halted = refl }
+part-keeps s (Cleaned d i) is = record { serial = refl; tickets = refl; halted = refl }
 part-keeps s e is = absurd (let f : false ≡ true = is in cc)
 
 parts-keep : (s : State) (es : List Entry) → Parts es → Keeps s (state_from s es)
-parts-keep s [] all = record { serial = refl; tickets = refl; retired = refl }
+parts-keep s [] all = record { serial = refl; tickets = refl; halted = refl }
 parts-keep s (e ∷ es) all =
     let one : Keeps s (after s e) = part-keeps s e all.0 in
     let more : Keeps (after s e) (state_from (after s e) es) = parts-keep (after s e) es all.1 in
-    record { serial = more.serial ∙ one.serial; tickets = more.tickets ∙ one.tickets; retired = more.retired ∙ one.retired }
+    record { serial = more.serial ∙ one.serial; tickets = more.tickets ∙ one.tickets; halted = more.halted ∙ one.halted }
 
 -- nothing is refused while serial 0 is current
 unrefused : (s : State) → s.serial ≡ 0 → refusal s 0 ≡ None
@@ -72,17 +73,17 @@ some-none : (r : Refusal) (o : Option Refusal) → Some r ≡ o → o ≡ None �
 some-none r o is none = absurd (let e : Some r ≡ None = is ∙ none in cc)
 
 module _ {T : Type 0} where
-  pub tried-published : (d serial : ℕ) (v w : View T) (found : List Signed) → serial ≡ 0 → Turned v w found (Publish d (serial + 1) serial change.First ∷ stopped_of (state_at found) serial) → IsTried d true v w
+  pub tried-published : (d serial : ℕ) (v w : View T) (found : List Signed) → serial ≡ 0 → Spread v w found (Publish d (serial + 1) serial change.First ∷ stopped_of (state_at found) serial) → IsTried d true v w
   tried-published d serial v w found zero t = record {
     made = Publish d (serial + 1) serial change.First ∷ stopped_of (state_at found) serial;
-    signed = signs-turned v w found _ t;
+    signed = signs-spread v w found _ t;
     alone = λ number alone state. (refl, ap (λ (n : ℕ). Publish d (n + 1) n change.First ∷ stopped_of (state_at found) n) zero);
   }
 
-  pub tried-in-vain : (d serial : ℕ) (r : Refusal) (v w x : View T) (found then : List Signed) (more : List Entry) → serial ≡ 0 → Turned v w found [] → Some r ≡ refusal (state_at w.seen) serial → Turned w x then more → IsTried d false v x
+  pub tried-in-vain : (d serial : ℕ) (r : Refusal) (v w x : View T) (found then : List Signed) (more : List Entry) → serial ≡ 0 → Turned v w found [] → Some r ≡ refusal (state_at w.seen) serial → Spread w x then more → IsTried d false v x
   tried-in-vain d serial r v w x found then more zero t why u = record {
     made = [] ++ more;
-    signed = signs-both v w x [] more (signs-turned v w found [] t) (signs-turned w x then more u);
+    signed = signs-both v w x [] more (signs-turned v w found [] t) (signs-spread w x then more u);
     alone = λ number alone state.
         let own : found ≡ v.seen = found-alone v w found [] t number (alone-front w.seen x.seen u.grows.seen alone) in
         let seen : w.seen ≡ v.seen = t.is ∙ append-nil found ∙ own in
@@ -154,14 +155,14 @@ module _ {T : Type 0} (tree : Tree) (plan : Plan) (serial : ℕ) (v : View T) wh
     }
 
     pub drafted-refused : (failure : Failure) (key : Key) (n made started : ℕ) (then : List Signed) → HasSigned w x (opened_until d plan failure key) → n ≡ d → ended_all d made started ≡ undone_after d plan failure
-        → Turned x y then (Abandon n ∷ ended_all n made started) → HasDrafted tree plan (how.FirstRefused key) serial v y
+        → Spread x y then (Abandon n ∷ ended_all n made started) → HasDrafted tree plan (how.FirstRefused key) serial v y
     drafted-refused failure key n made started then opens same ends u = record {
       made = (Draft d tree plan ∷ []) ++ (opened_until d plan failure key ++ Abandon n ∷ ended_all n made started);
-      signed = all-signs (opened_until d plan failure key) (Abandon n ∷ ended_all n made started) opens (signs-turned x y then _ u);
+      signed = all-signs (opened_until d plan failure key) (Abandon n ∷ ended_all n made started) opens (signs-spread x y then _ u);
       start = Start.refused failure key;
       is = (failure, refl);
       alone = λ number alone zero begun.
-          let first : d ≡ 0 = number-is d w found t number (first-alone (opened_until d plan failure key) opens _ (signs-turned x y then _ u) alone) begun in
+          let first : d ≡ 0 = number-is d w found t number (first-alone (opened_until d plan failure key) opens _ (signs-spread x y then _ u) alone) begun in
           ap (λ (m : ℕ). Draft d tree plan ∷ (opened_until d plan failure key ++ Abandon m ∷ ended_all m made started)) same
           ∙ ap (λ (es : List Entry). Draft d tree plan ∷ (opened_until d plan failure key ++ Abandon d ∷ es)) ends
           ∙ ap (λ (m : ℕ). Draft m tree plan ∷ (opened_until m plan failure key ++ Abandon m ∷ undone_after m plan failure)) first;
@@ -169,39 +170,43 @@ module _ {T : Type 0} (tree : Tree) (plan : Plan) (serial : ℕ) (v : View T) wh
 
 -- ---- the end of the request
 
-due-none : (b : Bool) (n : ℕ) → [] ≡ cond b (n ∷ []) [] → b ≡ false
+-- while nobody has halted
+due-none : (b : Bool) (n : ℕ) → DueBy b false n [] → b ≡ false
 due-none true n is = absurd (let e : [] ≡ n ∷ [] = is in cc)
 due-none false n is = refl
 
-due-some : (b : Bool) (m n : ℕ) → m ∷ [] ≡ cond b (n ∷ []) [] → (b ≡ true) × (m ≡ n)
+due-some : (b : Bool) (m n : ℕ) → DueBy b false n (m ∷ []) → (b ≡ true) × (m ≡ n)
 due-some true m n is = (refl, cc)
 due-some false m n is = absurd (let e : m ∷ [] ≡ [] = is in cc)
 
-module _ {T : Type 0} (serial : ℕ) (v w : View T) (found : List Signed) (t : Turned v w found (Finish v.number ∷ [])) where
-  -- the state that the Finish leaves
-  finished-state : v.number ≡ 0 → IsAlone w.seen → state_at w.seen ≡ after (state_at v.seen) (Finish 0)
-  finished-state number alone =
-      ap state_at t.is ∙ state-more found v.number (Finish v.number ∷ []) ∙ ap (λ (l : List Signed). after (state_at l) (Finish v.number)) (found-alone v w found _ t number alone) ∙ ap (λ (n : ℕ). after (state_at v.seen) (Finish n)) number
+due-by : (s : State) (n : ℕ) (duties : List ℕ) → s.halted ≡ false → DueThen s n duties → DueBy (is_last_at s n) false n duties
+due-by s n duties running due = subst (λ (b : Bool). DueBy (is_last_at s n) b n duties) (ap (λ (b : Bool). b && (n + 1 == s.serial)) running) due
 
-  pub finished-only : [] ≡ due_at (state_at w.seen) serial → HasFinished serial v w
-  finished-only none = record {
+module _ {T : Type 0} (serial : ℕ) (v w : View T) (found : List Signed) (t : Turned v w found (Finish v.number ∷ [])) where
+  -- what the Finish met, where nobody else has signed anything
+  due-here : (duties : List ℕ) → DueThen (state_at found) serial duties → v.number ≡ 0 → IsAlone w.seen → serial ≡ 0 → (state_at v.seen).halted ≡ false → DueBy (is_last_at (state_at v.seen) 0) false 0 duties
+  due-here duties due number alone zero running =
+      due-by (state_at v.seen) 0 duties running
+      (subst (λ (n : ℕ). DueThen (state_at v.seen) n duties) zero (subst (λ (l : List Signed). DueThen (state_at l) serial duties) (found-alone v w found _ t number alone) due))
+
+  pub finished-only : DueThen (state_at found) serial [] → HasFinished serial v w
+  finished-only due = record {
     made = Finish v.number ∷ [];
     signed = signs-turned v w found _ t;
-    alone = λ number alone zero.
-        let undue : may_retire (after (state_at v.seen) (Finish 0)) 0 ≡ false = ap (λ (s : State). may_retire s 0) (sym (finished-state number alone)) ∙ due-none (may_retire (state_at w.seen) 0) 0 (none ∙ ap (due_at (state_at w.seen)) zero) in
+    alone = λ number alone zero running.
+        let undue : is_last_at (state_at v.seen) 0 ≡ false = due-none (is_last_at (state_at v.seen) 0) 0 (due-here [] due number alone zero running) in
         ap (λ (n : ℕ). Finish n ∷ []) number ∙ ap (λ (b : Bool). Finish 0 ∷ cond b (Retire 0 ∷ []) []) (sym undue);
   }
 
-  pub finished-and-retired : (duty : ℕ) (x : View T) (then : List Signed) → duty ∷ [] ≡ due_at (state_at w.seen) serial → Turned w x then (block_of (state_at then) duty) → HasFinished serial v x
-  finished-and-retired duty x then some u = record {
+  pub finished-and-retired : (duty : ℕ) (x : View T) (then : List Signed) → DueThen (state_at found) serial (duty ∷ []) → Spread w x then (block_of (state_at then) duty) → HasFinished serial v x
+  finished-and-retired duty x then due u = record {
     made = (Finish v.number ∷ []) ++ block_of (state_at then) duty;
-    signed = signs-both v w x _ _ (signs-turned v w found _ t) (signs-turned w x then _ u);
-    alone = λ number alone zero.
-        let is = due-some (may_retire (state_at w.seen) serial) duty serial some in
-        let due : may_retire (after (state_at v.seen) (Finish 0)) 0 ≡ true = ap (λ (s : State). may_retire s 0) (sym (finished-state number (alone-front w.seen x.seen u.grows.seen alone))) ∙ ap (may_retire (state_at w.seen)) (sym zero) ∙ is.0 in
+    signed = signs-both v w x _ _ (signs-turned v w found _ t) (signs-spread w x then _ u);
+    alone = λ number alone zero running.
+        let is = due-some (is_last_at (state_at v.seen) 0) duty 0 (due-here (duty ∷ []) due number (alone-front w.seen x.seen u.grows.seen alone) zero running) in
         ap (λ (n : ℕ). Finish n ∷ block_of (state_at then) duty) number
-        ∙ ap (λ (n : ℕ). Finish 0 ∷ block_of (state_at then) n) (is.1 ∙ zero)
-        ∙ ap (λ (b : Bool). Finish 0 ∷ cond b (Retire 0 ∷ []) []) (sym due);
+        ∙ ap (λ (n : ℕ). Finish 0 ∷ block_of (state_at then) n) is.1
+        ∙ ap (λ (b : Bool). Finish 0 ∷ cond b (Retire 0 ∷ []) []) (sym is.0);
   }
 
 -- ---- the whole
@@ -216,13 +221,12 @@ followed Start.unbegun = false
 record Ended (s : State) (serial : ℕ) : Type 0 where
   serial_is : s.serial ≡ serial
   tickets_are : s.tickets ≡ record { caller = 0; serial = 0 } ∷ []
-  retired_are : s.retired ≡ []
+  halted_is : s.halted ≡ false
 
-retires-by : (s : State) (n : ℕ) → Ended s n → may_retire (after s (Finish 0)) 0 ≡ nat_lt 0 n
+retires-by : (s : State) (n : ℕ) → Ended s n → is_last_at s 0 ≡ nat_lt 0 n
 retires-by s n e =
-    ap (λ (m : ℕ). may_retire (after (record s { serial = m }) (Finish 0)) 0) e.serial_is
-    ∙ ap (λ (ts : List OpenTicket). may_retire (after (record s { serial = n; tickets = ts }) (Finish 0)) 0) e.tickets_are
-    ∙ ap (λ (r : List ℕ). may_retire (after (record s { serial = n; tickets = record { caller = 0; serial = 0 } ∷ []; retired = r }) (Finish 0)) 0) e.retired_are
+    ap (λ (m : ℕ). nat_lt 0 m && (open_at 0 s.tickets == 1)) e.serial_is
+    ∙ ap (λ (ts : List OpenTicket). nat_lt 0 n && (open_at 0 ts == 1)) e.tickets_are
     ∙ both-true (nat_lt 0 n)
   where
     both-true : (b : Bool) → (b && true) ≡ b
@@ -230,28 +234,38 @@ retires-by s n e =
     both-true false = refl
 
 kept-so : (s t : State) → Keeps s t → Ended s 0 → Ended t 0
-kept-so s t k e = record { serial_is = k.serial ∙ e.serial_is; tickets_are = k.tickets ∙ e.tickets_are; retired_are = k.retired ∙ e.retired_are }
+kept-so s t k e = record { serial_is = k.serial ∙ e.serial_is; tickets_are = k.tickets ∙ e.tickets_are; halted_is = k.halted ∙ e.halted_is }
 
 module _ (first : Tree) (plan : Plan) where
   drafted-ended : Ended (drafted first plan) 0
-  drafted-ended = record { serial_is = refl; tickets_are = refl; retired_are = refl }
+  drafted-ended = record { serial_is = refl; tickets_are = refl; halted_is = refl }
 
-  follows-is : (start : Start) → may_retire (after (state_of (Begin 0 0 ∷ first_entries first plan start)) (Finish 0)) 0 ≡ followed start
-  follows-is Start.published =
+  -- the state that the start's entries leave before its Finish
+  abbrev at-finish : Start → State
+  at-finish start = state_of (Begin 0 0 ∷ first_entries first plan start)
+
+  ended-is : (start : Start) → Ended (at-finish start) (cond (followed start) 1 0)
+  ended-is Start.published =
       let s : State = state_from (drafted first plan) (opened 0 plan) in
       let e : Ended s 0 = kept-so (drafted first plan) s (parts-keep (drafted first plan) (opened 0 plan) (opened-parts 0 plan)) drafted-ended in
-      ap (λ (t : State). may_retire (after t (Finish 0)) 0) (state_from-append (drafted first plan) (opened 0 plan) (Publish 0 1 0 change.First ∷ []))
-      ∙ retires-by (after s (Publish 0 1 0 change.First)) 1 record { serial_is = refl; tickets_are = e.tickets_are; retired_are = e.retired_are }
-  follows-is (Start.refused failure key) =
+      subst (λ (t : State). Ended t 1) (sym (state_from-append (drafted first plan) (opened 0 plan) (Publish 0 1 0 change.First ∷ [])))
+      (record { serial_is = refl; tickets_are = e.tickets_are; halted_is = e.halted_is })
+  ended-is (Start.refused failure key) =
       let s : State = state_from (drafted first plan) (opened_until 0 plan failure key) in
       let e : Ended s 0 = kept-so (drafted first plan) s (parts-keep (drafted first plan) (opened_until 0 plan failure key) (until-parts 0 plan failure key)) drafted-ended in
       let t : State = after s (Abandon 0) in
-      let f : Ended t 0 = record { serial_is = e.serial_is; tickets_are = e.tickets_are; retired_are = e.retired_are } in
-      let g : Ended (state_from t (undone_after 0 plan failure)) 0 = kept-so t (state_from t (undone_after 0 plan failure)) (parts-keep t (undone_after 0 plan failure) (undone-parts 0 plan failure)) f in
-      ap (λ (u : State). may_retire (after u (Finish 0)) 0) (state_from-append (drafted first plan) (opened_until 0 plan failure key) (Abandon 0 ∷ undone_after 0 plan failure))
-      ∙ retires-by (state_from t (undone_after 0 plan failure)) 0 g
-  follows-is Start.undrafted = refl
-  follows-is Start.unbegun = refl
+      let f : Ended t 0 = record { serial_is = e.serial_is; tickets_are = e.tickets_are; halted_is = e.halted_is } in
+      subst (λ (u : State). Ended u 0) (sym (state_from-append (drafted first plan) (opened_until 0 plan failure key) (Abandon 0 ∷ undone_after 0 plan failure)))
+      (kept-so t (state_from t (undone_after 0 plan failure)) (parts-keep t (undone_after 0 plan failure) (undone-parts 0 plan failure)) f)
+  ended-is Start.undrafted = record { serial_is = refl; tickets_are = refl; halted_is = refl }
+  ended-is Start.unbegun = record { serial_is = refl; tickets_are = refl; halted_is = refl }
+
+  follows-is : (start : Start) → is_last_at (at-finish start) 0 ≡ followed start
+  follows-is start = retires-by (at-finish start) (cond (followed start) 1 0) (ended-is start) ∙ by (followed start)
+    where
+      by : (b : Bool) → nat_lt 0 (cond b 1 0) ≡ b
+      by true = refl
+      by false = refl
 
   -- with its Begin and its Finish
   around : (start : Start) → ¬ (start ≡ Start.unbegun) → (Begin 0 0 ∷ []) ++ (first_entries first plan start ++ Finish 0 ∷ cond (followed start) (Retire 0 ∷ []) []) ≡ start_entries first plan start
@@ -300,7 +314,7 @@ module _ (first : Tree) (plan : Plan) where
           let x_state : state_at x.seen ≡ state_of (Begin 0 0 ∷ first_entries first plan d.start) =
           ap state_at (seen-alone w x d.made d.signed w_number x_alone) ∙ state-more w.seen 0 d.made ∙ ap (λ (l : List Signed). state_from (state_at l) d.made) begun ∙ ap (λ (es : List Entry). state_from (after opening_state (Begin 0 0)) es) drafts in
           let ends : f.made ≡ Finish 0 ∷ cond (followed d.start) (Retire 0 ∷ []) [] =
-          f.alone x_number alone zero ∙ ap (λ (b : Bool). Finish 0 ∷ cond b (Retire 0 ∷ []) []) (ap (λ (s : State). may_retire (after s (Finish 0)) 0) x_state ∙ follows-is d.start) in
+          f.alone x_number alone zero (ap (λ (s : State). s.halted) x_state ∙ (ended-is d.start).halted_is) ∙ ap (λ (b : Bool). Finish 0 ∷ cond b (Retire 0 ∷ []) []) (ap (λ (s : State). is_last_at s 0) x_state ∙ follows-is d.start) in
           ap (λ (n : ℕ). (Begin n serial ∷ []) ++ (d.made ++ f.made)) number
           ∙ ap (λ (n : ℕ). (Begin 0 n ∷ []) ++ (d.made ++ f.made)) zero
           ∙ ap (λ (es : List Entry). (Begin 0 0 ∷ []) ++ (es ++ f.made)) drafts

@@ -1,3 +1,4 @@
+-- Part of the main theorem.
 -- The first configuration of a run has the tree that the run was given.
 use Rattle.std.specs.Prelude.{◌≡◌, zero, List, [], ◌∷◌, slice_get}
 use Rattle.cd_tree.specs.declared.tree.Tree.{Tree}

@@ -4,14 +4,14 @@ use mathlib.Core.List.{IsPrefix}
 use Rattle.cd_legal.specs.declared.entry.Signed.{Signed}
 use Rattle.cd_legal.specs.Legal.{state_at, IsLegal}
 use Rattle.cd_gate.specs.declared.pass.Pass.{Pass}
-use Rattle.cd_serve.specs.Joining.{Span, LanesTold}
+use Rattle.cd_serve.specs.Reports.{Span, LanesTold}
 use Rattle.cd_serve.specs.Meanings.{Meaning}
 use Rattle.cd_host.specs.declared.host_end.HostHow.{HostHow}
 use Rattle.cd_host.specs.declared.host_end.HostHow.TheVariants as how
 use Rattle.cd_host.specs.declared.start_how.StartHow.{StartHow}
 use Rattle.cd_host.specs.declared.start_how.StartHow.TheVariants as start
-use Rattle.cd_host.specs.Joining.{AreBetween}
-use Rattle.cd_host.specs.Lanes.{AreAtEnd}
+use Rattle.cd_host.specs.OwnPass.{AreBetween}
+use Rattle.cd_host.specs.ServedLanes.{AreAtEnd}
 use Rattle.cd_host.specs.Parts.{IsAlone, IsSignedByLanes}
 use Rattle.cd_host.specs.Seated.{HaveTheirs}
 

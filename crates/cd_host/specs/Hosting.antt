@@ -1,3 +1,4 @@
+-- Part of the main theorem.
 -- A run of all lanes, as the call that runs them tells it.
 use Rattle.std.specs.Prelude.{◌≡◌, ◌<◌, ◌++◌, ℕ, Bool, true, false, List, [], length, codes, Option, option_map}
 use mathlib.Core.List.{IsPrefix}
@@ -16,8 +17,8 @@ use Rattle.cd_gate.specs.declared.view.View.{View}
 use Rattle.cd_gate.specs.Passes.{view}
 use Rattle.cd_host.specs.declared.host_end.HostHow.{HostHow}
 use Rattle.cd_host.specs.declared.host_end.HostHow.TheVariants as how
-use Rattle.cd_host.specs.Joining.{HasHalted}
-use Rattle.cd_host.specs.Runs.{Given}
+use Rattle.cd_host.specs.OwnPass.{HasHalted}
+use Rattle.cd_host.specs.Runs.{Observed}
 use Rattle.cd_host.specs.Seated.{spans}
 use Rattle.cd_host.specs.Seats.{AllFrom}
 
@@ -45,8 +46,8 @@ HasSaid how.NoMemory old new = new ≡ old
 
 -- what the fixtures, which were `before` and are `now`, and the lanes, which were `olds` and are `news`, tell of a run
 module _ {F L : Type 0} (calls : F → Option (List FixtureCall)) (failed : F → ℕ) (faults : L → ℕ) (past : L → Option Past) where
-  abbrev pub given_of : F → F → List L → List L → ℕ → ℕ → ℕ → Option Conf → Given
-  given_of before now olds news answered published cut last = record {
+  abbrev pub observed_of : F → F → List L → List L → ℕ → ℕ → ℕ → Option Conf → Observed
+  observed_of before now olds news answered published cut last = record {
     calls_before = calls before;
     calls_now = calls now;
     failed_before = failed before;

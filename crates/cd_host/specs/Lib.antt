@@ -1,9 +1,10 @@
 pub mod Program
 pub mod Parts
 pub mod Firsts
-pub mod Lanes
-pub mod Joining
+pub mod ServedLanes
+pub mod OwnPass
 pub mod Runs
+pub mod Unfailing
 pub mod Starting
 pub mod Seats
 pub mod Seated

@@ -1,3 +1,4 @@
+-- Part of the main theorem.
 -- The parts of the history of a run, in their order.
 use Rattle.std.specs.Prelude.{◌≡◌, ℕ, ◌<◌, ◌≤◌, cond, List, [], ◌++◌}
 use Rattle.cd_tree.specs.declared.tree.Tree.{Tree}

@@ -1,3 +1,4 @@
+-- Part of the main theorem.
 -- What the program itself does in the history of a run, by its own pass of number 0: it starts with the first configuration, and it
 -- halts in the end.
 use Rattle.std.specs.Prelude.{◌+◌, List, [], ◌∷◌, ◌++◌}

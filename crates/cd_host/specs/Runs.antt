@@ -1,3 +1,4 @@
+-- Part of the main theorem.
 -- What a run of all lanes promises.
 use Rattle.std.specs.Prelude.{◌≡◌, ◌⊎◌, ℕ, Bool, true, false, List, length, Option, Some, None, Ok}
 use Rattle.cd_outside.specs.declared.fixtures.FixtureCall.{FixtureCall}
@@ -18,18 +19,18 @@ use Rattle.cd_life.specs.Fits.{AllFit}
 use Rattle.cd_life.specs.Standing.{last_published}
 use Rattle.cd_admin.specs.Deciding.{change_of}
 use Rattle.cd_serve.specs.Episodes.{another_halted}
-use Rattle.cd_serve.specs.Joining.{Span, LanesTold}
+use Rattle.cd_serve.specs.Reports.{Span, LanesTold}
 use Rattle.cd_serve.specs.Meanings.{Meaning}
 use Rattle.cd_host.specs.declared.host_end.HostHow.{HostHow}
 use Rattle.cd_host.specs.declared.host_end.HostHow.TheVariants as how
 use Rattle.cd_host.specs.Firsts.{BeginsWith}
-use Rattle.cd_host.specs.Lanes.{AreAtEnd, AreUntouched}
+use Rattle.cd_host.specs.ServedLanes.{AreAtEnd, AreUntouched}
 use Rattle.cd_host.specs.Parts.{HasParts, IsSignedByLanes, IsAlone}
 use Rattle.cd_host.specs.Program.{Start}
 
 -- What is seen of a run from outside: what the fixtures told and tell of their calls, and how often they had failed and have; the
 -- lanes, in their order; the counts that it gives; and the configuration that was published last, where there was a hall.
-pub record Given : Type 0 where
+pub record Observed : Type 0 where
   pub calls_before : Option (List FixtureCall)
   pub calls_now : Option (List FixtureCall)
   pub failed_before : ℕ
@@ -42,7 +43,7 @@ pub record Given : Type 0 where
 
 -- There is one history of all that the run did, which began with the configuration of a tree. `served` says whether the lanes were
 -- served to their ends.
-pub record Ran (m : Meaning) (first : Tree) (start : Start) (served : Bool) (given : Given) : Type 0 where
+pub record Ran (m : Meaning) (first : Tree) (start : Start) (served : Bool) (given : Observed) : Type 0 where
   pub history : List Signed
   -- each of its entries is allowed where it stands, and signed by a pass that may sign it: the program's own, or that of a lane
   pub is : IsHistory history
@@ -57,7 +58,7 @@ pub record Ran (m : Meaning) (first : Tree) (start : Start) (served : Bool) (giv
   pub plan : Plan
   pub planned : m.plan first ≡ Ok plan
   pub parts : HasParts first plan start history
-  -- each lane that tells its past tells how its requests were answered by entries of its own; each connection that was cut short
+  -- each lane that tells its past tells how its requests were answered by entries of its own; each connection that was interrupted
   -- has its cause, and the answers are counted
   pub lanes : LanesTold m history given.lanes given.answered given.cut
   -- where no lane has halted, none of them has anything more to come
@@ -73,7 +74,7 @@ pub record Ran (m : Meaning) (first : Tree) (start : Start) (served : Bool) (giv
   pub last : given.last ≡ Some (last_published (state_at history))
 
 -- nothing was done
-pub record IsUntouched (given : Given) : Type 0 where
+pub record IsUnbegun (given : Observed) : Type 0 where
   pub calls : given.calls_now ≡ given.calls_before
   pub failed : given.failed_now ≡ given.failed_before
   pub lanes : AreUntouched given.lanes
@@ -84,8 +85,8 @@ pub record IsUntouched (given : Given) : Type 0 where
 
 -- What a run promises, by how it ended. Where the line that says that it serves could not be written, the lanes were not served.
 -- Where memory was lacking nothing was done, or the run has ended in order.
-abbrev pub Promises : Meaning → Tree → HostHow → Given → Type 0
+abbrev pub Promises : Meaning → Tree → HostHow → Observed → Type 0
 Promises m first how.Served given = Ran m first Start.published true given
 Promises m first how.WriteFault given = Ran m first Start.published false given
 Promises m first (how.FirstRefused key) given = (failure : Failure) × Ran m first (Start.refused failure key) false given
-Promises m first how.NoMemory given = IsUntouched given ⊎ ((start : Start) × Ran m first start false given)
+Promises m first how.NoMemory given = IsUnbegun given ⊎ ((start : Start) × Ran m first start false given)

@@ -1,3 +1,4 @@
+-- Part of the main theorem.
 -- What is known of lanes that were served side by side, each by a pass of its own.
 use Rattle.std.specs.Prelude.{◌≡◌, ◌≤◌, ◌++◌, ℕ, min, Bool, true, false, List, [], ◌∷◌, length, sum_by, Option}
 use mathlib.Core.List.{IsPrefix}
@@ -17,9 +18,9 @@ use Rattle.cd_hall.specs.Calls.{IsPassOf}
 use Rattle.cd_serve.specs.declared.lane_end.LaneHow.TheVariants as how
 use Rattle.cd_serve.specs.Meanings.{Meaning}
 use Rattle.cd_serve.specs.Lanes.{IsServed}
-use Rattle.cd_serve.specs.Joining.{Span, Slot as Served, lanes_of}
+use Rattle.cd_serve.specs.Reports.{Span, ServedLane as Served, lanes_of}
 use Rattle.cd_host.specs.declared.slot.Slot.{Slot}
-use Rattle.cd_host.specs.Lanes.{LanesFrom}
+use Rattle.cd_host.specs.ServedLanes.{LanesFrom}
 use Rattle.cd_host.specs.Seats.{AllFrom}
 
 -- ---- lanes between two moments

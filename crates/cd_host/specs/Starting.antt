@@ -1,17 +1,18 @@
 -- What the program's start has made, as its calls tell it. What they made is known where nobody else has signed what they found.
-use Rattle.std.specs.Prelude.{◌≡◌, ◌⊎◌, ℕ, Bool, true, cond, List, [], ◌∷◌, ◌++◌}
+use Rattle.std.specs.Prelude.{◌≡◌, ◌⊎◌, ℕ, Bool, true, false, cond, List, [], ◌∷◌, ◌++◌}
 use Rattle.cd_tree.specs.declared.tree.Tree.{Tree}
 use Rattle.cd_legal.specs.declared.plan.Plan.{Plan}
 use Rattle.cd_legal.specs.declared.entry.Change.TheVariants as change
 use Rattle.cd_legal.specs.declared.entry.Entry.{Entry}
 use Rattle.cd_legal.specs.declared.entry.Entry.TheVariants.{Draft, Publish, Abandon, Begin, Finish, Retire}
-use Rattle.cd_legal.specs.Legal.{after, may_retire, state_at}
+use Rattle.cd_legal.specs.Legal.{state_at}
 use Rattle.cd_legal.specs.Runs.{Failure, opened, opened_until, undone_after}
 use Rattle.cd_gate.specs.declared.view.View.{View}
 use Rattle.cd_gate.specs.Growing.{all_signed}
+use Rattle.cd_hall.specs.Dues.{is_last_at}
 use Rattle.cd_host.specs.declared.start_how.StartHow.{StartHow}
 use Rattle.cd_host.specs.declared.start_how.StartHow.TheVariants as how
-use Rattle.cd_host.specs.Joining.{HasSigned}
+use Rattle.cd_host.specs.OwnPass.{HasSigned}
 use Rattle.cd_host.specs.Parts.{IsAlone}
 use Rattle.cd_host.specs.Program.{Start, start_entries}
 
@@ -53,7 +54,7 @@ module _ {T : Type 0} where
   pub record HasFinished (serial : ℕ) (v w : View T) : Type 0 where
     pub made : List Entry
     pub signed : HasSigned v w made
-    pub alone : v.number ≡ 0 → IsAlone w.seen → serial ≡ 0 → made ≡ Finish 0 ∷ cond (may_retire (after (state_at v.seen) (Finish 0)) 0) (Retire 0 ∷ []) []
+    pub alone : v.number ≡ 0 → IsAlone w.seen → serial ≡ 0 → (state_at v.seen).halted ≡ false → made ≡ Finish 0 ∷ cond (is_last_at (state_at v.seen) 0) (Retire 0 ∷ []) []
 
   -- the program, whose pass had made nothing, has started
   pub record HasStarted (first : Tree) (plan : Plan) (how : StartHow) (v w : View T) : Type 0 where

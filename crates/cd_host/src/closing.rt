@@ -15,7 +15,7 @@ ghost use Rattle.cd_life.specs.Shares.{conf_in};
 ghost use Rattle.cd_life.specs.Standing.{last_published};
 ghost use Rattle.cd_hall.specs.Calls.{IsPassOf};
 ghost use Rattle.cd_host.specs.Hosting.{IsClosed};
-ghost use Rattle.cd_host.specs.Joining.{HasHalted};
+ghost use Rattle.cd_host.specs.OwnPass.{HasHalted};
 ghost use Rattle.cd_host.specs.Seats.{AllFrom, IsIdleAt};
 
 use cd_gate::Pass;

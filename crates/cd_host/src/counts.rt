@@ -8,7 +8,7 @@ use cd_serve::LaneEnd;
 pub struct Counts {
     /// How many requests were answered in whole.
     pub answered: u64,
-    /// How many connections were cut short for want of memory.
+    /// How many connections were interrupted for want of memory.
     pub cut: u64,
 }
 

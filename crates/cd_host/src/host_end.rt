@@ -23,7 +23,7 @@ pub struct HostEnd<M: ModuleSet, F, L> {
     pub answered: u64,
     /// How many configurations were published.
     pub published: u32,
-    /// How many connections were cut short for want of memory. It stays at 2^64 - 1.
+    /// How many connections were interrupted for want of memory. It stays at 2^64 - 1.
     pub cut: u64,
     pub how: HostHow,
     /// The configuration that was published last, or the opening one. There is none where nothing was begun.

@@ -5,6 +5,7 @@ ghost use mathlib.Core.List.{IsPrefix};
 ghost use Rattle.cd_outside.specs.declared.key.Key.{Key};
 ghost use Rattle.cd_outside.specs.Counts.{Rose};
 ghost use Rattle.cd_outside.specs.Given.{IsGivenOf};
+ghost use Rattle.cd_legal.specs.declared.limits.TheConstants.{MAX_LANES};
 ghost use Rattle.cd_life.specs.Shares.{conf_in};
 ghost use Rattle.cd_gate.specs.Ends.{IsRowOf, AreNew};
 ghost use Rattle.cd_gate.specs.Passes.{view, opening_of};
@@ -12,7 +13,7 @@ ghost use Rattle.cd_hall.specs.Calls.{IsPassOf};
 ghost use Rattle.cd_hall.specs.Ends.{ArePassesOf};
 ghost use Rattle.cd_host.specs.declared.host_end.HostHow.TheVariants as how;
 ghost use Rattle.cd_host.specs.Gone.{MayFollow, AreGone};
-ghost use Rattle.cd_host.specs.Hosting.{HasSaid, given_of, is_served};
+ghost use Rattle.cd_host.specs.Hosting.{HasSaid, observed_of, is_served};
 ghost use Rattle.cd_host.specs.Runs.{Promises};
 ghost use Rattle.cd_host.specs.Seated.{spans};
 ghost use Rattle.cd_host.specs.Seats.{AllFrom, IsIdleAt, IsUnused};
@@ -90,7 +91,7 @@ where
     ensures seen { IsPrefix (view root.old).seen (view root.new).seen }
     ensures same { view root.new ≡ record (view root.old) { seen = (view root.new).seen } }
     ensures passes { AllFrom (IsIdleAt hall.now) 1 passes.new.items }
-    ensures count { length passes.new.items ≡ length passes.old.items }
+    ensures count { (length passes.new.items ≡ length passes.old.items) × (length lanes.new.items ≡ length lanes.old.items) }
     ensures passes_room { vec_capacity passes.old ≤ vec_capacity passes.new }
     ensures empty { slots.new.items ≡ [] }
     ensures idle { All (λ lane. L.busy lane ≡ false) lanes.new.items }
@@ -144,8 +145,9 @@ where
     requires empty { slots.items ≡ [] }
     requires room { vec_len lanes ≤ vec_capacity slots }
     requires idle { All (λ lane. L.busy lane ≡ false) lanes.items }
+    ensures count { length result.lanes.items ≡ length lanes.items }
     ensures idle { All (λ lane. L.busy lane ≡ false) result.lanes.items }
-    ensures promises { Promises (record { acts = M.acts; plan = M.plan }) first.tree result.how (given_of F.calls F.faults L.faults L.past (opening_of hall.gate).desk.fixtures result.fixtures lanes.items result.lanes.items result.answered result.published result.cut (option_map (λ last. conf_in last) result.last)) }
+    ensures promises { Promises (record { acts = M.acts; plan = M.plan }) first.tree result.how (observed_of F.calls F.faults L.faults L.past (opening_of hall.gate).desk.fixtures result.fixtures lanes.items result.lanes.items result.answered result.published result.cut (option_map (λ last. conf_in last) result.last)) }
     ensures said { HasSaid result.how (O.holds out.old) (O.holds out.new) }
     ensures write_fault { result.how ≡ how.WriteFault → Rose (O.faults out.old) (O.faults out.new) }
     ensures later { O.faults out.old ≤ O.faults out.new }
@@ -228,10 +230,11 @@ pub fn run_host<
 where
     M::Compiled: Send + Sync,
     requires some { 1 ≤ length lanes.items }
-    requires few { length lanes.items ≤ 63 }
+    requires few { length lanes.items ≤ MAX_LANES }
     requires idle { All (λ lane. L.busy lane ≡ false) lanes.items }
+    ensures count { length result.lanes.items ≡ length lanes.items }
     ensures idle { All (λ lane. L.busy lane ≡ false) result.lanes.items }
-    ensures promises { Promises (record { acts = M.acts; plan = M.plan }) first.tree result.how (given_of F.calls F.faults L.faults L.past fixtures result.fixtures lanes.items result.lanes.items result.answered result.published result.cut (option_map (λ last. conf_in last) result.last)) }
+    ensures promises { Promises (record { acts = M.acts; plan = M.plan }) first.tree result.how (observed_of F.calls F.faults L.faults L.past fixtures result.fixtures lanes.items result.lanes.items result.answered result.published result.cut (option_map (λ last. conf_in last) result.last)) }
     ensures said { HasSaid result.how (O.holds out.old) (O.holds out.new) }
     ensures refused { (key : Key) → result.how ≡ how.FirstRefused key → Rose (F.faults fixtures) (F.faults result.fixtures) }
     ensures write_fault { result.how ≡ how.WriteFault → Rose (O.faults out.old) (O.faults out.new) }

@@ -1,5 +1,5 @@
 //! What the definitions mean, and how the promise of a run follows, each as a call that does nothing.
-ghost use Rattle.std.specs.Prelude.{◌≡◌, ◌⊎◌, ◌≤◌, ◌++◌, [], List, Option, Result, min, sum_by, false, length};
+ghost use Rattle.std.specs.Prelude.{◌≡◌, ◌⊎◌, ◌≤◌, ◌++◌, ℕ, [], List, Option, Result, min, sum_by, false, true, length};
 ghost use mathlib.Core.List.{IsPrefix};
 ghost use Rattle.cd_outside.specs.declared.key.Key.{Key};
 ghost use Rattle.cd_outside.specs.Counts.{count_end};
@@ -17,13 +17,15 @@ ghost use Rattle.cd_life.specs.Fits.{AllFit};
 ghost use Rattle.cd_gate.specs.declared.view.View.{View};
 ghost use Rattle.cd_gate.specs.Growing.{all_signed};
 ghost use Rattle.cd_serve.specs.Episodes.{another_halted};
-ghost use Rattle.cd_serve.specs.Joining.{Span, Slot, SlotsFrom, LanesTold, lanes_of};
+ghost use Rattle.cd_serve.specs.Reports.{Span, ServedLane, ServedLanesFrom, LanesTold, NoneRose, lanes_of};
 ghost use Rattle.cd_serve.specs.Meanings.{Meaning};
 ghost use Rattle.cd_host.specs.Firsts.{BeginsWith};
-ghost use Rattle.cd_host.specs.Joining.{IsJoined, AreBetween};
-ghost use Rattle.cd_host.specs.Lanes.{LanesFrom, AreAtEnd, AreUntouched};
+ghost use Rattle.cd_host.specs.OwnPass.{IsJoined, AreBetween};
+ghost use Rattle.cd_host.specs.ServedLanes.{LanesFrom, AreAtEnd, AreUntouched};
 ghost use Rattle.cd_host.specs.Parts.{HasParts, IsAlone, IsSignedByLanes, end_entries};
 ghost use Rattle.cd_host.specs.Program.{Start, start_entries};
+ghost use Rattle.cd_host.specs.Runs.{Observed, Ran};
+ghost use Rattle.cd_host.specs.Unfailing.{HaveEnded, TellUninterrupted};
 
 use cd_legal::Stands;
 
@@ -48,13 +50,13 @@ pub fn the_program_signs_its_parts()
 /// What is known of each lane gives what all lanes tell together; none of them has signed the start, and none signs anything after
 /// what the program has found.
 pub fn lanes_come_together()
-    ensures told { (m : Meaning) (start found history : List Signed) (slots : List Slot)
+    ensures told { (m : Meaning) (start found history : List Signed) (slots : List ServedLane)
         → IsLegal history → IsPrefix found history → LanesFrom m start found history 1 slots
         → LanesTold m history (lanes_of slots) (min (sum_by (λ s. s.end.answered) slots) count_end) (min (sum_by (λ s. s.end.cut) slots) count_end) }
-    ensures signed { (m : Meaning) (start found history : List Signed) (slots : List Slot)
+    ensures signed { (m : Meaning) (start found history : List Signed) (slots : List ServedLane)
         → IsPrefix start found → IsPrefix found history → LanesFrom m start found history 1 slots → IsSignedByLanes (length slots) history
         → AreBetween start found history }
-    ensures ended { (m : Meaning) (start found history : List Signed) (slots : List Slot)
+    ensures ended { (m : Meaning) (start found history : List Signed) (slots : List ServedLane)
         → LanesFrom m start found history 1 slots → (state_at found).halted ≡ false → AreAtEnd (lanes_of slots) }
 {}
 
@@ -85,4 +87,13 @@ pub fn alike_changes_fit_alike()
 pub fn a_refused_start_has_a_failed_key()
     ensures { (first : Tree) (plan : Plan) (failure : Failure) (key : Key) (history : List Signed)
         → HasParts first plan (Start.refused failure key) history → 1 ≤ failures (entries history) }
+{}
+
+/// What a run comes to where no fault of a lane rose and no connection lacked memory: of the connections that lanes tell of none was
+/// interrupted, and none of their accepts failed. Where no lane has halted either, each of them tells that no more comes.
+pub fn lanes_without_a_fault_are_not_interrupted()
+    ensures uninterrupted { (m : Meaning) (history : List Signed) (lanes : List Span) (answered : ℕ) → (told : LanesTold m history lanes answered 0)
+        → NoneRose lanes → TellUninterrupted told.reports }
+    ensures ended { (m : Meaning) (first : Tree) (start : Start) (given : Observed) → (ran : Ran m first start true given)
+        → NoneRose given.lanes → another_halted 0 ran.history ≡ false → HaveEnded given.lanes }
 {}

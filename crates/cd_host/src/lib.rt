@@ -3,7 +3,7 @@
 //! The program starts with its first configuration, by its own pass of number 0. Then each lane is served by a pass of its own, side
 //! by side, and in the end the program halts, unless a lane has. specs/Runs.antt says what such a run promises (`Ran`): one history
 //! of all passes, legal and ended in order, of which each lane tells its part; and what the program itself does in it stands in
-//! specs/Program.antt and specs/Parts.antt. specs/Lanes.antt has what is known of each lane when all passes have come together.
+//! specs/Program.antt and specs/Parts.antt. specs/ServedLanes.antt has what is known of each lane when all passes have come together.
 //!
 //! `run_host` (hosting.rt) is such a run. It calls `start_first` (starting.rt), the program's start by its own pass, of which
 //! specs/Starting.antt says what it has made; `serve_all` (serving.rt), which serves all lanes side by side, each in a slot with a
@@ -29,7 +29,8 @@ pub use host_end::{HostEnd, HostHow};
 pub use hosting::{run_host, say};
 pub use laws::{
     a_refused_start_has_a_failed_key, alike_changes_fit_alike, joined_passes_give_the_parts,
-    lanes_come_together, the_first_configuration_is_that_of_the_start, the_program_signs_its_parts,
+    lanes_come_together, lanes_without_a_fault_are_not_interrupted,
+    the_first_configuration_is_that_of_the_start, the_program_signs_its_parts,
     untouched_lanes_tell_nothing,
 };
 pub use seats::{seat, unseat};

@@ -11,8 +11,7 @@ ghost use Rattle.cd_host.specs.Starting.{IsTried, HasDrafted, HasFinished, HasSt
 use crate::start_how::StartHow;
 use cd_gate::Pass;
 use cd_hall::{Hall, Kept, Ticket};
-use cd_legal::Change;
-use cd_life::{Board, Draft};
+use cd_life::{Board, Draft, Origin};
 use cd_module_set::{Loaded, ModuleSet};
 use cd_outside::Fixtures;
 use cd_serve::open_draft;
@@ -38,7 +37,7 @@ fn publish_first<R: Wait, M: ModuleSet, F: Fixtures>(
     ensures none { (view pass.new).draft ≡ None }
     ensures duties { (view pass.new).duties ≡ (view pass.old).duties }
 {
-    match hall.publish(rt, draft, ticket, Change::First, pass) {
+    match hall.publish(rt, draft, ticket, Origin::First, pass) {
         Ok(()) => true,
         Err(kept) => {
             hall.abandon(rt, handed_back(kept), pass);

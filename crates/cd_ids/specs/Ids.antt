@@ -1,3 +1,4 @@
+-- Part of the main theorem.
 -- The ids of a tree, and the first fault of them.
 use Rattle.std.specs.Prelude.{ℕ, if◌then◌else◌, List, [], ◌∷◌, ◌++◌, Option, Some, None, Result, Ok, Err}
 use Rattle.std.specs.Str.{bytes_eq}

@@ -1,3 +1,4 @@
+-- Part of the main theorem.
 -- The walk over a tree that looks at each `@id`.
 use Rattle.std.specs.Prelude.{ℕ, suc, Bool, if◌then◌else◌, List, [], ◌∷◌, ◌++◌, codes, decimal}
 use Rattle.std.specs.Str.{bytes_eq}

@@ -1,3 +1,4 @@
+-- Part of the main theorem.
 -- How many requests a history begins.
 use Rattle.std.specs.Prelude.{ℕ, suc, ◌==◌, cond, List, [], ◌∷◌}
 use Rattle.cd_legal.specs.declared.entry.Entry.{Entry}

@@ -1,3 +1,4 @@
+-- Part of the main theorem.
 -- The pairs of a key, and the fixtures' calls of a history.
 use Rattle.std.specs.Prelude.{ℕ, suc, Bool, ◌&&◌, not, cond, List, [], ◌∷◌, ◌++◌, take, slice_get, reverse, map, Option, Some, None}
 use Rattle.cd_outside.specs.declared.key.Key.{Key}

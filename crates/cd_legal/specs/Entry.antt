@@ -1,3 +1,4 @@
+-- Part of the main theorem.
 -- Histories: their entries, and whose they are.
 use Rattle.std.specs.Prelude.{ℕ, ◌==◌, cond, List, [], ◌∷◌}
 use Rattle.cd_legal.specs.declared.entry.Entry.{Entry}

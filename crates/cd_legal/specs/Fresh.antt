@@ -1,3 +1,4 @@
+-- Part of the main theorem.
 -- No request begins under an older configuration than its pass has seen.
 use Rattle.std.specs.Prelude.{ℕ, ◌==◌, max, Bool, true, ◌&&◌, nat_le, List, [], ◌∷◌, IsTrue}
 use Rattle.cd_legal.specs.declared.entry.Entry.{Entry}

@@ -1,3 +1,4 @@
+-- Part of the main theorem.
 -- The table of entries: which may follow, and what they leave.
 use Rattle.std.specs.Prelude.{ℕ, suc, ◌+◌, ◌==◌, Bool, true, ◌&&◌, not, cond, nat_lt, List, [], ◌∷◌, ◌++◌, length, take, slice_get, Option, Some, None, is_none, IsTrue, Result, Ok, Err}
 use Rattle.cd_outside.specs.declared.key.Key.{Key}

@@ -1,3 +1,4 @@
+-- Part of the main theorem.
 -- What a pass still owes after a history: the end of its request, and of its draft.
 use Rattle.std.specs.Prelude.{ℕ, ◌==◌, cond, List, [], ◌∷◌, Option, Some, None}
 use Rattle.cd_legal.specs.declared.entry.Entry.{Entry}

@@ -1,3 +1,4 @@
+-- Part of the main theorem.
 -- The entries of one pass, each with the history that stood before it. All that is said of a pass is said of these.
 use Rattle.std.specs.Prelude.{ℕ, ◌==◌, cond, List, [], ◌∷◌, ◌++◌, map}
 use Rattle.cd_legal.specs.declared.entry.Entry.{Entry}

@@ -1,3 +1,4 @@
+-- Part of the main theorem.
 -- Entries that follow one another: a draft is opened, given up, superseded and retired.
 use Rattle.std.specs.Prelude.{ℕ, zero, suc, ◌+◌, List, [], ◌∷◌, ◌++◌, length, take, slice_get, Option, Some, None}
 use Rattle.cd_outside.specs.declared.key.Key.{Key}

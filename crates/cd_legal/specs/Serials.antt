@@ -1,3 +1,4 @@
+-- Part of the main theorem.
 -- The serials of a history: the drafts that have them, and the configuration that is current.
 use Rattle.std.specs.Prelude.{ℕ, suc, ◌==◌, Bool, true, false, cond, List, [], ◌∷◌, slice_get}
 use Rattle.cd_legal.specs.declared.entry.Entry.{Entry}

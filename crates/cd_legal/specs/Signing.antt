@@ -1,3 +1,4 @@
+-- Part of the main theorem.
 -- Who may sign an entry, and the histories that passes make.
 use Rattle.std.specs.Prelude.{ℕ, ◌==◌, Bool, true, ◌&&◌, List, [], ◌∷◌, ◌++◌, slice_get, is_none, IsTrue}
 use Rattle.cd_legal.specs.declared.entry.Entry.{Entry}

@@ -1,3 +1,4 @@
+-- Part of the main theorem.
 -- What a history leaves: the parts of a state, what is asked of them, and how one of them changes.
 use Rattle.std.specs.Prelude.{ℕ, zero, suc, ◌+◌, ◌==◌, Bool, true, false, ◌&&◌, ◌||◌, cond, nat_lt, List, [], ◌∷◌, length, slice_get, Option, Some, None, map}
 use Rattle.cd_outside.specs.declared.key.Key.{Key}

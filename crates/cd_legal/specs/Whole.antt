@@ -1,3 +1,4 @@
+-- Part of the main theorem.
 -- What a history has when all is ended.
 use Rattle.std.specs.Prelude.{◌≡◌, ℕ, zero, suc, ◌≤◌, Bool, true, ◌&&◌, ◌||◌, not, cond, List, [], ◌∷◌, slice_get}
 use Rattle.std.specs.List.{list_all}

@@ -47,7 +47,8 @@ pub use laws::{
     what_is_over_is_whole,
 };
 pub use limits::{
-    LAST_SERIAL, MAX_BEGINS, MAX_DRAFTS, MAX_PASSES, MAX_SEATS, MAX_UNRETIRED, limits_are_these,
+    LAST_SERIAL, MAX_BEGINS, MAX_DRAFTS, MAX_LANES, MAX_MODULES, MAX_PASSES, MAX_SEATS,
+    MAX_UNRETIRED, limits_are_these,
 };
 pub use part::Part;
 pub use plan::{Plan, PlanApp, PlanModule};

@@ -1,5 +1,5 @@
 ghost use Rattle.std.specs.Prelude.{◌≡◌, ◌^◌, ◌-◌};
-ghost use Rattle.cd_legal.specs.declared.limits.TheConstants.{MAX_DRAFTS, MAX_UNRETIRED, LAST_SERIAL, MAX_BEGINS, MAX_SEATS, MAX_PASSES};
+ghost use Rattle.cd_legal.specs.declared.limits.TheConstants.{MAX_DRAFTS, MAX_UNRETIRED, LAST_SERIAL, MAX_BEGINS, MAX_SEATS, MAX_LANES, MAX_PASSES, MAX_MODULES};
 
 /// How many drafts a history may have.
 pub const MAX_DRAFTS: u64 = 18_446_744_073_709_551_615;
@@ -16,8 +16,14 @@ pub const MAX_BEGINS: u64 = 549_755_813_888;
 /// How many passes a hall may have at a time.
 pub const MAX_SEATS: u32 = 64;
 
+/// How many lanes a host may serve at a time, each by a pass of its own; one pass more is the host's.
+pub const MAX_LANES: u32 = 63;
+
 /// How many passes may ever be made of one history.
 pub const MAX_PASSES: u32 = 65_536;
+
+/// How many modules a plan may have. Its apps are one more at most.
+pub const MAX_MODULES: usize = 65_536;
 
 /// The numbers of the limits.
 pub fn limits_are_these()
@@ -26,5 +32,7 @@ pub fn limits_are_these()
     ensures serials { LAST_SERIAL ≡ 2 ^ 24 - 2 }
     ensures begins { MAX_BEGINS ≡ 2 ^ 39 }
     ensures seats { MAX_SEATS ≡ 64 }
+    ensures lanes { MAX_LANES ≡ MAX_SEATS - 1 }
     ensures passes { MAX_PASSES ≡ 65536 }
+    ensures modules { MAX_MODULES ≡ 65536 }
 {}

@@ -2,6 +2,7 @@
 use Rattle.std.proofs.Common.{◌≡◌, ◌≢◌, ◌<◌, remove, ℕ, zero, suc, ◌+◌, ◌≤◌, ◌==◌, ◌&&◌, ◌||◌, not, cond, Bool, true, false, List, [], ◌∷◌, ◌++◌, length, refl, sym, ap, ◌∙◌, arith, subst, slice_get, Option, Some, None, length-append, eq-eqb, drop, ne_eqb, ◌⊎◌, inl, inr, ⊎_elim}
 use Rattle.std.proofs.lemmas.Option.{slice_get_within}
 use Rattle.std.proofs.lemmas.Bool.{eqb-true}
+use Rattle.std.proofs.lemmas.Bool.Decides.{eqb_tells}
 use mathlib.Core.List.{IsPrefix}
 use Rattle.cd_tree.specs.declared.tree.Tree.{Tree}
 use Rattle.cd_legal.specs.declared.entry.Change.{Change}
@@ -20,7 +21,7 @@ use Rattle.cd_legal.proofs.Leaving.{conf_in-change}
 use Rattle.cd_legal.proofs.Histories.{first, legal_from-back, state_from-snoc, entries-snoc}
 use Rattle.cd_life.specs.declared.board.Kept.{Kept}
 use Rattle.cd_life.specs.Changes.{tree_at, tree_of}
-use Rattle.cd_life.specs.Standing.{live_among, is_kept}
+use Rattle.cd_life.specs.Standing.{live_among, is_kept, kept_to, kept_among}
 
 -- ---- one entry more
 
@@ -115,6 +116,7 @@ abbrev pub is_plain : Entry → Bool
 is_plain (Draft d tree plan) = false
 is_plain (Publish d n from c) = false
 is_plain (Abandon d) = false
+is_plain (Retire n) = false
 is_plain e = true
 
 pub live_plain : (s : State) (e : Entry) → is_plain e ≡ true → live_among (after s e).drafts ≡ live_among s.drafts
@@ -123,6 +125,7 @@ live_plain s (Made d i taken failed) is = live_same _ (λ x. refl) s.drafts d
 live_plain s (Started d i taken failed) is = live_same _ (λ x. refl) s.drafts d
 live_plain s (Publish d n from c) is = cc
 live_plain s (Abandon d) is = cc
+live_plain s (Retire n) is = cc
 live_plain s (Stopped d i) is = live_same _ (λ x. refl) s.drafts d
 live_plain s (Cleaned d i) is = live_same _ (λ x. refl) s.drafts d
 live_plain s e is = refl
@@ -175,6 +178,84 @@ pub tree_at_here : {A B : Type 0} {g : _} (ks : List (Kept A B g)) (place n : �
 tree_at_here [] place n k e is = absurd (let f : false ≡ true = some_none k (sym e) in cc)
 tree_at_here (x ∷ ks) zero n k e is = ap (λ z. tree_at (z ∷ ks) n) (some_is x k e) ∙ ap (λ (b : Bool). cond b (Some (tree_of k)) (tree_at ks n)) (eq-eqb k.serial n is)
 tree_at_here (x ∷ ks) (suc place) n k e is = tree_at_here ks place n k e is
+
+-- ---- how many are kept
+
+bit_more : (a b : Bool) → (a ≡ true → b ≡ true) → cond {A = ℕ} a 1 0 ≤ cond {A = ℕ} b 1 0
+bit_more false b imp = omega arith
+bit_more true b imp = rw (imp refl) (let e : 1 ≤ 1 = omega arith in e)
+
+bit_one : (a b : Bool) → cond {A = ℕ} a 1 0 ≤ cond {A = ℕ} b 1 0 + 1
+bit_one true b = omega arith
+bit_one false b = omega arith
+
+-- those that are kept before are kept afterwards
+pub kept_more : (s t : State) (n : ℕ) → ((m : ℕ) → m < n → is_kept s (suc m) ≡ true → is_kept t (suc m) ≡ true) → kept_to s n ≤ kept_to t n
+kept_more s t zero imp = omega arith
+kept_more s t (suc n) imp =
+    let rest = kept_more s t n (λ m lt. imp m (omega (arith, lt))) in
+    let one = bit_more (is_kept s (suc n)) (is_kept t (suc n)) (imp n (omega arith)) in
+    omega (arith, rest, one)
+
+-- all but one of them
+pub kept_less : (s t : State) (gone n : ℕ) → ((m : ℕ) → suc m ≢ gone → is_kept s (suc m) ≡ true → is_kept t (suc m) ≡ true) → kept_to s n ≤ kept_to t n + 1
+kept_less s t gone zero imp = omega arith
+kept_less s t gone (suc n) imp = ⊎_elim
+    (λ q. (let rest = kept_more s t n (λ m lt. imp m (λ (e : suc m ≡ gone). (let here = q.1 in omega (arith, lt, e, here)))) in let one = bit_one (is_kept s (suc n)) (is_kept t (suc n)) in omega (arith, rest, one)))
+    (λ q. (let rest = kept_less s t gone n imp in let one = bit_more (is_kept s (suc n)) (is_kept t (suc n)) (imp n q.1) in omega (arith, rest, one)))
+    (eqb_tells (suc n) gone)
+
+-- entries that publish none and retire none leave as many
+pub kept_plain : (s : State) (e : Entry) → is_plain e ≡ true → kept_among s ≤ kept_among (after s e)
+kept_plain s (Draft d tree plan) is = cc
+kept_plain s (Publish d n from c) is = cc
+kept_plain s (Abandon d) is = cc
+kept_plain s (Retire n) is = cc
+kept_plain s (Made d i taken failed) is = kept_more s (after s (Made d i taken failed)) (length s.published) (λ m lt k. k)
+kept_plain s (Started d i taken failed) is = kept_more s (after s (Started d i taken failed)) (length s.published) (λ m lt k. k)
+kept_plain s (Stopped d i) is = kept_more s (after s (Stopped d i)) (length s.published) (λ m lt k. k)
+kept_plain s (Cleaned d i) is = kept_more s (after s (Cleaned d i)) (length s.published) (λ m lt k. k)
+kept_plain s e is = kept_more s (after s e) (length s.published) (λ m lt k. k)
+
+either : (a b c : Bool) → (a ≡ true → b ≡ true) → (a || c) ≡ true → (b || c) ≡ true
+either true b c imp e = rw (imp refl) refl
+either false true c imp e = refl
+either false false c imp e = e
+
+-- another serial that is not retired stays so
+other_unretired : (m n : ℕ) (ms : List ℕ) → m ≢ n → has_number m (ms ++ n ∷ []) ≡ has_number m ms
+other_unretired m n [] other = ap (λ (b : Bool). b || false) (ne_eqb m n other)
+other_unretired m n (k ∷ ms) other = ap (λ (b : Bool). (m == k) || b) (other_unretired m n ms other)
+
+pub others_kept : (s : State) (n m : ℕ) → m ≢ n → is_kept s m ≡ true → is_kept (after s (Retire n)) m ≡ true
+others_kept s n m other k = ap (λ (b : Bool). not b || (m == length s.published)) (other_unretired m n s.retired other) ∙ k
+
+-- the one that was published last stays kept when it is retired
+pub last_stays : (s : State) (n : ℕ) → n ≡ length s.published → is_kept (after s (Retire n)) n ≡ true
+last_stays s n last = either_right (not (has_number n (s.retired ++ n ∷ []))) (eq-eqb n (length s.published) last)
+  where
+    either_right : (a : Bool) {b : Bool} → b ≡ true → (a || b) ≡ true
+    either_right true e = refl
+    either_right false e = e
+
+-- after a publishing the new one is kept, and those before it that were
+pub published_more : (s : State) (d n : ℕ) (way : Change) → ((m : ℕ) → m ≡ length s.published → has_number m s.retired ≡ false) → kept_among s + 1 ≤ kept_among (after s (Publish d (n + 1) n way))
+published_more s d n way current =
+    let t : State = after s (Publish d (n + 1) n way) in
+    let l : ℕ = length s.published in
+    let more : length (s.published ++ d ∷ []) ≡ suc l = length-append s.published (d ∷ []) ∙ omega arith in
+    let rest : kept_to s l ≤ kept_to t l = kept_more s t l (λ m lt k. unretired_stays (has_number (suc m) s.retired) (suc m == l) (suc m == length (s.published ++ d ∷ [])) (λ e. current (suc m) (eqb-true (suc m) l e)) k) in
+    let new : is_kept t (suc l) ≡ true = last_one (not (has_number (suc l) s.retired)) (eq-eqb (suc l) (length (s.published ++ d ∷ [])) (sym more)) in
+    subst (λ (z : ℕ). kept_to s l + 1 ≤ kept_to t z) (sym more) (subst (λ (b : Bool). kept_to s l + 1 ≤ cond {A = ℕ} b 1 0 + kept_to t l) (sym new) (omega (arith, rest)))
+  where
+    unretired_stays : (r b c : Bool) → (b ≡ true → r ≡ false) → (not r || b) ≡ true → (not r || c) ≡ true
+    unretired_stays false b c current k = refl
+    unretired_stays true true c current k = (let f : true ≡ false = current refl in cc)
+    unretired_stays true false c current k = cc
+
+    last_one : (a : Bool) {b : Bool} → b ≡ true → (a || b) ≡ true
+    last_one true e = refl
+    last_one false e = e
 
 -- ---- what is let go
 

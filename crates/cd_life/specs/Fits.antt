@@ -1,3 +1,4 @@
+-- Part of the main theorem.
 -- The changes by which configurations come, and which histories are of such changes alone.
 use Rattle.std.specs.Prelude.{◌≡◌, List, [], ◌∷◌, slice_get, IfSome, Option, Some, Result, Ok}
 use Rattle.cd_tree.specs.declared.tree.Tree.{Tree}

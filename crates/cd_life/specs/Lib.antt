@@ -1,4 +1,5 @@
 pub mod Changes
+pub mod Origins
 pub mod Shares
 pub mod Fits
 pub mod Standing

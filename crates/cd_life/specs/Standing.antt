@@ -1,5 +1,6 @@
+-- Part of the main theorem.
 -- Which histories a board stands for.
-use Rattle.std.specs.Prelude.{◌≡◌, ℕ, ◌+◌, ◌<◌, ◌≤◌, ◌==◌, ◌||◌, Bool, true, false, not, cond, List, [], ◌∷◌, ◌++◌, length, Option, Some, None, Result}
+use Rattle.std.specs.Prelude.{◌≡◌, ℕ, zero, suc, ◌+◌, ◌<◌, ◌≤◌, ◌==◌, ◌||◌, Bool, true, false, not, cond, List, [], ◌∷◌, ◌++◌, length, Option, Some, None, Result}
 use Rattle.std.specs.Vec.{vec_len, vec_capacity}
 use Rattle.cd_outside.specs.declared.fixtures.FixtureCall.{FixtureCall}
 use Rattle.cd_outside.specs.Counts.{Covers}
@@ -30,14 +31,24 @@ live_among (x ∷ xs) = cond (is_live x.life) 1 0 + live_among xs
 abbrev pub is_kept : State → ℕ → Bool
 is_kept s n = not (has_number n s.retired) || (n == length s.published)
 
+-- how many of the serials 1 to n are kept
+abbrev pub kept_to : State → ℕ → ℕ
+kept_to s zero = 0
+kept_to s (suc n) = cond (is_kept s (suc n)) 1 0 + kept_to s n
+
+-- how many configurations are kept
+abbrev pub kept_among : State → ℕ
+kept_among s = kept_to s (length s.published)
+
 -- what was published last, or the opening configuration where nothing was
 abbrev pub last_published : State → Conf
 last_published s = conf_at false s.drafts (last_of s.published)
 
--- each configuration of the state that is not retired is kept, as is the one that was published last; and there is room for each
--- live draft to be kept too
+-- each configuration of the state that is not retired is kept, as is the one that was published last, and no other; and there is
+-- room for each live draft to be kept too
 pub record Shelves {A F B : Type 0} {g : _} (b : Board A F B g) (s : State) : Type 0 where
   pub kept : (n : ℕ) (tree : Tree) → conf_of s n ≡ Conf.Of tree → is_kept s n ≡ true → tree_at b.kept.items n ≡ Some tree
+  pub most : vec_len b.kept ≤ kept_among s
   pub later : (n : ℕ) → s.serial < n → tree_at b.kept.items n ≡ None
   pub live : live_among s.drafts ≡ b.live
   pub room : vec_len b.kept + b.live ≤ vec_capacity b.kept

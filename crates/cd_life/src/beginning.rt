@@ -1,4 +1,5 @@
 ghost use Rattle.std.specs.Prelude.{◌≡◌, ◌<◌, ◌≤◌, [], IfOk, IfErr, length};
+ghost use Rattle.cd_legal.specs.declared.limits.TheConstants.{MAX_PASSES};
 ghost use Rattle.cd_desk.specs.Desks.{none_open};
 ghost use Rattle.cd_life.specs.Standing.{Stood};
 
@@ -26,10 +27,10 @@ fn nothing<M: ModuleSet>(alloc: Global) -> Result<Arc<Nothing<M>>, NoMemory> {
 
 impl<M: ModuleSet, F: Fixtures> Board<M, F> {
     /// A board at which nothing has happened, with places for the requests of the callers 0 to `callers` - 1, of which there
-    /// are 1 to 65,536.
+    /// are 1 to `MAX_PASSES`.
     pub fn new(alloc: Global, fixtures: F, callers: u32) -> Result<Board<M, F>, NoBoard<F>>
         requires some { 0 < callers }
-        requires few { callers ≤ 65536 }
+        requires few { callers ≤ MAX_PASSES }
         ensures stands { IfOk result (λ board. Stood F.calls F.faults M.plan M.change board board []) }
         ensures fixtures { IfOk result (λ board. board.desk.fixtures ≡ fixtures) }
         ensures callers { IfOk result (λ board. length board.desk.tickets.by_caller.items ≡ callers) }

@@ -1,7 +1,7 @@
 ghost use Rattle.std.specs.Prelude.{◌≡◌, ◌<◌, ◌≤◌, ◌+◌, ◌^◌, ℕ, Err, Some, None, IfOk, IfErr, OnErr, is_err, false, slice_get, length};
 ghost use Rattle.std.specs.Arc.{arc_value};
 ghost use Rattle.cd_outside.specs.Counts.{Rose};
-ghost use Rattle.cd_legal.specs.declared.limits.TheConstants.{MAX_DRAFTS};
+ghost use Rattle.cd_legal.specs.declared.limits.TheConstants.{MAX_DRAFTS, MAX_MODULES};
 ghost use Rattle.cd_legal.specs.declared.entry.Entry.TheVariants as entry;
 ghost use Rattle.cd_desk.specs.declared.drafts.DraftFault.TheVariants as fault;
 ghost use Rattle.cd_desk.specs.Instances.{failed_in};
@@ -10,13 +10,15 @@ ghost use Rattle.cd_desk.specs.Drafting.{drafts_in};
 ghost use Rattle.cd_desk.specs.Lefts.{IsLeft, one_made, one_started, step_at};
 ghost use Rattle.cd_life.specs.Changes.{conf_here};
 ghost use Rattle.cd_life.specs.Fits.{Suits};
+ghost use Rattle.cd_life.specs.Origins.{change_of};
 ghost use Rattle.cd_life.specs.Rooms.{KeepsRoom};
 ghost use Rattle.cd_life.specs.Standing.{Adds, Keeps};
 
 use crate::board::{Board, Draft};
 use crate::kept::keep;
+use crate::origin::Origin;
 use cd_desk::{DraftFault, Left, Step};
-use cd_legal::{Change, Plan};
+use cd_legal::Plan;
 use cd_module_set::{Loaded, ModuleSet};
 use cd_outside::{Fixtures, Key};
 use std::alloc::Global;
@@ -24,8 +26,8 @@ use std::sync::Arc;
 
 // What is left of a new draft.
 fn new_left(number: u64, plan: &Plan) -> Left
-    requires modules { length plan.now.modules ≤ 65536 }
-    requires apps { length plan.now.apps ≤ 65537 }
+    requires modules { length plan.now.modules ≤ MAX_MODULES }
+    requires apps { length plan.now.apps ≤ MAX_MODULES + 1 }
     ensures { result ≡ record { number = number; made = 0; modules = length plan.now.modules; started = 0; apps = length plan.now.apps; failed = false } }
 {
     Left {
@@ -105,7 +107,7 @@ impl<M: ModuleSet, F: Fixtures> Board<M, F> {
     /// Makes a complete draft the configuration with the next serial. It takes no memory.
     ///
     /// The first one comes by no request. Each other one has the tree that its request makes of the tree of the serial before.
-    pub fn publish(&mut self, draft: Draft<M>, from: u32, change: Change)
+    pub fn publish(&mut self, draft: Draft<M>, from: u32, origin: Origin)
         requires draft { IsLeft self.old.desk.books (arc_value draft.loaded).tree draft.left }
         requires made { draft.left.made ≡ draft.left.modules }
         requires started { draft.left.started ≡ draft.left.apps }
@@ -113,13 +115,13 @@ impl<M: ModuleSet, F: Fixtures> Board<M, F> {
         requires running { self.old.desk.halted ≡ false }
         requires current { from ≡ self.old.desk.serial }
         requires bound { from + 1 < 2 ^ 32 }
-        requires change { Suits M.change (conf_here self.old from) change (arc_value draft.loaded).tree }
-        ensures entry { Adds F.calls F.faults M.plan M.change self.old self.new (entry.Publish draft.left.number (from + 1) from change) }
+        requires change { Suits M.change (conf_here self.old from) (change_of origin) (arc_value draft.loaded).tree }
+        ensures entry { Adds F.calls F.faults M.plan M.change self.old self.new (entry.Publish draft.left.number (from + 1) from (change_of origin)) }
         ensures serial { self.new.desk.serial ≡ from + 1 }
         ensures room { KeepsRoom self.old self.new }
     {
         let Draft { left, loaded } = draft;
-        drop(change);
+        drop(origin);
         self.desk.publish(left.number);
         let serial = self.desk.serial;
         self.live = self.live.saturating_sub(1);
@@ -139,7 +141,8 @@ impl<M: ModuleSet, F: Fixtures> Board<M, F> {
     /// Ends the request of a caller.
     pub fn finish(&mut self, caller: u32)
         requires { HasTicket self.old.desk.tickets.by_caller.items caller }
-        ensures { Adds F.calls F.faults M.plan M.change self.old self.new (entry.Finish caller) }
+        ensures entry { Adds F.calls F.faults M.plan M.change self.old self.new (entry.Finish caller) }
+        ensures room { KeepsRoom self.old self.new }
     {
         self.desk.finish(caller);
     }

@@ -10,6 +10,7 @@ ghost use Rattle.cd_desk.specs.declared.left.Left.{Left};
 ghost use Rattle.cd_desk.specs.Drafting.{drafts_in};
 ghost use Rattle.cd_desk.specs.Lefts.{IsLeft, step_at};
 ghost use Rattle.cd_desk.specs.Closings.{IsClosing, MayClean, CanRetire, Leaves};
+ghost use Rattle.cd_desk.specs.Clearing.{IsCleared};
 ghost use Rattle.cd_desk.specs.Trimming.{IsTrimmed};
 ghost use Rattle.cd_life.specs.Rooms.{KeepsRoom};
 ghost use Rattle.cd_life.specs.Standing.{Stood, Adds, Keeps};
@@ -76,8 +77,8 @@ impl<M: ModuleSet, F: Fixtures> Board<M, F> {
         self.desk.clean(closing)
     }
 
-    /// Spends a closing of which nothing is left, and lets go of what is kept of closed drafts, up to the first draft that is not
-    /// closed. It adds no entry, and takes no memory.
+    /// Spends a closing of which nothing is left, and lets go of what is kept of its draft. The rows of closed drafts go too, up to
+    /// the first draft that is not closed. It adds no entry, and takes no memory.
     pub fn closed(&mut self, closing: Closing)
         requires apps { closing.apps ≡ 0 }
         requires instances { closing.instances ≡ 0 }
@@ -89,6 +90,7 @@ impl<M: ModuleSet, F: Fixtures> Board<M, F> {
         ensures clean { (draft : ℕ) → MayClean self.old.desk.books draft → MayClean self.new.desk.books draft }
         ensures retire { (serial : ℕ) → CanRetire self.old.desk serial → CanRetire self.new.desk serial }
         ensures trimmed { IsTrimmed self.new.desk.books }
+        ensures cleared { IsCleared self.new.desk.books closing.number }
         ensures room { KeepsRoom self.old self.new }
     {
         self.desk.closed(closing);
@@ -118,7 +120,8 @@ impl<M: ModuleSet, F: Fixtures> Board<M, F> {
     /// the one that was published last is kept to the end.
     pub fn retire(&mut self, serial: u32)
         requires { CanRetire self.old.desk serial }
-        ensures { Adds F.calls F.faults M.plan M.change self.old self.new (entry.Retire serial) }
+        ensures entry { Adds F.calls F.faults M.plan M.change self.old self.new (entry.Retire serial) }
+        ensures room { KeepsRoom self.old self.new }
     {
         let last = is_last_published(self.desk.halted, self.desk.serial, serial);
         self.desk.retire(serial);

@@ -1,5 +1,6 @@
-ghost use Rattle.std.specs.Prelude.{◌≡◌, ◌≢◌, ◌<◌, ◌≤◌, ◌+◌, ◌++◌, ◌∷◌, [], ℕ};
+ghost use Rattle.std.specs.Prelude.{◌≡◌, ◌≢◌, ◌<◌, ◌≤◌, ◌+◌, ◌++◌, ◌∷◌, [], ℕ, Some};
 ghost use Rattle.std.specs.Vec.{vec_len, vec_capacity};
+ghost use Rattle.cd_tree.specs.declared.tree.Tree.{Tree};
 ghost use Rattle.cd_life.specs.Changes.{IsPlaceOf, tree_at};
 
 use crate::board::Kept;
@@ -33,6 +34,7 @@ pub(crate) fn keep<M: ModuleSet>(kept: &mut Vec<Kept<M>>, serial: u32, loaded: A
 pub(crate) fn forget<M: ModuleSet>(kept: &mut Vec<Kept<M>>, serial: u32)
     ensures others { (n : ℕ) → n ≢ serial → tree_at kept.new.items n ≡ tree_at kept.old.items n }
     ensures len { vec_len kept.new ≤ vec_len kept.old }
+    ensures gone { (tree : Tree) → tree_at kept.old.items serial ≡ Some tree → vec_len kept.new + 1 ≡ vec_len kept.old }
     ensures capacity { vec_capacity kept.new ≡ vec_capacity kept.old }
 {
     if let Some(place) = place_of(kept.as_slice(), serial) {

@@ -7,8 +7,8 @@
 //!
 //! Files: beginning.rt makes a board and boarding.rt is the life of a draft up to its publishing; closing.rt stops and cleans what
 //! was given up or superseded, retires serials, and halts; sharing.rt gives configurations out; kept.rt finds them, and lets them
-//! go; readers.rt tells what stands, and progress.rt how far a draft has come; ending.rt ends a board of which nothing is left, and
-//! over.rt says after which histories.
+//! go; origin.rt says where one comes from; readers.rt tells what stands, and progress.rt how far a draft has come; ending.rt ends
+//! a board of which nothing is left, and over.rt says after which histories.
 #![tactic(auto)]
 
 mod beginning;
@@ -16,7 +16,9 @@ mod board;
 mod boarding;
 mod closing;
 mod ending;
+mod examples;
 mod kept;
+mod origin;
 mod over;
 mod progress;
 mod readers;
@@ -28,6 +30,8 @@ mod stands;
 pub use beginning::NoBoard;
 pub use board::{Board, Draft};
 pub use cd_desk::{Closing, DraftFault, Left, Step};
+pub use examples::configurations_are_kept_until_they_are_retired;
+pub use origin::Origin;
 pub use over::what_is_over_has_ended;
 pub use share::Nothing;
 pub use shares::Share;

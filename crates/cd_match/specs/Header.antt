@@ -1,3 +1,4 @@
+-- Part of the main theorem.
 -- The matcher `header`: fields of the request (Caddy, JSON Config Structure, http.matchers.header).
 use Rattle.std.specs.Prelude.{ℕ, ◌==◌, not, Bool, if◌then◌else◌, List, [], ◌∷◌, length, Option, Some, None, Ok}
 use Rattle.std.specs.List.{list_any, list_all}

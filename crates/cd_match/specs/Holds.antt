@@ -1,3 +1,4 @@
+-- Part of the main theorem.
 -- Whether a route's matchers hold (Caddy, JSON Config Structure, http.matchers).
 use Rattle.std.specs.Prelude.{Bool, true, List, [], ◌∷◌}
 use Rattle.std.specs.List.{list_all, list_any}

@@ -1,3 +1,4 @@
+-- Part of the main theorem.
 -- The matcher `host`: the host that is asked for (Caddy, JSON Config Structure, http.matchers.host).
 use Rattle.std.specs.Prelude.{ℕ, ◌==◌, ◌||◌, Bool, List, codes, Ok}
 use Rattle.std.specs.Cmp.Lexicographic.{pointwise}

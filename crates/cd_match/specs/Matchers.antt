@@ -1,3 +1,4 @@
+-- Part of the main theorem.
 -- The settings of matchers in a tree, and the first fault there.
 use Rattle.std.specs.Prelude.{ℕ, List, ◌++◌, codes, Option, Some, None, Ok, Err}
 use Rattle.cd_text.specs.Steps.{◌▷◌}

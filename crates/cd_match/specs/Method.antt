@@ -1,3 +1,4 @@
+-- Part of the main theorem.
 -- The matcher `method`: the method of the request (Caddy, JSON Config Structure, http.matchers.method).
 use Rattle.std.specs.Prelude.{Bool, Ok}
 use Rattle.std.specs.List.{list_any}

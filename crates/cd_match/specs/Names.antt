@@ -1,3 +1,4 @@
+-- Part of the main theorem.
 -- The names of matchers (Caddy, JSON Config Structure, http.matchers).
 use Rattle.std.specs.Prelude.{ℕ, List, [], ◌∷◌, codes, Option}
 use Rattle.std.specs.List.{find}

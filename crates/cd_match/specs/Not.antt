@@ -1,3 +1,4 @@
+-- Part of the main theorem.
 -- The matcher `not`: none of its sets holds (Caddy, JSON Config Structure, http.matchers.not).
 use Rattle.std.specs.Prelude.{Bool, not, List, Ok}
 use Rattle.std.specs.List.{list_any}

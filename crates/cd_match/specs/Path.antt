@@ -1,3 +1,4 @@
+-- Part of the main theorem.
 -- The matcher `path`: the path that is asked for, as handlers have left it (Caddy, JSON Config Structure, http.matchers.path).
 use Rattle.std.specs.Prelude.{ℕ, ◌==◌, Bool, if◌then◌else◌, Ok, Err}
 use Rattle.std.specs.List.{list_any}

@@ -1,3 +1,4 @@
+-- Part of the main theorem.
 -- The matcher `query`: keys and values of the query (Caddy, JSON Config Structure, http.matchers.query).
 use Rattle.std.specs.Prelude.{ℕ, ◌==◌, ◌||◌, Bool, List, [], ◌∷◌, length, codes, unwrap_or, Ok}
 use Rattle.std.specs.List.{list_any, list_all}

@@ -1,3 +1,4 @@
+-- Part of the main theorem.
 -- The matcher `vars`: variables and placeholders (Caddy, JSON Config Structure, http.matchers.vars).
 use Rattle.std.specs.Prelude.{ℕ, Bool, false, if◌then◌else◌, List, codes, Result, Ok, Err}
 use Rattle.std.specs.List.{list_any, list_all}

@@ -1,3 +1,4 @@
+-- Part of the main theorem.
 -- The faults of settings.
 use Rattle.std.specs.Prelude.{ℕ, nat_le, if◌then◌else◌, List, [], Result, Ok, Err}
 use Rattle.cd_tree.specs.declared.path.Path.{Path}

@@ -1,3 +1,4 @@
+-- Part of the main theorem.
 -- What there may be only so much of in a configuration.
 use Rattle.std.specs.Prelude.{ℕ, List, codes}
 use Rattle.cd_module.specs.declared.limits.Limit.{Limit}

@@ -1,3 +1,4 @@
+-- Part of the main theorem.
 -- Texts in which a `*` stands for any bytes (Caddy, JSON Config Structure, http.matchers.path and http.matchers.header).
 use Rattle.std.specs.Prelude.{ℕ, ◌-◌, ◌||◌, Bool, if◌then◌else◌, List, [], ◌∷◌, length, take, drop, codes, nat_eq, Ok}
 use Rattle.std.specs.List.{starts_with, ends_with}

@@ -1,3 +1,4 @@
+-- Part of the main theorem.
 -- Readers that read values inside by themselves.
 use Rattle.std.specs.Prelude.{◌≡◌, ◌<◌, ℕ, zero, suc, Err}
 use Rattle.cd_tree.specs.Tree.{depth}

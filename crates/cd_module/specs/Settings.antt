@@ -1,3 +1,4 @@
+-- Part of the main theorem.
 -- How settings are read out of a tree: each reader gives the settings at a place, or the first fault there.
 use Rattle.std.specs.Prelude.{ℕ, suc, ◌&&◌, not, if◌then◌else◌, codes, Bool, List, [], ◌∷◌, ◌++◌, Option, Some, None, Result, Ok, Err, decimal}
 use Rattle.std.specs.Result.{result_map_both}

@@ -1,3 +1,4 @@
+-- Part of the main theorem.
 -- The words of refusals.
 use Rattle.std.specs.Prelude.{ℕ, List, ◌++◌, codes}
 use Rattle.cd_tree.specs.Path.{written}

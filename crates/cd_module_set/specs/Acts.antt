@@ -1,3 +1,4 @@
+-- Part of the main theorem.
 -- What a configuration does: who answers at an address, with what, and what is logged of it.
 use Rattle.std.specs.Prelude.{◌≡◌, false, List, [], Option, Some, None}
 use Rattle.cd_outside.specs.declared.address.Address.{Address}

@@ -9,10 +9,12 @@
 //! no call of the trait computes it.
 #![tactic(auto)]
 
+mod laws;
 mod loaded;
 mod set;
 mod target;
 
+pub use laws::plans_have_as_many_modules;
 pub use loaded::Loaded;
 pub use set::ModuleSet;
 pub use target::{Line, Target};

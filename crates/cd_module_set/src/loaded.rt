@@ -11,7 +11,7 @@ use cd_tree::Tree;
 /// form.
 pub struct Loaded<M: ModuleSet> {
     pub tree: Tree,
-    /// Which modules are made, and which apps are started: at most 65,536 modules, and one app more.
+    /// Which modules are made, and which apps are started: at most `MAX_MODULES` modules, and one app more.
     pub plan: Plan,
     pub compiled: M::Compiled,
     pub ghost sound: { IsSound tree },

@@ -1,3 +1,4 @@
+-- Part of the main theorem.
 -- Counts that rise, and stay at their end once they have come so far.
 use Rattle.std.specs.Prelude.{ℕ, ◌+◌, ◌-◌, ◌^◌, ◌≤◌, ◌<◌, min}
 

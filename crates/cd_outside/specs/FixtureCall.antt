@@ -1,3 +1,4 @@
+-- Part of the main theorem.
 -- What fixtures tell of their calls, and what these leave open.
 use Rattle.std.specs.Prelude.{◌≡◌, Bool, true, false, cond, List, [], ◌∷◌, ◌++◌, Option, Some, option_map, IfSome}
 use Rattle.cd_outside.specs.Keys.{key_eq}

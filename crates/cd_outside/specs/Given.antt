@@ -1,3 +1,4 @@
+-- Part of the main theorem.
 -- What a write answers.
 use Rattle.std.specs.Prelude.{◌≡◌, ◌<◌, ℕ, List, length, take}
 use Rattle.cd_outside.specs.declared.given.Given.{Given}

@@ -1,3 +1,4 @@
+-- Part of the main theorem.
 -- When keys and holders are the same, and which keys a list of pairs has.
 use Rattle.std.specs.Prelude.{ℕ, ◌+◌, ◌==◌, Bool, true, false, ◌&&◌, ◌||◌, not, List, [], ◌∷◌, ◌++◌, bytes_eq, cond, map}
 use Rattle.cd_outside.specs.declared.key.Key.{Key}

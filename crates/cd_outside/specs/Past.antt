@@ -1,3 +1,4 @@
+-- Part of the main theorem.
 -- How each call on a lane adds to its past.
 use Rattle.std.specs.Prelude.{◌++◌, ℕ, Bool, true, false, List, [], ◌∷◌, length, take, Some}
 use Rattle.cd_outside.specs.Counts.{raised}

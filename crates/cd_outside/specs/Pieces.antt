@@ -1,3 +1,4 @@
+-- Part of the main theorem.
 -- Pieces of bytes that are read one after another.
 use Rattle.std.specs.Prelude.{◌≡◌, ℕ, List, [], ◌∷◌, length, take, drop, min}
 use Rattle.cd_outside.specs.declared.taken.Taken.{Taken}

@@ -1,3 +1,4 @@
+-- Part of the main theorem.
 -- How far pieces were read, by a place among them and a number of bytes.
 use Rattle.std.specs.Prelude.{ℕ, List, drop}
 use Rattle.cd_outside.specs.Pieces.{first_piece, left_after}

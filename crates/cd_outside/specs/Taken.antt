@@ -1,3 +1,4 @@
+-- Part of the main theorem.
 -- What a read answers.
 use Rattle.std.specs.Prelude.{◌≡◌, ◌≤◌, ℕ, List, [], take, Option, Some, None}
 use Rattle.cd_outside.specs.declared.taken.Taken.{Taken}

@@ -1,3 +1,4 @@
+-- Part of the main theorem.
 -- The tree that an edit makes.
 use Rattle.std.specs.Prelude.{ℕ, suc, ◌&&◌, not, nat_lt, Bool, true, false, if◌then◌else◌, List, [], ◌∷◌, ◌++◌, length, slice_index_or, slice_set, insert, remove, Option, Some, None, is_none, unwrap_or, option_and_then, Result, Ok, Err}
 use Rattle.std.specs.Str.{bytes_eq}

@@ -1,3 +1,4 @@
+-- Part of the main theorem.
 -- What stands in a tree at a path.
 use Rattle.std.specs.Prelude.{ℕ, ◌-◌, Bool, false, if◌then◌else◌, List, [], ◌∷◌, length, slice_get, codes, Option, Some, None, unwrap_or, Result, Ok, Err}
 use Rattle.std.specs.Str.{bytes_eq}

@@ -1,3 +1,4 @@
+-- Part of the main theorem.
 -- The members of an object with another value at one key.
 use Rattle.std.specs.Prelude.{ℕ, Bool, List, [], ◌∷◌, ◌++◌, filter, Option, Some, None}
 use Rattle.std.specs.Ordering.{nat_cmp, is_lt, is_gt}

@@ -1,3 +1,4 @@
+-- Part of the main theorem.
 -- Positions: decimals that name the elements of a list.
 use Rattle.std.specs.Prelude.{ℕ, ◌+◌, ◌-◌, ◌*◌, ◌&&◌, ◌||◌, ◌==◌, not, nat_lt, Bool, false, if◌then◌else◌, List, [], ◌∷◌, length, Option, Some, None, Result, Ok, Err, fold}
 use Rattle.std.specs.Char.{is_ascii_digit}

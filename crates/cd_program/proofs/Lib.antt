@@ -4,5 +4,6 @@ mod Numbers
 mod Loading
 mod Unpublished
 mod RunEnds
-mod Clauses
+mod Declined
 mod Storms
+mod Examples

@@ -17,7 +17,8 @@ use Rattle.cd_standard.specs.Plans.{plan_of}
 use Rattle.cd_program.specs.declared.initial.Initial.{Initial}
 use Rattle.cd_program.specs.declared.initial.Initial.TheVariants.{OfFile, Null}
 use Rattle.cd_program.specs.Configuration.{configured, if_planned}
-use Rattle.cd_program.specs.Top.{Begins, Loads}
+use Rattle.cd_program.specs.Seen.{Device}
+use Rattle.cd_program.specs.Top.{Begins, Loads, NullMayRun}
 use Rattle.cd_program.specs.Words.{is_of_file}
 use Rattle.cd_program.specs.declared.refusal.Refusal.{Refusal}
 use Rattle.cd_program.specs.declared.refusal.Refusal.TheVariants.{NoTree}
@@ -50,22 +51,21 @@ all_loaded plan bytes (Some left) found loads =
     read_so plan loads.bytes bytes left (Some-injective loads.gave.given) loads.gave.all ∙ loads.is
 all_loaded plan bytes None found loads = let none = loads.gave.given in cc
 
--- where null is a configuration, one that is refused is that of a file
-pub refused_of_file : (plan : Tree → Result Plan LoadFault) → ((refusal : Refusal) → if_planned tree.Null (plan tree.Null) ≡ Err refusal → ⊥)
-    → (initial : Initial) (old new : Option (List ℕ)) (refusal : Refusal) → Begins plan initial old new (Err refusal) → (is_of_file initial ≡ true) × Loads plan old new (Err refusal)
-refused_of_file plan fine OfFile old new refusal loads = (refl, loads)
-refused_of_file plan fine Null old new refusal is = absurd (fine refusal is)
+apart : (t : Tree) (refusal : Refusal) → ◌≡◌ {A = Result Tree Refusal} (Ok t) (Err refusal) → ⊥
+apart t refusal e = cc
+
+-- where the tree null may run, what is refused is that of a file
+pub refused_of_file : (plan : Tree → Result Plan LoadFault) → NullMayRun plan
+    → (initial : Initial) (source : Device (List ℕ)) (refusal : Refusal) → Begins plan initial source (Err refusal) → (is_of_file initial ≡ true) × Loads plan source.told_before source.told_now (Err refusal)
+refused_of_file plan fine OfFile source refusal loads = (refl, loads)
+refused_of_file plan fine Null source refusal is = absurd (apart tree.Null refusal (sym fine ∙ is))
 
 loaded_null : loaded tree.Null ≡ Ok (planned nothing_said)
 unfolding loaded
 loaded_null = search (rules, the_lemmas)
 
-apart : (t : Tree) (refusal : Refusal) → ◌≡◌ {A = Result Tree Refusal} (Ok t) (Err refusal) → ⊥
-apart t refusal e = cc
-
--- the tree null is a configuration of the standard modules
-pub null_is_fine : (refusal : Refusal) → if_planned tree.Null (plan_of_tree tree.Null) ≡ Err refusal → ⊥
-null_is_fine refusal is =
+-- the tree null may run by the standard modules
+pub null_may_run : NullMayRun plan_of_tree
+null_may_run =
     let plans : plan_of_tree tree.Null ≡ Ok (plan_of nothing_said) = ap (result_map_both (λ configured. configured.plan) (λ fault. fault)) loaded_null in
-    let fine : if_planned tree.Null (plan_of_tree tree.Null) ≡ Ok tree.Null = ap (if_planned tree.Null) plans in
-    apart tree.Null refusal (sym fine ∙ is)
+    ap (if_planned tree.Null) plans

@@ -20,13 +20,13 @@ pub wrote_line : (how : Given) (line bytes part : List ℕ) (complete : Type 0) 
 wrote_line given.All line bytes part complete old new same is held failed = record {
   text = part;
   held = held;
-  front = ([], sym (is ∙ same) ∙ sym (append-nil part));
+  front = ([], append-nil part ∙ (is ∙ same));
   all = λ claim. is ∙ same;
 }
 wrote_line given.Failed line bytes part complete old new same is held failed = record {
   text = part;
   held = held;
-  front = (drop is.0 bytes, sym same ∙ sym (take-append-drop is.0 bytes) ∙ ap (λ (x : List ℕ). x ++ drop is.0 bytes) (sym is.2));
+  front = (drop is.0 bytes, ap (λ (x : List ℕ). x ++ drop is.0 bytes) is.2 ∙ take-append-drop is.0 bytes ∙ same);
   all = λ claim. absurd (failed refl claim);
 }
 
@@ -35,7 +35,7 @@ pub wrote_part : (first second part : List ℕ) (complete : Type 0) (old new : O
 wrote_part first second part complete old new is held no_claim = record {
   text = part;
   held = held;
-  front = (drop is.0 first ++ second, ap (λ (x : List ℕ). x ++ second) (sym (take-append-drop is.0 first)) ∙ append_assoc (take is.0 first) (drop is.0 first) second ∙ ap (λ (x : List ℕ). x ++ (drop is.0 first ++ second)) (sym is.2));
+  front = (drop is.0 first ++ second, ap (λ (x : List ℕ). x ++ (drop is.0 first ++ second)) is.2 ∙ sym (append_assoc (take is.0 first) (drop is.0 first) second) ∙ ap (λ (x : List ℕ). x ++ second) (take-append-drop is.0 first));
   all = λ claim. absurd (no_claim claim);
 }
 
@@ -44,7 +44,7 @@ pub wrote_more : (first second part : List ℕ) (complete : Type 0) (old then ne
 wrote_more first second part complete old then new is held more = record {
   text = part ++ more.text;
   held = both_steps (λ (h : List ℕ). h ++ part) (λ (h : List ℕ). h ++ more.text) (λ (h : List ℕ). h ++ (part ++ more.text)) old then new held more.held (λ h. append_assoc h part more.text);
-  front = (more.front.0, ap (λ (x : List ℕ). first ++ x) more.front.1 ∙ sym (append_assoc first more.text more.front.0) ∙ ap (λ (x : List ℕ). (x ++ more.text) ++ more.front.0) (sym is));
+  front = (more.front.0, ap (λ (x : List ℕ). (x ++ more.text) ++ more.front.0) is ∙ append_assoc first more.text more.front.0 ∙ ap (λ (x : List ℕ). first ++ x) more.front.1);
   all = λ claim. ap (λ (x : List ℕ). x ++ more.text) is ∙ ap (λ (x : List ℕ). first ++ x) (more.all claim);
 }
 

@@ -20,7 +20,7 @@ use Rattle.cd_serve.specs.Episodes.{another_halted}
 use Rattle.cd_serve.specs.Meanings.{Meaning}
 use Rattle.cd_host.specs.Parts.{HasParts, IsAlone, end_entries}
 use Rattle.cd_host.specs.Program.{Start, start_entries, halt_entries}
-use Rattle.cd_host.specs.Runs.{Given, Ran}
+use Rattle.cd_host.specs.Runs.{Observed, Ran}
 
 -- two lists that publish nothing
 none-both : (xs ys : List Entry) → publishings xs ≡ 0 → publishings ys ≡ 0 → publishings (xs ++ ys) ≡ 0
@@ -127,7 +127,7 @@ lanes-none first plan start history parts alone =
     each own other zero = own
     each own other (suc k) = other (suc k) (omega arith)
 
-pub refused-publishes-nothing : (m : Meaning) (first : Tree) (failure : Failure) (key : Key) (given : Given) → Ran m first (Start.refused failure key) false given → given.published ≡ 0
+pub refused-publishes-nothing : (m : Meaning) (first : Tree) (failure : Failure) (key : Key) (given : Observed) → Ran m first (Start.refused failure key) false given → given.published ≡ 0
 refused-publishes-nothing m first failure key given ran =
     let parts = ran.parts in
     let start : List Entry = start_entries first ran.plan (Start.refused failure key) in

@@ -1,3 +1,4 @@
+-- Part of the main theorem.
 -- What the bytes of a configuration come to, by what a set of modules finds in trees.
 use Rattle.std.specs.Prelude.{ℕ, List, [], codes, Result, Ok, Err}
 use Rattle.cd_text.specs.Steps.{◌▷◌}

@@ -1,10 +1,13 @@
+-- Part of the main theorem.
 -- What is written on the program's own output.
 use Rattle.std.specs.Prelude.{◌≡◌, ◌<◌, ◌++◌, ℕ, List, length, codes, decimal, Option, Some, option_map}
+use mathlib.Core.List.{IsPrefix}
 use Rattle.cd_outside.specs.declared.key.Key.{Key}
 use Rattle.cd_outside.specs.declared.given.Given.TheVariants as given
 use Rattle.cd_outside.specs.Given.{IsGivenOf}
 use Rattle.cd_serve.specs.Faults.{key_words}
 use Rattle.cd_host.specs.Hosting.{serving_line}
+use Rattle.cd_program.specs.Seen.{Device, HasFailed}
 
 -- so many requests were answered under so many configurations
 unfoldable pub served_line : ℕ → ℕ → List ℕ
@@ -40,13 +43,17 @@ pub record FellShort (line : List ℕ) (old new : Option (List ℕ)) : Type 0 wh
 abbrev pub WroteLess : List ℕ → Option (List ℕ) → Option (List ℕ) → Type 0
 WroteLess line old new = (part : List ℕ) × IsGivenOf given.Failed part line × (new ≡ option_map (λ held. held ++ part) old)
 
--- the whole begins so
-abbrev pub IsFrontOf : List ℕ → List ℕ → Type 0
-IsFrontOf front whole = (rest : List ℕ) × (whole ≡ front ++ rest)
-
--- a sink was given a text from the front of the whole, and all of it if `complete`
+-- a sink was given a prefix of the whole, and all of it if `complete`
 pub record Wrote (whole : List ℕ) (complete : Type 0) (old new : Option (List ℕ)) : Type 0 where
   pub text : List ℕ
   pub held : new ≡ option_map (λ held. held ++ text) old
-  pub front : IsFrontOf text whole
+  pub front : IsPrefix text whole
   pub all : complete → text ≡ whole
+
+-- so the output
+abbrev pub Writes : List ℕ → Type 0 → Device (List ℕ) → Type 0
+Writes whole complete output = Wrote whole complete output.told_before output.told_now
+
+-- the output was given a prefix of the line, and all of it where no call on it has failed
+abbrev pub Says : List ℕ → Device (List ℕ) → Type 0
+Says line output = Writes line (¬ (HasFailed output)) output

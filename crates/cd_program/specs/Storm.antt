@@ -1,5 +1,6 @@
+-- Part of the main theorem.
 -- What `storm N` does, and the line that it writes.
-use Rattle.std.specs.Prelude.{◌≡◌, ◌++◌, ◌==◌, ℕ, Bool, true, List, [], codes, decimal, map, All, Option, Some, Ok}
+use Rattle.std.specs.Prelude.{◌≡◌, ◌++◌, ◌==◌, ℕ, Bool, true, List, [], length, codes, decimal, map, All, Option, Some, Ok}
 use Rattle.std.specs.List.{list_all}
 use Rattle.cd_outside.specs.declared.memory_lane.MemoryLane.{MemoryLane}
 use Rattle.cd_tree.specs.declared.path.Path.{Path}
@@ -14,9 +15,12 @@ use Rattle.cd_serve.specs.Meanings.{Meaning}
 use Rattle.cd_host.specs.declared.host_end.HostHow.{HostHow}
 use Rattle.cd_host.specs.declared.host_end.HostHow.TheVariants as how
 use Rattle.cd_host.specs.Program.{Start}
-use Rattle.cd_host.specs.Runs.{Given, Ran}
+use Rattle.cd_host.specs.Runs.{Observed, Ran}
 use Rattle.cd_host.specs.Seated.{spans}
-use Rattle.cd_program.specs.Output.{Wrote}
+use Rattle.cd_program.specs.declared.status.Status.{Status}
+use Rattle.cd_program.specs.declared.status.Status.TheVariants as status
+use Rattle.cd_program.specs.Output.{Writes}
+use Rattle.cd_program.specs.Seen.{Device, HasFailed}
 
 -- ---- the line
 
@@ -46,7 +50,7 @@ pub record IsFinalOf (last : Option Conf) (digits : List ℕ) : Type 0 where
 abbrev pub have_no_fault : List MemoryLane → Bool
 have_no_fault = list_all (λ lane. lane.faults.count == 0)
 
--- the lanes were served to their ends, no call of the fixtures or the lanes has failed, and no connection was cut short
+-- the lanes were served to their ends, no call of the fixtures or the lanes has failed, and no connection was interrupted
 pub record IsUnfailing (way : HostHow) (faults : ℕ) (lanes : List MemoryLane) (cut : ℕ) : Type 0 where
   pub served : way ≡ how.Served
   pub fixtures : faults ≡ 0
@@ -59,12 +63,13 @@ pub record AreLanesOf (number : ℕ) (lanes : List MemoryLane) : Type 0 where
   pub fresh : All IsFresh lanes
 
 -- The storm of a number was run to its end from its first tree, over its lanes, which then are `ends`. No call of a form in
--- memory has failed before or in it, and no connection was cut short.
-pub record IsStorm (m : Meaning) (number : ℕ) (run : Given) : Type 0 where
+-- memory has failed before or in it, no connection was interrupted, and as many lanes came back.
+pub record IsStorm (m : Meaning) (number : ℕ) (run : Observed) : Type 0 where
   pub ran : Ran m (first_tree number) Start.published true run
   pub lanes : List MemoryLane
   pub are : AreLanesOf number lanes
   pub ends : List MemoryLane
+  pub count : length ends ≡ length lanes
   pub seen : run.lanes ≡ spans (λ lane. lane.faults.count) (λ lane. Some lane.past) lanes ends
   pub unfailing : have_no_fault ends ≡ true
   pub unasked : run.calls_before ≡ Some []
@@ -74,14 +79,21 @@ pub record IsStorm (m : Meaning) (number : ℕ) (run : Given) : Type 0 where
 
 -- it was run so, with these counts, and the tag of the configuration that was published last has these digits
 pub record HasStormed (m : Meaning) (number answered published : ℕ) (digits : List ℕ) : Type 0 where
-  pub run : Given
+  pub run : Observed
   pub storm : IsStorm m number run
   pub answers : run.answered ≡ answered
   pub publishings : run.published ≡ published
   pub final : IsFinalOf run.last digits
 
 -- and its line was written, the whole of it if `complete`
-pub record HasWritten (m : Meaning) (number answered published : ℕ) (complete : Type 0) (old new : Option (List ℕ)) : Type 0 where
+pub record HasWritten (m : Meaning) (number answered published : ℕ) (complete : Type 0) (output : Device (List ℕ)) : Type 0 where
   pub digits : List ℕ
   pub stormed : HasStormed m number answered published digits
-  pub wrote : Wrote (storm_line number answered published digits) complete old new
+  pub wrote : Writes (storm_line number answered published digits) complete output
+
+-- ---- the table of `storm`
+abbrev pub Storms : Meaning → ℕ → ℕ → ℕ → Device (List ℕ) → Status → Type 0
+Storms m number answered published output status.Done = HasWritten m number answered published (Unit {0}) output
+Storms m number answered published output status.WriteFault = HasWritten m number answered published ⊥ output × HasFailed output
+Storms m number answered published output status.NoMemory = (output.told_now ≡ output.told_before) × (answered ≡ 0) × (published ≡ 0)
+Storms m number answered published output other = ⊥

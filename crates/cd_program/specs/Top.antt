@@ -1,4 +1,5 @@
--- How the program ended, and why.
+-- Part of the main theorem.
+-- How the program ended, and why: a table by status for each command.
 use Rattle.std.specs.Prelude.{◌≡◌, ◌⊎◌, ℕ, Bool, true, false, List, Option, Result, Ok, Err}
 use Rattle.cd_outside.specs.declared.key.Key.{Key}
 use Rattle.cd_tree.specs.declared.tree.Tree.{Tree}
@@ -9,10 +10,9 @@ use Rattle.cd_legal.specs.State.{Conf}
 use Rattle.cd_module.specs.declared.fault.LoadFault.{LoadFault}
 use Rattle.cd_standard.specs.Acting.{acts_of_tree, plan_of_tree}
 use Rattle.cd_serve.specs.Meanings.{Meaning}
+use Rattle.cd_host.specs.Hosting.{serving_line}
 use Rattle.cd_host.specs.Program.{Start}
-use Rattle.cd_host.specs.Runs.{Given, Ran}
-use Rattle.cd_program.specs.declared.command.Command.{Command}
-use Rattle.cd_program.specs.declared.command.Command.TheVariants.{Serve}
+use Rattle.cd_host.specs.Runs.{Ran}
 use Rattle.cd_program.specs.declared.initial.Initial.{Initial}
 use Rattle.cd_program.specs.declared.initial.Initial.TheVariants.{OfFile, Null}
 use Rattle.cd_program.specs.declared.refusal.Refusal.{Refusal}
@@ -20,7 +20,9 @@ use Rattle.cd_program.specs.declared.status.Status.{Status}
 use Rattle.cd_program.specs.declared.status.Status.TheVariants as status
 use Rattle.cd_program.specs.Config.{Gave}
 use Rattle.cd_program.specs.Configuration.{configured, if_planned, words_of}
-use Rattle.cd_program.specs.Output.{refused_line, unopened_line}
+use Rattle.cd_program.specs.Output.{Writes, WroteLess, Says, run_text, valid_line, read_fault_line, refused_line, unopened_line}
+use Rattle.cd_program.specs.Seen.{Device, HasFailed, Seen, IsUnserved, IsUntouched, observed_in}
+use Rattle.cd_program.specs.Words.{is_of_file, usage_line}
 
 -- the exit status of the program
 abbrev pub code_of : Status → ℕ
@@ -32,23 +34,17 @@ code_of status.ReadFault = 3
 code_of status.WriteFault = 4
 code_of status.NoMemory = 5
 
--- the exit status where the configuration may run
-abbrev pub IsAccepted : ℕ → Type 0
-IsAccepted code = (code ≡ 0) ⊎ (code ≡ 4)
+-- the exit status is that of a row of a table, and what the row says is so
+pub record ExitsWith (code : ℕ) (IsSo : Status → Type 0) : Type 0 where
+  pub status : Status
+  pub is : code ≡ code_of status
+  pub so : IsSo status
 
--- the exit status where no lane was served
-abbrev pub IsStopped : ℕ → Type 0
-IsStopped code = (code ≡ 1) ⊎ (code ≡ 2) ⊎ (code ≡ 3)
+-- what the standard modules mean
+abbrev pub standard : Meaning
+standard = record { acts = acts_of_tree; plan = plan_of_tree }
 
--- so ends a call that has no configuration
-abbrev pub is_declined : Status → Bool
-is_declined status.Done = false
-is_declined status.Refused = true
-is_declined status.Unopened = false
-is_declined status.Usage = false
-is_declined status.ReadFault = true
-is_declined status.WriteFault = false
-is_declined status.NoMemory = true
+-- ---- the configuration
 
 -- the source gave up the bytes of a configuration, and this is what they come to by the plans of trees
 pub record Loads (plan : Tree → Result Plan LoadFault) (old new : Option (List ℕ)) (found : Result Tree Refusal) : Type 0 where
@@ -57,63 +53,83 @@ pub record Loads (plan : Tree → Result Plan LoadFault) (old new : Option (List
   pub is : configured plan bytes ≡ found
 
 -- the bytes are a configuration that may run
-pub record IsValid (plan : Tree → Result Plan LoadFault) (old new : Option (List ℕ)) : Type 0 where
+pub record IsValid (plan : Tree → Result Plan LoadFault) (source : Device (List ℕ)) : Type 0 where
   pub tree : Tree
-  pub fine : Loads plan old new (Ok tree)
+  pub fine : Loads plan source.told_before source.told_now (Ok tree)
+
+-- they are refused, and the line says why
+pub record WasRefused (plan : Tree → Result Plan LoadFault) (source output : Device (List ℕ)) : Type 0 where
+  pub refusal : Refusal
+  pub refused : Loads plan source.told_before source.told_now (Err refusal)
+  pub says : Says (refused_line (words_of refusal)) output
 
 -- what a run begins with comes to this: the bytes of its file, or the tree null
-abbrev pub Begins : (Tree → Result Plan LoadFault) → Initial → Option (List ℕ) → Option (List ℕ) → Result Tree Refusal → Type 0
-Begins plan OfFile old new found = Loads plan old new found
-Begins plan Null old new found = if_planned tree.Null (plan tree.Null) ≡ found
+abbrev pub Begins : (Tree → Result Plan LoadFault) → Initial → Device (List ℕ) → Result Tree Refusal → Type 0
+Begins plan OfFile source found = Loads plan source.told_before source.told_now found
+Begins plan Null source found = if_planned tree.Null (plan tree.Null) ≡ found
 
--- the words ask for a run, and it begins with a configuration that may run: this is its tree
-pub record Begun (command : Command) (plan : Tree → Result Plan LoadFault) (old new : Option (List ℕ)) : Type 0 where
-  pub initial : Initial
-  pub asked : command ≡ Serve initial
-  pub tree : Tree
-  pub fine : Begins plan initial old new (Ok tree)
+-- the tree null may run
+abbrev pub NullMayRun : (Tree → Result Plan LoadFault) → Type 0
+NullMayRun plan = if_planned tree.Null (plan tree.Null) ≡ Ok tree.Null
 
--- what the standard modules mean
-abbrev pub standard : Meaning
-standard = record { acts = acts_of_tree; plan = plan_of_tree }
+-- ---- a run
 
--- A run of the words, which began with the tree of a configuration that may run. `start` says how the first configuration was
--- published, or why not, and `served` whether the lanes were served to their ends. What is seen of the run from outside is `given`,
--- for a configuration that was published last. Of it and of the one history of all passes, `Ran` says all that is promised.
-pub record HasRun (command : Command) (m : Meaning) (old new : Option (List ℕ)) (start : Start) (served : Bool) (given : Option Conf → Given) : Type 0 where
-  pub begun : Begun command m.plan old new
-  pub last : Option Conf
-  pub ran : Ran m begun.tree start served (given last)
+module _ (m : Meaning) (initial : Initial) {F L : Type 0} (s : Seen F L) where
+  -- It began with the tree of a configuration that may run. `start` says how the first configuration was published, or why not, and
+  -- `served` whether the lanes were served to their ends. Of it and of the one history of all passes, `Ran` says all that is promised.
+  pub record HasRun (start : Start) (served : Bool) : Type 0 where
+    pub tree : Tree
+    pub begins : Begins m.plan initial s.source (Ok tree)
+    pub last : Option Conf
+    pub ran : Ran m tree start served (observed_in s last)
 
--- a run whose first configuration was published, with its lanes served or not; where they were not, this holds
-pub record HasStarted (command : Command) (m : Meaning) (old new : Option (List ℕ)) (given : Option Conf → Given) (unserved : Type 0) : Type 0 where
-  pub served : Bool
-  pub run : HasRun command m old new Start.published served given
-  pub short : served ≡ false → unserved
+  -- Its first configuration was published. Where the lanes were not served, less than the first line was written.
+  pub record HasStarted : Type 0 where
+    pub served : Bool
+    pub run : HasRun Start.published served
+    pub unserved : served ≡ false → IsUnserved s
+    pub short : served ≡ false → WroteLess serving_line s.output.told_before s.output.told_now
 
--- a run that may have started in any way, with its lanes served or not
-pub record HasEnded (command : Command) (m : Meaning) (old new : Option (List ℕ)) (given : Option Conf → Given) : Type 0 where
-  pub start : Start
-  pub served : Bool
-  pub run : HasRun command m old new start served given
+  -- It started in any way; only where its first configuration was published were the lanes served.
+  pub record HasEnded : Type 0 where
+    pub start : Start
+    pub served : Bool
+    pub run : HasRun start served
+    pub published : served ≡ true → start ≡ Start.published
 
--- a run that started with a key that could not be opened, since the fixtures failed; the line tells which key it is
-pub record FailedToOpen (command : Command) (m : Meaning) (old new : Option (List ℕ)) (given : Option Conf → Given) (failed : Type 0) (told : List ℕ → Type 0) : Type 0 where
-  pub key : Key
-  pub failure : Failure
-  pub run : HasRun command m old new (Start.refused failure key) false given
-  pub cause : failed
-  pub tells : told (unopened_line key)
+  -- It started with a key that could not be opened, since the fixtures failed; the line says which key it is.
+  pub record FailedToOpen : Type 0 where
+    pub key : Key
+    pub failure : Failure
+    pub run : HasRun (Start.refused failure key) false
+    pub cause : HasFailed s.calls
+    pub says : Says (unopened_line key) s.output
+    pub unserved : IsUnserved s
+    pub unpublished : s.published ≡ 0
 
--- they are refused, and the line tells why
-pub record WasRefused (plan : Tree → Result Plan LoadFault) (old new : Option (List ℕ)) (told : List ℕ → Type 0) : Type 0 where
-  pub refusal : Refusal
-  pub refused : Loads plan old new (Err refusal)
-  pub tells : told (refused_line (words_of refusal))
+  -- ---- the table of `run` and `stdio`
+  abbrev pub Serves : Status → Type 0
+  Serves status.Done = HasRun Start.published true × Writes (run_text s.answered s.published) (Unit {0}) s.output
+  Serves status.Refused = (is_of_file initial ≡ true) × WasRefused m.plan s.source s.output × IsUntouched s
+  Serves status.Unopened = FailedToOpen
+  Serves status.Usage = ⊥
+  Serves status.ReadFault = (is_of_file initial ≡ true) × HasFailed s.source × Says read_fault_line s.output × IsUntouched s
+  Serves status.WriteFault = HasStarted × HasFailed s.output × Writes (run_text s.answered s.published) ⊥ s.output
+  Serves status.NoMemory =
+      (IsUntouched s × (s.output.told_now ≡ s.output.told_before))
+      ⊎ (HasEnded × Writes (run_text s.answered s.published) ⊥ s.output)
 
--- the lanes came back as they were, and nothing was counted
-pub record IsUntouched {L : Type 0} (old new : List L) (answered published cut : ℕ) : Type 0 where
-  pub lanes : new ≡ old
-  pub unanswered : answered ≡ 0
-  pub unpublished : published ≡ 0
-  pub uncut : cut ≡ 0
+-- ---- the table of `validate`
+abbrev pub Validates : (Tree → Result Plan LoadFault) → Device (List ℕ) → Device (List ℕ) → Status → Type 0
+Validates plan source output status.Done = IsValid plan source × Writes valid_line (Unit {0}) output
+Validates plan source output status.Refused = WasRefused plan source output
+Validates plan source output status.Unopened = ⊥
+Validates plan source output status.Usage = ⊥
+Validates plan source output status.ReadFault = HasFailed source × Says read_fault_line output
+Validates plan source output status.WriteFault = IsValid plan source × HasFailed output × Writes valid_line ⊥ output
+Validates plan source output status.NoMemory = output.told_now ≡ output.told_before
+
+-- ---- the table of words that ask for nothing that is known
+abbrev pub Declines : Device (List ℕ) → Status → Type 0
+Declines output status.Usage = Says usage_line output
+Declines output other = ⊥

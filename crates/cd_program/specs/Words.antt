@@ -1,3 +1,4 @@
+-- Part of the main theorem.
 -- The words that the program is called with.
 use Rattle.std.specs.Prelude.{ℕ, ◌&&◌, Bool, true, false, List, [], ◌∷◌, codes, bytes_eq, decimal, ◌^◌, nat_lt, if◌then◌else◌}
 use Rattle.std.specs.Str.Parse.{digits_value}

@@ -1,9 +1,10 @@
 //! How a run ends: its last line, and its status.
 ghost use Rattle.std.specs.Prelude.{◌≡◌, ℕ};
 ghost use Rattle.cd_host.specs.declared.host_end.HostHow.TheVariants as how;
-ghost use Rattle.cd_program.specs.Endings.{EndsWith};
+ghost use Rattle.cd_program.specs.Endings.{Concludes};
+ghost use Rattle.cd_program.specs.Seen.{device};
 ghost use Rattle.cd_program.specs.Top.{code_of};
-ghost use Rattle.cd_program.specs.declared.status.Status.{Status as Ends};
+ghost use Rattle.cd_program.specs.declared.status.Status.{Status as Ending};
 
 use crate::ended::Ended;
 use crate::output::{say_line, served_line, unopened_line};
@@ -17,7 +18,7 @@ use std::alloc::Global;
 // Says how many requests were answered under how many configurations.
 #[tactic(auto, unfolding(crate::specs::Output::served_line))]
 fn say_served<O: Sink>(alloc: Global, answered: u64, published: u32, out: &mut O) -> Status
-    ensures { EndsWith O.holds O.faults answered published out.old out.new how.Served result }
+    ensures { Concludes answered published (device O.holds O.faults out.old out.new) how.Served result }
 {
     let Ok(line) = served_line(alloc, answered, published) else {
         return Status::NoMemory;
@@ -30,7 +31,7 @@ fn say_served<O: Sink>(alloc: Global, answered: u64, published: u32, out: &mut O
 
 // Says which key could not be opened.
 fn say_unopened<O: Sink>(alloc: Global, key: &Key, out: &mut O) -> Status
-    ensures { (answered : ℕ) (published : ℕ) → EndsWith O.holds O.faults answered published out.old out.new (how.FirstRefused key.now) result }
+    ensures { (answered : ℕ) (published : ℕ) → Concludes answered published (device O.holds O.faults out.old out.new) (how.FirstRefused key.now) result }
 {
     let Ok(line) = unopened_line(alloc, key) else {
         return Status::NoMemory;
@@ -47,7 +48,7 @@ fn say_last<O: Sink>(
     published: u32,
     out: &mut O,
 ) -> Status
-    ensures { EndsWith O.holds O.faults answered published out.old out.new how.now result }
+    ensures { Concludes answered published (device O.holds O.faults out.old out.new) how.now result }
 {
     match how {
         HostHow::Served => say_served(alloc, answered, published, out),
@@ -63,7 +64,7 @@ pub fn conclude<M: ModuleSet, O: Sink, F, L>(
     end: HostEnd<M, F, L>,
     out: &mut O,
 ) -> Ended<F, L>
-    ensures { (status : Ends) × EndsWith O.holds O.faults end.answered end.published out.old out.new end.how status
+    ensures { (status : Ending) × Concludes end.answered end.published (device O.holds O.faults out.old out.new) end.how status
         × (result ≡ record { status = code_of status; fixtures = end.fixtures; lanes = end.lanes.items; answered = end.answered; published = end.published; cut = end.cut }) }
 {
     let HostEnd {

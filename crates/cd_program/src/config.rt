@@ -4,6 +4,7 @@ ghost use Rattle.cd_text.specs.Gives.{Gives};
 ghost use Rattle.cd_outside.specs.Counts.{Rose};
 ghost use Rattle.cd_program.specs.Config.{Gave};
 ghost use Rattle.cd_program.specs.Configuration.{configured, if_planned};
+ghost use Rattle.cd_program.specs.Seen.{device};
 ghost use Rattle.cd_program.specs.Top.{Begins, Loads};
 ghost use Rattle.cd_program.specs.Words.{is_of_file};
 ghost use Rattle.cd_program.specs.declared.refusal.Refusal.{Refusal as Refused};
@@ -16,6 +17,9 @@ use cd_outside::{Source, Taken};
 use cd_text::Octets;
 use cd_tree::{MAX_TEXT_BYTES, Tree, TreeFault, read};
 use std::alloc::Global;
+
+/// How many bytes of a configuration are read at a time.
+pub const CONFIG_READ_BYTES: usize = 16_384;
 
 /// Why the bytes of a configuration could not be had.
 #[derive(Clone, Copy, Debug, PartialEq, Eq)]
@@ -33,7 +37,7 @@ pub fn read_config<S: Source>(alloc: Global, config: &mut S) -> Result<Octets, C
     ensures failed { IsErrOf result ConfigFault.Failed → Rose (S.faults config.old) (S.faults config.new) }
 {
     let mut bytes = Octets::new(alloc);
-    let mut buffer = [0u8; 16_384];
+    let mut buffer = [0u8; CONFIG_READ_BYTES];
     while bytes.len() <= MAX_TEXT_BYTES {
         match config.read(&mut buffer) {
             Taken::Bytes(count) => {
@@ -113,8 +117,8 @@ pub fn load_initial<M: ModuleSet, S: Source>(
     initial: Initial,
     config: &mut S,
 ) -> Result<Loaded<M>, Unloaded>
-    ensures fine { IfOk result (λ loaded. Begins M.plan initial (S.left config.old) (S.left config.new) (Ok loaded.tree)) }
-    ensures refused { (refusal : Refused) → result ≡ Err (Unloaded.Refused refusal) → Begins M.plan initial (S.left config.old) (S.left config.new) (Err refusal) }
+    ensures fine { IfOk result (λ loaded. Begins M.plan initial (device S.left S.faults config.old config.new) (Ok loaded.tree)) }
+    ensures refused { (refusal : Refused) → result ≡ Err (Unloaded.Refused refusal) → Begins M.plan initial (device S.left S.faults config.old config.new) (Err refusal) }
     ensures failed { result ≡ Err Unloaded.Failed → (is_of_file initial ≡ true) × Rose (S.faults config.old) (S.faults config.new) }
     ensures unread { is_of_file initial ≡ false → config.new ≡ config.old }
 {

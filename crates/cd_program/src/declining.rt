@@ -1,9 +1,5 @@
-ghost use Rattle.std.specs.Prelude.{◌≡◌, ◌⊎◌, true};
-ghost use Rattle.cd_outside.specs.Counts.{Rose};
-ghost use Rattle.cd_program.specs.Configuration.{words_of};
-ghost use Rattle.cd_program.specs.Output.{Wrote, refused_line, read_fault_line};
-ghost use Rattle.cd_program.specs.Top.{is_declined};
-ghost use Rattle.cd_program.specs.declared.refusal.Refusal.{Refusal as Refused};
+ghost use Rattle.cd_program.specs.Endings.{IsDeclined};
+ghost use Rattle.cd_program.specs.Seen.{device};
 
 use crate::config::Unloaded;
 use crate::output::{refused_line, say_line};
@@ -14,12 +10,7 @@ use std::alloc::Global;
 
 /// Says why there is no configuration.
 pub fn decline<O: Sink>(alloc: Global, why: Unloaded, out: &mut O) -> Status
-    ensures known { is_declined result ≡ true }
-    ensures refused { result ≡ Status.Refused → (refusal : Refused) × (why ≡ Unloaded.Refused refusal)
-        × Wrote (refused_line (words_of refusal)) (¬ (Rose (O.faults out.old) (O.faults out.new))) (O.holds out.old) (O.holds out.new) }
-    ensures read_fault { result ≡ Status.ReadFault → why ≡ Unloaded.Failed }
-    ensures read_fault_text { result ≡ Status.ReadFault → Wrote read_fault_line (¬ (Rose (O.faults out.old) (O.faults out.new))) (O.holds out.old) (O.holds out.new) }
-    ensures silent { result ≡ Status.NoMemory → O.holds out.new ≡ O.holds out.old }
+    ensures { IsDeclined why (device O.holds O.faults out.old out.new) result }
 {
     match why {
         Unloaded::Failed => {

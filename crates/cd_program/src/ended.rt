@@ -16,7 +16,7 @@ pub struct Ended<F, L> {
     pub answered: u64,
     /// How many configurations were published.
     pub published: u32,
-    /// How many connections were cut short, out of memory. It stays at 2^64 - 1.
+    /// How many connections were interrupted, out of memory. It stays at 2^64 - 1.
     pub cut: u64,
 }
 

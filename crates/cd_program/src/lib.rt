@@ -1,7 +1,8 @@
 //! The program, over the traits of the outside: from the words of the command line to the exit status.
 //!
 //! `caddy_main` (top.rt) is the whole program over whatever source, output, fixtures and lanes it is given, and its contract is
-//! what the program promises. The crate of the program gives it the real ones: standard streams and the file of the
+//! what the program promises: for each command a table by status (specs/Top.antt, specs/Storm.antt) of what was seen before and
+//! after (specs/Seen.antt). The crate of the program gives it the real ones: standard streams and the file of the
 //! configuration. The forms in memory of `cd_outside` are given it to run whole conversations.
 //!
 //! The words ask for a `Command` (command.rt). The modules in between read and load the configuration (config.rt), by whatever
@@ -26,6 +27,7 @@ mod storm;
 mod top;
 mod validating;
 
+pub use config::CONFIG_READ_BYTES;
 pub use ended::Ended;
-pub use laws::all_bytes_are_loaded;
+pub use laws::{a_storm_tells_of_each_lane, all_bytes_are_loaded, limits_in_numbers};
 pub use top::caddy_main;

@@ -1,10 +1,10 @@
 ghost use Rattle.std.specs.Prelude.{◌≡◌, ◌≤◌, false, All, length};
+ghost use Rattle.cd_legal.specs.declared.limits.TheConstants.{MAX_LANES};
 ghost use Rattle.cd_host.specs.Hosting.{serving_line};
-ghost use Rattle.cd_program.specs.Endings.{EndsBy};
 ghost use Rattle.cd_program.specs.Output.{FellShort};
-ghost use Rattle.cd_program.specs.Top.{code_of};
+ghost use Rattle.cd_program.specs.Seen.{IsUnserved, seen};
+ghost use Rattle.cd_program.specs.Top.{ExitsWith, NullMayRun, Serves};
 ghost use Rattle.cd_program.specs.Words.{is_of_file};
-ghost use Rattle.cd_program.specs.declared.status.Status.{Status as Ends};
 
 use crate::concluding::conclude;
 use crate::config::load_initial;
@@ -39,13 +39,15 @@ pub fn run_all<
 where
     M::Compiled: Send + Sync,
     requires some { 1 ≤ length lanes }
-    requires few { length lanes ≤ 63 }
+    requires few { length lanes ≤ MAX_LANES }
     requires idle { All (λ lane. L.busy lane ≡ false) lanes }
     ensures idle { All (λ lane. L.busy lane ≡ false) result.lanes }
-    ensures ends { (status : Ends) × (result.status ≡ code_of status)
-        × EndsBy S.left S.faults O.holds O.faults F.calls F.faults L.faults L.past (record { acts = M.acts; plan = M.plan }) initial config.old config.new out.old out.new fixtures lanes result status }
+    ensures count { length result.lanes ≡ length lanes }
+    ensures ends { NullMayRun M.plan → ExitsWith result.status (Serves (record { acts = M.acts; plan = M.plan }) initial
+        (seen S.left S.faults O.holds O.faults F.calls F.faults L.past L.faults config.old config.new out.old out.new fixtures lanes result)) }
     ensures unread { is_of_file initial ≡ false → config.new ≡ config.old }
-    ensures unbegun { FellShort serving_line (O.holds out.old) (O.holds out.new) → (result.lanes ≡ lanes) × (result.answered ≡ 0) × (result.cut ≡ 0) }
+    ensures unbegun { FellShort serving_line (O.holds out.old) (O.holds out.new)
+        → IsUnserved (seen S.left S.faults O.holds O.faults F.calls F.faults L.past L.faults config.old config.new out.old out.new fixtures lanes result) }
 {
     match load_initial::<M, S>(alloc, initial, config) {
         Ok(loaded) => {

@@ -1,10 +1,9 @@
 //! `storm N`: the workload of a number is served over forms in memory, and a line says what it came to.
-ghost use Rattle.std.specs.Prelude.{◌≡◌, ◌≤◌, ◌⊎◌, IfOk, IsTrue, option_map};
+ghost use Rattle.std.specs.Prelude.{◌≡◌, IfOk, IsTrue, option_map};
 ghost use Rattle.cd_tree.specs.Tree.{IsSound};
-ghost use Rattle.cd_outside.specs.Counts.{Rose};
 ghost use Rattle.cd_life.specs.Shares.{conf_in};
-ghost use Rattle.cd_program.specs.Storm.{HasDigits, HasStormed, HasWritten, IsFinalOf, IsUnfailing, have_no_fault, storm_line};
-ghost use Rattle.cd_program.specs.Top.{IsAccepted, code_of};
+ghost use Rattle.cd_program.specs.Seen.{device};
+ghost use Rattle.cd_program.specs.Storm.{HasDigits, HasStormed, IsFinalOf, IsUnfailing, Storms, have_no_fault, storm_line};
 
 use crate::status::Status;
 use cd_admin::Administered;
@@ -172,7 +171,7 @@ fn unwritten() -> StormEnd
 /// | WriteFault | the line could not be written |
 /// | NoMemory | out of memory |
 ///
-/// Out of memory it is too where a connection of the storm was cut short, a form in memory counted a fault, the lanes were not
+/// Out of memory it is too where a connection of the storm was interrupted, a form in memory counted a fault, the lanes were not
 /// served to their ends, the first configuration could not be loaded, or none was published last. Then nothing is written.
 pub fn run_storm<R: Threads + Wait + Sync, M: Administered + Send + Sync, O: Sink>(
     rt: &R,
@@ -182,11 +181,7 @@ pub fn run_storm<R: Threads + Wait + Sync, M: Administered + Send + Sync, O: Sin
 ) -> StormEnd
 where
     M::Compiled: Send + Sync,
-    ensures known { (result.status ≡ Status.Done) ⊎ (result.status ≡ Status.WriteFault) ⊎ (result.status ≡ Status.NoMemory) }
-    ensures stormed { IsAccepted (code_of result.status) → HasWritten (record { acts = M.acts; plan = M.plan }) number result.answered result.published (code_of result.status ≡ 0) (O.holds out.old) (O.holds out.new) }
-    ensures later { O.faults out.old ≤ O.faults out.new }
-    ensures write_fault { result.status ≡ Status.WriteFault → Rose (O.faults out.old) (O.faults out.new) }
-    ensures no_memory { result.status ≡ Status.NoMemory → (out.new ≡ out.old) × (result.answered ≡ 0) × (result.published ≡ 0) }
+    ensures { Storms (record { acts = M.acts; plan = M.plan }) number result.answered result.published (device O.holds O.faults out.old out.new) result.status }
 {
     let Ok(done) = run_script::<R, M>(rt, alloc, number) else {
         return unwritten();
@@ -199,13 +194,16 @@ where
     let Ok(line) = storm_line(alloc, number, answered, published, digits.as_str()) else {
         return unwritten();
     };
-    let status = match say(out, line.as_str()) {
-        Given::All => Status::Done,
-        Given::Failed => Status::WriteFault,
-    };
-    StormEnd {
-        status,
-        answered,
-        published,
+    match say(out, line.as_str()) {
+        Given::All => StormEnd {
+            status: Status::Done,
+            answered,
+            published,
+        },
+        Given::Failed => StormEnd {
+            status: Status::WriteFault,
+            answered,
+            published,
+        },
     }
 }

@@ -1,12 +1,13 @@
-ghost use Rattle.std.specs.Prelude.{◌≡◌, ◌≤◌, ◌↔◌, ◌⊎◌, ℕ, true, false, length, All};
-ghost use Rattle.cd_outside.specs.Counts.{Rose};
+ghost use Rattle.std.specs.Prelude.{◌≡◌, ◌≤◌, ◌↔◌, ℕ, false, length, All};
+ghost use Rattle.cd_legal.specs.declared.limits.TheConstants.{MAX_LANES};
 ghost use Rattle.cd_standard.specs.Acting.{plan_of_tree};
-ghost use Rattle.cd_host.specs.Hosting.{given_of, serving_line};
-ghost use Rattle.cd_host.specs.Program.{Start};
-ghost use Rattle.cd_program.specs.Storm.{HasWritten};
-ghost use Rattle.cd_program.specs.Output.{Wrote, WroteLess, FellShort, run_text, valid_line, read_fault_line};
-ghost use Rattle.cd_program.specs.Top.{IsAccepted, IsStopped, IsValid, HasRun, HasStarted, HasEnded, WasRefused, FailedToOpen, IsUntouched, standard};
-ghost use Rattle.cd_program.specs.Words.{command, usage_line, is_run, has_file};
+ghost use Rattle.cd_host.specs.Hosting.{serving_line};
+ghost use Rattle.cd_program.specs.declared.initial.Initial.{Initial};
+ghost use Rattle.cd_program.specs.Output.{FellShort};
+ghost use Rattle.cd_program.specs.Seen.{IsBack, IsUnserved, IsUntouched, device, seen};
+ghost use Rattle.cd_program.specs.Storm.{Storms};
+ghost use Rattle.cd_program.specs.Top.{Declines, ExitsWith, Serves, Validates, standard};
+ghost use Rattle.cd_program.specs.Words.{command, has_file};
 
 use crate::command::Command;
 use crate::ended::{Ended, after_storm, unbegun};
@@ -48,63 +49,38 @@ pub fn caddy_main<R: Threads + Wait + Sync, S: Source, O: Sink, F: Fixtures + Se
     lanes: List<L>,
 ) -> Ended<F, L>
     requires some { 1 ≤ length lanes }
-    requires few { length lanes ≤ 63 }
+    requires few { length lanes ≤ MAX_LANES }
     requires idle { All (λ lane. L.busy lane ≡ false) lanes }
 
+    // Each lane comes back, and none has an open connection.
+    ensures count { length result.lanes ≡ length lanes }
     ensures idle { All (λ lane. L.busy lane ≡ false) result.lanes }
-    ensures known { result.status ≤ 5 }
 
     // Status 2 comes exactly where the words ask for nothing that is known. Without a file nothing is read.
+    ensures known { result.status ≤ 5 }
     ensures usage { (result.status ≡ 2) ↔ (command words.now ≡ Command.Unknown) }
-    ensures usage_text { result.status ≡ 2 → Wrote usage_line (¬ (Rose (O.faults out.old) (O.faults out.new))) (O.holds out.old) (O.holds out.new) }
     ensures unread { has_file (command words.now) ≡ false → config.new ≡ config.old }
 
-    // Status 1 comes only where the configuration is refused, or a key of it could not be opened; a run, or that it is valid, only
-    // where it is not refused.
-    ensures refused { result.status ≡ 1
-        → ((has_file (command words.now) ≡ true)
-        × WasRefused plan_of_tree (S.left config.old) (S.left config.new)
-        (λ line. Wrote line (¬ (Rose (O.faults out.old) (O.faults out.new))) (O.holds out.old) (O.holds out.new))
-        × (result.fixtures ≡ fixtures))
-        ⊎ FailedToOpen (command words.now) standard (S.left config.old) (S.left config.new)
-        (λ last. given_of F.calls F.faults L.faults L.past fixtures result.fixtures lanes result.lanes result.answered result.published result.cut last)
-        (Rose (F.faults fixtures) (F.faults result.fixtures))
-        (λ line. Wrote line (¬ (Rose (O.faults out.old) (O.faults out.new))) (O.holds out.old) (O.holds out.new)) }
-    ensures valid { command words.now ≡ Command.Validate → IsAccepted result.status → IsValid plan_of_tree (S.left config.old) (S.left config.new) }
-    ensures valid_text { command words.now ≡ Command.Validate → IsAccepted result.status → Wrote valid_line (result.status ≡ 0) (O.holds out.old) (O.holds out.new) }
+    // `run` and `stdio`: how they end, by status. No lane is served before the whole first line was written.
+    ensures serves { (initial : Initial) → command words.now ≡ Command.Serve initial → ExitsWith result.status (Serves standard initial
+        (seen S.left S.faults O.holds O.faults F.calls F.faults L.past L.faults config.old config.new out.old out.new fixtures lanes result)) }
+    ensures unbegun { (initial : Initial) → command words.now ≡ Command.Serve initial → FellShort serving_line (O.holds out.old) (O.holds out.new) → IsUnserved
+        (seen S.left S.faults O.holds O.faults F.calls F.faults L.past L.faults config.old config.new out.old out.new fixtures lanes result) }
 
-    // With status 0 a run has ended in order, after its lanes were served to their ends.
-    ensures ran { is_run (command words.now) ≡ true → result.status ≡ 0
-        → HasRun (command words.now) standard (S.left config.old) (S.left config.new) Start.published true
-        (λ last. given_of F.calls F.faults L.faults L.past fixtures result.fixtures lanes result.lanes result.answered result.published result.cut last) }
+    // `validate` loads the configuration, and runs nothing.
+    ensures validates { command words.now ≡ Command.Validate
+        → ExitsWith result.status (Validates plan_of_tree (device S.left S.faults config.old config.new) (device O.holds O.faults out.old out.new)) × IsUntouched
+        (seen S.left S.faults O.holds O.faults F.calls F.faults L.past L.faults config.old config.new out.old out.new fixtures lanes result) }
 
-    // With status 4 too, but where the first line could not be written: then no lane is served.
-    ensures ran_short { is_run (command words.now) ≡ true → result.status ≡ 4
-        → HasStarted (command words.now) standard (S.left config.old) (S.left config.new)
-        (λ last. given_of F.calls F.faults L.faults L.past fixtures result.fixtures lanes result.lanes result.answered result.published result.cut last)
-        ((result.lanes ≡ lanes) × (result.answered ≡ 0) × (result.cut ≡ 0) × WroteLess serving_line (O.holds out.old) (O.holds out.new)) }
-    ensures ran_text { is_run (command words.now) ≡ true → IsAccepted result.status → Wrote (run_text result.answered result.published) (result.status ≡ 0) (O.holds out.old) (O.holds out.new) }
+    // `storm` runs over forms of its own.
+    ensures storms { (number : ℕ) → command words.now ≡ Command.Storm number
+        → ExitsWith result.status (Storms standard number result.answered result.published (device O.holds O.faults out.old out.new)) × IsBack
+        (seen S.left S.faults O.holds O.faults F.calls F.faults L.past L.faults config.old config.new out.old out.new fixtures lanes result) }
 
-    // No lane is served before the whole first line was written.
-    ensures unbegun { is_run (command words.now) ≡ true → FellShort serving_line (O.holds out.old) (O.holds out.new) → (result.lanes ≡ lanes) × (result.answered ≡ 0) × (result.cut ≡ 0) }
-
-    ensures read_fault { result.status ≡ 3 → (has_file (command words.now) ≡ true) × Rose (S.faults config.old) (S.faults config.new) }
-    ensures read_fault_text { result.status ≡ 3 → Wrote read_fault_line (¬ (Rose (O.faults out.old) (O.faults out.new))) (O.holds out.old) (O.holds out.new) }
-    ensures write_fault { result.status ≡ 4 → Rose (O.faults out.old) (O.faults out.new) }
-
-    // Where memory runs out nothing was done, or a run has ended in order.
-    ensures memory { result.status ≡ 5
-        → (IsUntouched lanes result.lanes result.answered result.published result.cut × (result.fixtures ≡ fixtures) × (O.holds out.new ≡ O.holds out.old))
-        ⊎ (HasEnded (command words.now) standard (S.left config.old) (S.left config.new)
-        (λ last. given_of F.calls F.faults L.faults L.past fixtures result.fixtures lanes result.lanes result.answered result.published result.cut last)
-        × Wrote (run_text result.answered result.published) (result.status ≡ 0) (O.holds out.old) (O.holds out.new)) }
-    ensures untouched { IsStopped result.status → IsUntouched lanes result.lanes result.answered result.published result.cut }
-    ensures unopened { (result.status ≡ 2) ⊎ (result.status ≡ 3) → result.fixtures ≡ fixtures }
-
-    // A storm is run over forms of its own: what was handed in comes back as it was.
-    ensures stormed { (number : ℕ) → command words.now ≡ Command.Storm number → IsAccepted result.status → HasWritten standard number result.answered result.published (result.status ≡ 0) (O.holds out.old) (O.holds out.new) }
-    ensures storm_untouched { (number : ℕ) → command words.now ≡ Command.Storm number → (result.lanes ≡ lanes) × (result.fixtures ≡ fixtures) × (result.cut ≡ 0) }
-    ensures valid_untouched { command words.now ≡ Command.Validate → IsUntouched lanes result.lanes result.answered result.published result.cut × (result.fixtures ≡ fixtures) }
+    // Other words do nothing.
+    ensures declines { command words.now ≡ Command.Unknown
+        → ExitsWith result.status (Declines (device O.holds O.faults out.old out.new)) × IsUntouched
+        (seen S.left S.faults O.holds O.faults F.calls F.faults L.past L.faults config.old config.new out.old out.new fixtures lanes result) }
 {
     match Command::of(words) {
         Command::Serve(initial) => run_all::<Standard, R, S, O, F, L>(

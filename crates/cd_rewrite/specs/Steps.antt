@@ -1,3 +1,4 @@
+-- Part of the main theorem.
 -- The steps by which what is asked for is rewritten (Caddy, JSON Config Structure, http.handlers.rewrite).
 use Rattle.std.specs.Prelude.{ℕ, ◌-◌, ◌&&◌, Bool, true, false, if◌then◌else◌, List, [], ◌∷◌, length, take, drop, nat_eq, Option, Some, None, unwrap_or, Result, Ok}
 use Rattle.std.specs.List.{starts_with, ends_with}

@@ -1,3 +1,4 @@
+-- Part of the main theorem.
 -- The occurrences of a text in another, replaced.
 use Rattle.std.specs.Prelude.{◌≡◌, ◌≢◌, ℕ, zero, suc, ◌==◌, nat_eq, if◌then◌else◌, List, [], ◌∷◌, ◌++◌, length, drop, Option, Some, None, option_map}
 use Rattle.std.specs.List.{starts_with}

@@ -1,3 +1,4 @@
+-- Part of the main theorem.
 -- A path and a query as one text.
 use Rattle.std.specs.Prelude.{ℕ, ◌==◌, ◌||◌, Bool, if◌then◌else◌, List, [], ◌∷◌, ◌++◌, Option, Some, None, codes}
 use Rattle.std.specs.Char.{is_ascii_alphanumeric}

@@ -1,6 +1,7 @@
 //! A conversation with the program, as a row says it.
 ghost use Rattle.std.specs.Prelude.{◌≡◌, ◌≤◌, false, length, is_some, All};
 ghost use Rattle.cd_tree.specs.Tree.{IsSound};
+ghost use Rattle.cd_legal.specs.declared.limits.TheConstants.{MAX_LANES};
 
 use crate::ending::{Shown, text_of};
 use crate::handles::Handles;
@@ -15,7 +16,7 @@ use std::alloc::Global;
 use std::sync::Wait;
 use std::thread::Threads;
 
-// The configuration of a row that names none. It is that of examples/hello.json.
+// The configuration of a row that names none. It is that of examples/hello.json, without its `admin`.
 const HELLO: &str =
     r#"{"apps":{"http":{"servers":{"s":{"listen":[":8080"],"routes":[{"handle":[{"handler":"static_response","body":"hi"}]}]}}}}}"#;
 
@@ -115,7 +116,7 @@ fn ended_over<R: Threads + Wait + Sync>(
     shown: Shown,
 ) -> Result<Octets, RowFault>
     requires some { 1 ≤ length lanes }
-    requires few { length lanes ≤ 63 }
+    requires few { length lanes ≤ MAX_LANES }
     requires idle { All (λ lane. is_some lane.lane.current ≡ false) lanes }
 {
     let ended = caddy_main(

@@ -1,9 +1,11 @@
 //! The lanes of a row, and what comes on them.
 ghost use Rattle.std.specs.Prelude.{◌≡◌, ◌≤◌, false, length, is_some, All, IfOk};
+ghost use Rattle.cd_legal.specs.declared.limits.TheConstants.{MAX_LANES};
 
 use crate::conversation::failing;
 use crate::meeting::Meeting;
 use crate::resting::{Places, RestingLane};
+use cd_legal::MAX_LANES;
 use cd_outside::{Address, Call, MemoryLane};
 use cd_rows::{RowFault, bytes_at, bytes_of, find, has, number_of, only};
 use cd_text::{List, NoMemory, Octets, Text};
@@ -12,13 +14,10 @@ use std::alloc::Global;
 use std::sync::Arc;
 use std::sync::atomic::AtomicU64;
 
-// The program takes so many lanes at most.
-const MAX_LANES: usize = 63;
-
 /// The lanes that the row lists, or the one that the row itself says. What is asked comes in pieces of this size.
 pub fn lanes_of(alloc: Global, row: &Tree, size: usize) -> Result<List<RestingLane>, RowFault>
     ensures some { IfOk result (λ lanes. 1 ≤ length lanes) }
-    ensures few { IfOk result (λ lanes. length lanes ≤ 63) }
+    ensures few { IfOk result (λ lanes. length lanes ≤ MAX_LANES) }
     ensures idle { IfOk result (λ lanes. All (λ lane. is_some lane.lane.current ≡ false) lanes) }
 {
     match find(row, "lanes") {
@@ -46,10 +45,10 @@ fn listed_lanes(
     size: usize,
 ) -> Result<List<RestingLane>, RowFault>
     ensures some { IfOk result (λ lanes. 1 ≤ length lanes) }
-    ensures few { IfOk result (λ lanes. length lanes ≤ 63) }
+    ensures few { IfOk result (λ lanes. length lanes ≤ MAX_LANES) }
     ensures idle { IfOk result (λ lanes. All (λ lane. is_some lane.lane.current ≡ false) lanes) }
 {
-    if trees.is_empty() || trees.len() > MAX_LANES {
+    if trees.is_empty() || trees.len() > MAX_LANES as usize {
         return Err(RowFault::Malformed("no lane, or too many"));
     }
     let arrived = Arc::new(alloc, AtomicU64::new(0))?;

@@ -3,7 +3,6 @@ use Rattle.std.proofs.Common.{◌≡◌, ◌∙◌, ◌++◌, ℕ, zero, suc, Li
 use Rattle.std.proofs.lemmas.List.{append_assoc, append-nil}
 use Rattle.cd_text.specs.Steps.{joined}
 use Rattle.cd_outside.specs.declared.address.Address.{Address}
-use Rattle.cd_outside.specs.declared.past.Logged.{Logged}
 use Rattle.cd_outside.specs.declared.past.Past.{Past}
 use Rattle.cd_outside.specs.Past.{with_connection}
 use Rattle.cd_wire.specs.declared.request.Request.{Request}
@@ -21,16 +20,18 @@ use Rattle.cd_gate.specs.declared.view.View.{View}
 use Rattle.cd_gate.specs.Growing.{Places}
 use Rattle.cd_gate.proofs.Grown.{places_both}
 use Rattle.cd_hall.specs.declared.hall.Ticket.{Ticket}
-use Rattle.cd_hall.specs.Tickets.{IsTicketOf}
+use Rattle.cd_hall.specs.Tickets.{IsTicketOf, BeganWith}
 use Rattle.cd_hall.specs.Turned.{Turned}
+use Rattle.cd_hall.proofs.Placing.{turned_places}
+use Rattle.cd_life.specs.Shares.{conf_in}
 use Rattle.cd_serve.specs.declared.how.How.{How}
 use Rattle.cd_serve.specs.declared.how.How.TheVariants as how
-use Rattle.cd_serve.specs.Meanings.{Meaning}
-use Rattle.cd_serve.specs.Blocks.{due, IsDue}
+use Rattle.cd_serve.specs.Meanings.{Meaning, Sent, after_sending}
+use Rattle.cd_serve.specs.Retirements.{due, IsRetirement}
 use Rattle.cd_serve.specs.Episodes.{Outcome, Episode, IsAgain}
 use Rattle.cd_serve.specs.Replies.{AllAgain}
-use Rattle.cd_serve.specs.Requests.{outcome_of, after_sending, OwesNothing, OwesTicket, IsCurrent, BeganWith, EndsWith, Acted, ActedQuietly, Concluded, RepliedWith, RequestServed, DecidesAgain, ServedOnce, Repeats}
-use Rattle.cd_serve.proofs.Sends.{nothing-sent}
+use Rattle.cd_serve.specs.Requests.{outcome_of, OwesNothing, OwesTicket, IsBegun, EndsIn, Acted, ActedQuietly, Concluded, RepliedWith, RequestServed, DecidesAgain, ServedOnce, Repeats}
+use Rattle.cd_serve.proofs.Told.{nothing-sent}
 use Rattle.cd_serve.proofs.Works.{works-none}
 
 -- a Begin keeps all configurations
@@ -42,57 +43,57 @@ conf_begin s k m (suc n) = refl
 pub acted-quietly : {T : Type 0} (m : Meaning) (at : Address) (q : Request) (conf : Conf) (serial : ℕ) (h : How) (v : View T) (old new : Option Past) → IsHistory v.seen → ActedQuietly m at q conf serial h old new → Acted m at q conf serial (Some h) v v old new
 acted-quietly m at q conf serial h v old new is a = record {
   work = [];
-  put = a.put;
-  lines = a.lines;
+  what = a.what;
   places = (works-none v is).places;
   past = a.past;
   is = a.is v.number v.seen;
 }
 
-module _ {T : Type 0} (m : Meaning) (at : Address) (q : Request) (conf : Conf) (serial : ℕ) (v w x z : View T) (found : List Signed) where
-  abbrev pub first : Placed
-  first = record { before = found; entry = Begin v.number serial }
+-- the Begin of a pass right after what it found
+abbrev pub first : {T : Type 0} → View T → ℕ → List Signed → Placed
+first v serial found = record { before = found; entry = Begin v.number serial }
 
-  -- the Begin met what the ticket has
-  pub began : w.seen ≡ found ++ signed v.number (Begin v.number serial) ∷ [] → serial ≡ (state_at found).serial → conf ≡ conf_of (state_at w.seen) serial → BeganWith conf serial first
-  began ends current is = record {
-    conf_is =
-        ap (λ (n : ℕ). conf_of (state_at found) n) (sym current)
-        ∙ (sym (conf_begin (state_at found) v.number serial serial)
-        ∙ (ap (λ (s : State). conf_of s serial) (sym (state-snoc found (signed v.number (Begin v.number serial))) ∙ ap state_at (sym ends))
-        ∙ sym is));
-    serial_is = sym current;
-  }
+-- it met what the ticket has
+pub began : {T : Type 0} (v w : View T) (conf : Conf) (serial : ℕ) (found : List Signed) → w.seen ≡ found ++ signed v.number (Begin v.number serial) ∷ [] → serial ≡ (state_at found).serial → conf ≡ conf_of (state_at w.seen) serial → BeganWith conf serial (first v serial found)
+began v w conf serial found ends current is = record {
+  conf_is =
+      ap (λ (n : ℕ). conf_of (state_at found) n) (sym current)
+      ∙ (sym (conf_begin (state_at found) v.number serial serial)
+      ∙ (ap (λ (s : State). conf_of s serial) (sym (state-snoc found (signed v.number (Begin v.number serial))) ∙ ap state_at (sym ends))
+      ∙ sym is));
+  serial_is = sym current;
+}
 
+module _ {T : Type 0} (serial : ℕ) (v w x z : View T) (found : List Signed) where
   abbrev pub all : List Placed → Concluded x z → List Placed
-  all work c = first ∷ (work ++ c.finish ∷ c.block)
+  all work c = first v serial found ∷ (work ++ c.finish ∷ c.block)
 
-  pub all_placed : (work : List Placed) (c : Concluded x z) → Places v w (first ∷ []) → Places w x work → Places v z (all work c)
-  all_placed work c one two = places_both v w z (first ∷ []) (work ++ c.finish ∷ c.block) one (places_both w x z work (c.finish ∷ c.block) two c.places)
+  pub all_placed : (work : List Placed) (c : Concluded x z) → Places v w (first v serial found ∷ []) → Places w x work → Places v z (all work c)
+  all_placed work c one two = places_both v w z (first v serial found ∷ []) (work ++ c.finish ∷ c.block) one (places_both w x z work (c.finish ∷ c.block) two c.places)
 
-  pub episode : (work : List Placed) (c : Concluded x z) → w.number ≡ v.number → x.number ≡ v.number → BeganWith conf serial first → Episode v.number (all work c)
-  episode work c wk xk b = record {
-    begin = first;
+  pub episode : (conf : Conf) (work : List Placed) (c : Concluded x z) → w.number ≡ v.number → x.number ≡ v.number → BeganWith conf serial (first v serial found) → Episode v.number (all work c)
+  episode conf work c wk xk b = record {
+    begin = first v serial found;
     work = work;
     finish = c.finish;
     block = c.block;
     whole = refl;
     begins = ap (Begin v.number) (sym b.serial_is);
     finishes = c.finishes ∙ ap Finish xk;
-    retires = subst (λ (j : ℕ). IsDue (met c.finish) (due (met c.finish) j) c.block) xk c.retires;
+    retires = subst (λ (j : ℕ). IsRetirement (met c.finish) (due (met c.finish) j) c.block) xk c.retires;
   }
 
-replied : (m : Meaning) (k : ℕ) (at : Address) (q : Request) (o : Option Outcome) (own : List Placed) (e : Episode k own) (put : List ℕ) (lines : List Logged) (old new : Option Past) → new ≡ option_map (with_connection (after_sending put lines)) old
-    → EndsWith m k at q o e.begin e.work e.finish put lines → RepliedWith m k at q o own old new
-replied m k at q (Some outcome) own e put lines old new past ends = record {
-  reply = record { request = q; again = []; last = own; outcome = outcome; put = put; lines = lines };
+replied : (m : Meaning) (k : ℕ) (at : Address) (q : Request) (o : Option Outcome) (own : List Placed) (e : Episode k own) (s : Sent) (old new : Option Past) → new ≡ option_map (with_connection (after_sending s)) old
+    → EndsIn m k at q o e.begin e.work e.finish s → RepliedWith m k at q o own old new
+replied m k at q (Some outcome) own e s old new past ends = record {
+  reply = record { request = q; again = []; last = own; outcome = outcome; sent = s };
   request = refl;
   ends = refl;
   is = record { agains = tt; episode = e; ends = ends };
   own_is = refl;
   past = past;
 }
-replied m k at q None own e put lines old new past ends = absurd ends
+replied m k at q None own e s old new past ends = absurd ends
 
 -- a request that was begun, acted on, and ended, was served, or is to be decided again
 pub served-once : {T : Type 0} (m : Meaning) (at : Address) (q : Request) (conf : Conf) (serial : ℕ) (result : Option How) (v w x z : View T) (found : List Signed) (old new : Option Past)
@@ -100,27 +101,26 @@ pub served-once : {T : Type 0} (m : Meaning) (at : Address) (q : Request) (conf 
     → Acted m at q conf serial result w x old new → Concluded x z → ServedOnce m at q result v z old new
 unfolding episode
 served-once m at q conf serial (Some h) v w x z found old new ends current one is a c =
-    let b = began m at q conf serial v w x z found ends current is in
+    let b = began v w conf serial found ends current is in
     let xk : x.number ≡ v.number = a.places.number ∙ one.number in
-    let e = episode m at q conf serial v w x z found a.work c one.number xk b in
-    let here : EndsWith m w.number at q (outcome_of h) e.begin e.work e.finish a.put a.lines = a.is e.begin e.finish b c.stands in
+    let e = episode serial v w x z found conf a.work c one.number xk b in
+    let here : EndsIn m w.number at q (outcome_of h) e.begin e.work e.finish a.what = a.is e.begin e.finish b c.stands in
     record {
-      own = first m at q conf serial v w x z found ∷ (a.work ++ c.finish ∷ c.block);
-      places = all_placed m at q conf serial v w x z found a.work c one a.places;
-      served = replied m v.number at q (outcome_of h) _ e a.put a.lines old new a.past
-          (subst (λ (j : ℕ). EndsWith m j at q (outcome_of h) e.begin e.work e.finish a.put a.lines) one.number here);
+      own = first v serial found ∷ (a.work ++ c.finish ∷ c.block);
+      places = all_placed serial v w x z found a.work c one a.places;
+      served = replied m v.number at q (outcome_of h) _ e a.what old new a.past
+          (subst (λ (j : ℕ). EndsIn m j at q (outcome_of h) e.begin e.work e.finish a.what) one.number here);
     }
 served-once m at q conf serial None v w x z found old new ends current one is a c =
-    let b = began m at q conf serial v w x z found ends current is in
+    let b = began v w conf serial found ends current is in
     let xk : x.number ≡ v.number = a.places.number ∙ one.number in
-    let e = episode m at q conf serial v w x z found a.work c one.number xk b in
+    let e = episode serial v w x z found conf a.work c one.number xk b in
     let here : IsAgain m w.number at q e.begin e.work e.finish = a.is.0 e.begin e.finish b c.stands in
     let quiet : new ≡ old =
-    a.past ∙ (ap (λ (p : List ℕ). option_map (with_connection (after_sending p a.lines)) old) a.is.1
-    ∙ (ap (λ (ls : List Logged). option_map (with_connection (after_sending [] ls)) old) a.is.2 ∙ sym (nothing-sent old))) in
+    a.past ∙ (ap (λ (s : Sent). option_map (with_connection (after_sending s)) old) a.is.1 ∙ sym (nothing-sent old)) in
     record {
-      own = first m at q conf serial v w x z found ∷ (a.work ++ c.finish ∷ c.block);
-      places = all_placed m at q conf serial v w x z found a.work c one a.places;
+      own = first v serial found ∷ (a.work ++ c.finish ∷ c.block);
+      places = all_placed serial v w x z found a.work c one a.places;
       episode = e;
       again = subst (λ (j : ℕ). IsAgain m j at q e.begin e.work e.finish) one.number here;
       past = quiet;
@@ -138,7 +138,7 @@ agains-both m k at q (x ∷ xs) ys a b = (a.0, agains-both m k at q xs ys a.1 b)
 
 replied-after : (m : Meaning) (at : Address) (q : Request) (k : ℕ) (again : List (List Placed)) (o : Option Outcome) (own : List Placed) (old new : Option Past) → AllAgain m k at q again → RepliedWith m k at q o own old new → RepliedWith m k at q o (joined again ++ own) old new
 replied-after m at q k again (Some outcome) own old new agains r = record {
-  reply = record { request = r.reply.request; again = again ++ r.reply.again; last = r.reply.last; outcome = r.reply.outcome; put = r.reply.put; lines = r.reply.lines };
+  reply = record { request = r.reply.request; again = again ++ r.reply.again; last = r.reply.last; outcome = r.reply.outcome; sent = r.reply.sent };
   request = r.request;
   ends = r.ends;
   is = record {
@@ -204,18 +204,25 @@ module _ {T : Type 0} where
   pub begun-owes : (v w : View T) (found : List Signed) (n : ℕ) → OwesNothing v → Turned v w found (Begin v.number n ∷ []) → w.duties ≡ v.duties → OwesTicket w n
   begun-owes v w found n free t same = (ap (λ (o : Owes). o.ticket) t.grows.owes, ap (λ (o : Owes). o.draft) t.grows.owes ∙ free.1, same ∙ free.2)
 
-  pub begun-current : {A B : Type 0} {g : _} (v w : View T) (found : List Signed) (t : Ticket A B g) → IsTicketOf w t → Turned v w found (Begin v.number t.serial ∷ []) → t.serial ≡ (state_at found).serial → IsCurrent w t
-  begun-current v w found t is u current = record {
-    history = u.grows.history;
-    ticket = is;
-    current = current ∙ (sym (ap (λ (s : State). s.serial) (state-snoc found (signed v.number (Begin v.number t.serial)))) ∙ ap (λ (l : List Signed). (state_at l).serial) (sym u.is));
-  }
+  abbrev pub begun-by : {A B : Type 0} {g : _} (v w : View T) (found : List Signed) (t : Ticket A B g) → IsTicketOf w t → Turned v w found (Begin v.number t.serial ∷ []) → t.serial ≡ (state_at found).serial → IsBegun w t
+  begun-by v w found t is u current =
+      let number : w.number ≡ v.number = (turned_places v w found (Begin v.number t.serial ∷ []) u).number in
+      record {
+        history = u.grows.history;
+        ticket = is;
+        begin = first v t.serial found;
+        begins = ap (λ (k : ℕ). Begin k t.serial) (sym number);
+        with_ticket = began v w (conf_in t.share) t.serial found u.is current is.has.conf;
+        since = [];
+        stands = u.is ∙ ap (λ (k : ℕ). found ++ signed k (Begin v.number t.serial) ∷ []) (sym number);
+        alone = refl;
+      }
 
   -- what was begun was not worn
   pub not-worn : (m : Meaning) (at : Address) (q : Request) (conf : Conf) (serial : ℕ) (result : Option How) (v w x z : View T) (found : List Signed) (old new : Option Past)
       → w.seen ≡ found ++ signed v.number (Begin v.number serial) ∷ [] → serial ≡ (state_at found).serial → conf ≡ conf_of (state_at w.seen) serial
       → Acted m at q conf serial result w x old new → Concluded x z → result ≡ Some how.Worn → ⊥
   not-worn m at q conf serial result v w x z found old new ends current is a c same =
-      let b = began m at q conf serial v w x z found ends current is in
+      let b = began v w conf serial found ends current is in
       let worn : Acted m at q conf serial (Some how.Worn) w x old new = subst (λ (r : Option How). Acted m at q conf serial r w x old new) same a in
-      worn.is (first m at q conf serial v w x z found) c.finish b c.stands
+      worn.is (first v serial found) c.finish b c.stands

@@ -7,26 +7,25 @@ use Rattle.cd_legal.specs.declared.entry.Entry.TheVariants.{Finish}
 use Rattle.cd_legal.specs.declared.entry.Signed.{Signed}
 use Rattle.cd_legal.specs.declared.state.State.{State}
 use Rattle.cd_legal.specs.Entry.{signed, entries}
-use Rattle.cd_legal.specs.State.{has_number, ticket_of, open_at}
-use Rattle.cd_legal.specs.Legal.{state_at, may_retire}
+use Rattle.cd_legal.specs.State.{has_number, ticket_of}
+use Rattle.cd_legal.specs.Legal.{state_at}
 use Rattle.cd_legal.specs.Owing.{Owes}
-use Rattle.cd_legal.specs.Placed.{Placed, placed_entries}
+use Rattle.cd_legal.specs.Placed.{Placed}
 use Rattle.cd_legal.specs.Runs.{entries_for, cleaned_all, made_in, block_of}
 use Rattle.cd_legal.specs.Signing.{IsHistory}
-use Rattle.cd_legal.specs.Whole.{nothing_left}
-use Rattle.cd_legal.proofs.Histories.{first}
-use Rattle.cd_legal.proofs.Facts.{is-less}
 use Rattle.cd_legal.proofs.Logs.{history-front}
 use Rattle.cd_legal.proofs.Serials.{published-count}
 use Rattle.cd_gate.specs.declared.view.View.{View}
-use Rattle.cd_gate.specs.Growing.{Places, owes_after, all_signed}
-use Rattle.cd_gate.specs.Knowing.{due_at as serial_due}
+use Rattle.cd_gate.specs.Growing.{Places, owes_after}
 use Rattle.cd_gate.specs.Words.{owed}
 use Rattle.cd_gate.proofs.Grown.{places_both}
-use Rattle.cd_hall.specs.Turned.{Turned, placed_behind}
+use Rattle.cd_hall.specs.Dues.{DueThen}
+use Rattle.cd_hall.specs.Spread.{Spread}
+use Rattle.cd_hall.specs.Turned.{Turned}
+use Rattle.cd_hall.proofs.Spreading.{spread_history}
 use Rattle.cd_hall.specs.Publishing.{without_number}
 use Rattle.cd_serve.specs.Requests.{FinishesAfter, Concluded}
-use Rattle.cd_serve.proofs.Due.{retirable-is, due-is, duty-none, duty-some}
+use Rattle.cd_serve.proofs.Due.{due-then, due-less}
 use Rattle.cd_serve.proofs.Retirings.{block-stays}
 
 -- a block leaves what a pass owes
@@ -46,6 +45,9 @@ low : (h : Bool) (len serial n : ℕ) → len + cond h 1 0 ≡ serial → n < se
 low true len serial n is less = omega arith
 low false len serial n is less = omega arith
 
+same_head : (a b : ℕ) → a ∷ [] ≡ b ∷ [] → a ≡ b
+same_head a b is = cc
+
 module _ {T : Type 0} (v w : View T) (n : ℕ) (found : List Signed) where
   abbrev k : ℕ
   k = v.number
@@ -62,44 +64,32 @@ module _ {T : Type 0} (v w : View T) (n : ℕ) (found : List Signed) where
     legal = (history-front found w.seen (signed k (Finish k) ∷ [], sym t.is) t.grows.history).is_legal;
   }
 
-  -- whether its serial may be retired then
-  test : Ended → ticket_of v.number (state_at found).tickets ≡ Some n → nothing_left (state_at w.seen) ≡ true → may_retire (state_at w.seen) n ≡ (nat_lt n (state_at found).serial && (open_at n (state_at found).tickets == 1))
-  test t has left =
-      ap (λ (l : List Signed). may_retire (state_at l) n) t.is
-      ∙ retirable-is found k n (subst IsHistory t.is t.grows.history) has (ap (λ (l : List Signed). nothing_left (state_at l)) (sym t.is) ∙ left)
-
   -- no duty came
-  pub concluded_none : Ended → ticket_of v.number (state_at found).tickets ≡ Some n → nothing_left (state_at w.seen) ≡ true → Places v w (last ∷ []) → [] ≡ serial_due (state_at w.seen) n → Concluded v w
-  concluded_none t has left places none = record {
+  pub concluded_none : Ended → ticket_of v.number (state_at found).tickets ≡ Some n → Places v w (last ∷ []) → DueThen (state_at found) n [] → Concluded v w
+  concluded_none t has places due = record {
     finish = last;
     block = [];
     places = places;
     finishes = refl;
-    retires = due-is (state_at found) k n [] has
-        (λ e. absurd (let h : true ≡ false = sym e ∙ (sym (test t has left) ∙ duty-none (may_retire (state_at w.seen) n) n none) in cc)) (λ e. refl);
+    retires = due-then (state_at found) k n [] [] has due (λ none. refl) (λ one. absurd (let h : [] ≡ n ∷ [] = one in cc));
     stands = stands t;
   }
 
   -- one came, and was done in a later turn
-  pub concluded_duty : (x : View T) (duty : ℕ) (later : List Signed) → Ended → ticket_of v.number (state_at found).tickets ≡ Some n → nothing_left (state_at w.seen) ≡ true → Places v w (last ∷ []) → duty ∷ [] ≡ serial_due (state_at w.seen) n
-      → Turned w x later (block_of (state_at later) duty) → Places w x (placed_behind w.number later (block_of (state_at later) duty)) → placed_entries (placed_behind w.number later (block_of (state_at later) duty)) ≡ block_of (state_at later) duty → Concluded v x
-  concluded_duty x duty later t has left places came u done are =
-      let is = duty-some (may_retire (state_at w.seen) n) duty n came in
-      let holds : (nat_lt n (state_at found).serial && (open_at n (state_at found).tickets == 1)) ≡ true = sym (test t has left) ∙ is.0 in
-      let less : n < (state_at found).serial = is-less n (state_at found).serial (first (nat_lt n (state_at found).serial) _ holds) in
-      let end : signed k (Finish k) ∷ [] ≡ all_signed k (Finish k ∷ []) = refl in
+  pub concluded_duty : (x : View T) (duty : ℕ) (later : List Signed) → Ended → ticket_of v.number (state_at found).tickets ≡ Some n → Places v w (last ∷ []) → DueThen (state_at found) n (duty ∷ []) → Spread w x later (block_of (state_at later) duty) → Concluded v x
+  concluded_duty x duty later t has places due u =
       let begins : IsPrefix found later = (signed k (Finish k) ∷ u.seen.0, sym (append_assoc found (signed k (Finish k) ∷ []) u.seen.0) ∙ (ap (λ (l : List Signed). l ++ u.seen.0) (sym t.is) ∙ u.seen.1)) in
-      let legal = (history-front later x.seen (all_signed w.number (block_of (state_at later) duty), sym u.is) u.grows.history).is_legal in
-      let early = (history-front found later begins (history-front later x.seen (all_signed w.number (block_of (state_at later) duty), sym u.is) u.grows.history)).is_legal in
-      let there : n ≤ length (state_at found).published = low (state_at found).halted (length (state_at found).published) (state_at found).serial n (published-count (entries found) early) less in
-      let same : block_of (state_at later) duty ≡ block_of (state_at found) n = ap (λ (j : ℕ). block_of (state_at later) j) is.1 ∙ block-stays found later n begins legal there in
+      let history : IsHistory later = spread_history w x later (block_of (state_at later) duty) u in
+      let early = (history-front found later begins history).is_legal in
+      let there : n < (state_at found).serial → n ≤ length (state_at found).published = low (state_at found).halted (length (state_at found).published) (state_at found).serial n (published-count (entries found) early) in
+      let same : duty ∷ [] ≡ n ∷ [] → block_of (state_at later) duty ≡ block_of (state_at found) n =
+      λ one. ap (λ (j : ℕ). block_of (state_at later) j) (same_head duty n one) ∙ block-stays found later n begins history.is_legal (there (due-less (state_at found) n duty due)) in
       record {
         finish = last;
-        block = placed_behind w.number later (block_of (state_at later) duty);
-        places = places_both v w x (last ∷ []) (placed_behind w.number later (block_of (state_at later) duty)) places done;
+        block = u.added;
+        places = places_both v w x (last ∷ []) u.added places u.places;
         finishes = refl;
-        retires = due-is (state_at found) k n (placed_behind w.number later (block_of (state_at later) duty)) has (λ e. are ∙ same)
-            (λ e. absurd (let h : true ≡ false = sym holds ∙ e in cc));
+        retires = due-then (state_at found) k n u.added (duty ∷ []) has due (λ none. absurd (let h : duty ∷ [] ≡ [] = none in cc)) (λ one. u.are ∙ same one);
         stands = stands t;
       }
 

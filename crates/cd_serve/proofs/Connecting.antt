@@ -1,5 +1,5 @@
 -- A connection goes on from nothing, and ends in one of the ways.
-use Rattle.std.proofs.Common.{◌≡◌, ◌∙◌, ◌++◌, ◌+◌, ℕ, min, Bool, true, false, cond, List, [], ◌∷◌, Option, option_map, refl, ap, sym, subst, arith}
+use Rattle.std.proofs.Common.{◌≡◌, ◌∙◌, ◌++◌, ◌+◌, ℕ, min, Bool, true, false, cond, List, [], ◌∷◌, length, Option, option_map, refl, ap, sym, subst, arith}
 use Rattle.std.specs.Prelude.{flat_map, sum_by}
 use Rattle.std.proofs.lemmas.List.{append-nil, map-append}
 use Rattle.std.proofs.lemmas.List.Sums.{sum_by-append}
@@ -7,22 +7,23 @@ use Rattle.std.proofs.lemmas.Grind.{flat_map-append}
 use mathlib.Core.List.{IsPrefix}
 use Rattle.cd_text.specs.Steps.{joined}
 use Rattle.cd_outside.specs.declared.address.Address.{Address}
-use Rattle.cd_outside.specs.declared.past.Logged.{Logged}
+use Rattle.cd_outside.specs.declared.past.KeepRecord.{KeepRecord}
 use Rattle.cd_outside.specs.declared.past.Past.{Past}
 use Rattle.cd_outside.specs.Counts.{count_end}
-use Rattle.cd_outside.specs.Past.{after_put, with_connection}
+use Rattle.cd_outside.specs.Past.{after_put, with_connection, fresh}
 use Rattle.cd_wire.specs.declared.request.Request.{Request}
 use Rattle.cd_wire.specs.Requests.{Splits, BeginsRequest}
 use Rattle.cd_wire.proofs.RequestLaws.{Splits-append, Splits-snoc}
 use Rattle.cd_legal.specs.declared.entry.Signed.{Signed}
 use Rattle.cd_legal.specs.Placed.{Placed, through}
-use Rattle.cd_serve.specs.Meanings.{Meaning}
-use Rattle.cd_serve.specs.Episodes.{Outcome}
-use Rattle.cd_serve.specs.Replies.{Reply, IsReply, AreReplies, requests, own_of, owns, puts, logs, is_whole, answered_of}
+use Rattle.cd_serve.specs.declared.cause.Cause.{Cause}
+use Rattle.cd_serve.specs.Meanings.{Meaning, Sent, only_bytes, nothing_sent, kept_after, both_sent, after_sending}
+use Rattle.cd_serve.specs.Episodes.{Outcome, Ends}
+use Rattle.cd_serve.specs.Replies.{Reply, IsReply, AreReplies, requests, own_of, owns, all_sent, is_whole, answered_of}
 use Rattle.cd_serve.specs.Connections.{Way, AllGoOn, EndsBy}
-use Rattle.cd_serve.specs.Lanes.{is_early}
-use Rattle.cd_serve.specs.Serving.{Replied, ConnectionSoFar, ConnectionServed, after_all}
-use Rattle.cd_serve.proofs.Told.{nothing-yet, nothing-put, taking, ending, putting, fixing}
+use Rattle.cd_serve.specs.Lanes.{finds_halt}
+use Rattle.cd_serve.specs.Serving.{Replied, ConnectionSoFar, ConnectionServed, CausedBy, after_all}
+use Rattle.cd_serve.proofs.Told.{nothing-first, nothing-then, sent-assoc, sent-new, put-sent, nothing-yet, nothing-put, taking, ending, sending}
 
 -- ---- one reply more
 
@@ -43,6 +44,27 @@ count-more replies r =
     let one : sum_by f (r ∷ []) ≡ f r = omega arith in
     sum_by-append f replies (r ∷ []) ∙ ap (λ (n : ℕ). sum_by f replies + n) one
 
+pub sent-more : (replies : List Reply) (r : Reply) → all_sent (replies ++ r ∷ []) ≡ both_sent (all_sent replies) r.sent
+sent-more [] r = nothing-then r.sent ∙ sym (nothing-first r.sent)
+sent-more (x ∷ xs) r = ap (both_sent x.sent) (sent-more xs r) ∙ sym (sent-assoc x.sent (all_sent xs) r.sent)
+
+-- no reply keeps a configuration
+end-keeps : (m : Meaning) (k : ℕ) (at : Address) (q : Request) (o : Outcome) (begin : Placed) (work : List Placed) (finish : Placed) (s : Sent) → Ends m k at q o begin work finish s → s.keeps ≡ []
+end-keeps m k at q (Outcome.answered close) begin work finish s e = ap (λ (z : Sent). z.keeps) e.4
+end-keeps m k at q Outcome.unlogged begin work finish s e = ap (λ (z : Sent). z.keeps) e.6
+end-keeps m k at q Outcome.broken begin work finish s e = ap (λ (z : Sent). z.keeps) e.6
+end-keeps m k at q Outcome.lacking begin work finish s e = ap (λ (z : Sent). z.keeps) e.1
+end-keeps m k at q Outcome.dropped begin work finish s e = ap (λ (z : Sent). z.keeps) e.3
+end-keeps m k at q Outcome.halted begin work finish s e = ap (λ (z : Sent). z.keeps) e.3
+
+none-kept : (s t : Sent) → s.keeps ≡ [] → t.keeps ≡ [] → (both_sent s t).keeps ≡ []
+none-kept s t one two = ap (λ (z : List KeepRecord). z ++ kept_after (length s.put) t.keeps) one ∙ ap (kept_after (length s.put)) two
+
+all-keep-none : (m : Meaning) (k : ℕ) (at : Address) (replies : List Reply) → AreReplies m k at replies → (all_sent replies).keeps ≡ []
+all-keep-none m k at [] all = refl
+all-keep-none m k at (r ∷ rs) all =
+    none-kept r.sent (all_sent rs) (end-keeps m k at r.request r.outcome all.0.episode.begin all.0.episode.work all.0.episode.finish r.sent all.0.ends) (all-keep-none m k at rs all.1)
+
 -- ---- it goes on
 
 pub connection-starts : (m : Meaning) (k : ℕ) (at : Address) (told : Option Past) → ConnectionSoFar m k at [] [] [] false 0 told told
@@ -56,7 +78,7 @@ connection-takes m k at replies own left piece ended answered first old now s is
   each = s.each;
   own_is = s.own_is;
   answers = s.answers;
-  past = taking s.taken piece (puts replies) (logs replies) ended first old now s.past is;
+  past = taking s.taken piece (all_sent replies) ended first old now s.past is;
 }
 
 pub connection-ended : (m : Meaning) (k : ℕ) (at : Address) (replies : List Reply) (own : List Placed) (left : List ℕ) (answered : ℕ) (first old now : Option Past)
@@ -67,7 +89,7 @@ connection-ended m k at replies own left answered first old now s is = record {
   each = s.each;
   own_is = s.own_is;
   answers = s.answers;
-  past = ending s.taken (puts replies) (logs replies) first old now s.past is;
+  past = ending s.taken (all_sent replies) first old now s.past is;
 }
 
 pub connection-replies : (m : Meaning) (k : ℕ) (at : Address) (replies : List Reply) (own more : List Placed) (left rest : List ℕ) (ended : Bool) (answered : ℕ) (q : Request) (outcome : Outcome) (first old now : Option Past)
@@ -76,53 +98,52 @@ pub connection-replies : (m : Meaning) (k : ℕ) (at : Address) (replies : List 
 connection-replies m k at replies own more left rest ended answered q outcome first old now s begins r =
     let counted : answered_of (replies ++ r.reply ∷ []) ≡ answered_of replies + cond (is_whole outcome) 1 0 = count-more replies r.reply ∙ ap (λ (o : Outcome). answered_of replies + cond (is_whole o) 1 0) r.ends in
     let asked : requests (replies ++ r.reply ∷ []) ≡ requests replies ++ q ∷ [] = map-append (λ (x : Reply). x.request) replies (r.reply ∷ []) ∙ ap (λ (x : Request). requests replies ++ x ∷ []) r.request in
-    let told : now ≡ option_map (with_connection (after_all s.taken ended (puts replies ++ r.reply.put) (logs replies ++ r.reply.lines))) first =
-    putting s.taken (puts replies) r.reply.put (logs replies) r.reply.lines ended first old now s.past r.past in
+    let told : now ≡ option_map (with_connection (after_all s.taken ended (both_sent (all_sent replies) r.reply.sent))) first = sending s.taken (all_sent replies) r.reply.sent ended first old now s.past r.past in
     record {
       taken = s.taken;
       splits = subst (λ (qs : List Request). Splits s.taken qs rest) (sym asked) (Splits-snoc s.taken (requests replies) q left rest s.splits begins);
       each = each-more m k at replies r.reply s.each r.is;
       own_is = ap (λ (o : List Placed). o ++ more) s.own_is ∙ ap (λ (o : List Placed). owns replies ++ o) r.own_is ∙ sym (list-more own_of replies r.reply);
       answers = omega (arith, s.answers, counted);
-      past = told ∙ ap (λ (b : List ℕ). option_map (with_connection (after_all s.taken ended b (logs replies ++ r.reply.lines))) first) (sym (list-more (λ (x : Reply). x.put) replies r.reply))
-          ∙ ap (λ (ls : List Logged). option_map (with_connection (after_all s.taken ended (puts (replies ++ r.reply ∷ [])) ls)) first) (sym (list-more (λ (x : Reply). x.lines) replies r.reply));
+      past = told ∙ ap (λ (z : Sent). option_map (with_connection (after_all s.taken ended z)) first) (sym (sent-more replies r.reply));
     }
 
 -- ---- it ends
 
-pub connection-ends : (m : Meaning) (k : ℕ) (at : Address) (seen longer : List Signed) (replies : List Reply) (own : List Placed) (left : List ℕ) (ended : Bool) (answered : ℕ) (again : List (List Placed)) (fixed : List ℕ) (way : Way) (first old now : Option Past)
-    → ConnectionSoFar m k at replies own left ended answered first old → now ≡ option_map (after_put fixed) old
+pub connection-ends : (m : Meaning) (k : ℕ) (at : Address) (seen longer : List Signed) (replies : List Reply) (own : List Placed) (left : List ℕ) (ended : Bool) (answered : ℕ) (again : List (List Placed)) (fixed : List ℕ) (way : Way) (c : Cause) (first old now : Option Past)
+    → ConnectionSoFar m k at replies own left ended answered first old → CausedBy c way → now ≡ option_map (after_put fixed) old
     → ((before : List Placed) → IsPrefix (through k before) seen → EndsBy m k longer (before ++ (own ++ joined again)) at ended replies left again fixed way)
-    → ConnectionServed m k at seen longer (own ++ joined again) (is_early way) answered first now
-connection-ends m k at seen longer replies own left ended answered again fixed way first old now s put ends = record {
-  taken = s.taken;
-  ended = ended;
-  put = puts replies ++ fixed;
-  lines = logs replies;
-  ending = record { own = own ++ joined again; way = way; answered = answered_of replies };
-  own_is = refl;
-  past = fixing s.taken (puts replies) fixed (logs replies) ended first old now s.past put;
-  serves = λ before front. record {
-    replies = replies;
-    rest = left;
-    again = again;
-    fixed = fixed;
-    splits = s.splits;
-    each = s.each;
-    own = ap (λ (o : List Placed). o ++ joined again) s.own_is;
-    put = refl;
-    lines = refl;
-    keeps = refl;
-    ends = ends before front;
-    answered = refl;
-  };
-  early_is = refl;
-  answers = s.answers;
-}
+    → ConnectionServed m k at seen longer (own ++ joined again) (record { cause = c; answered = answered; halted = finds_halt way }) first now
+connection-ends m k at seen longer replies own left ended answered again fixed way c first old now s caused put ends =
+    let all = both_sent (all_sent replies) (only_bytes fixed) in
+    record {
+      taken = s.taken;
+      ended = ended;
+      sent = all;
+      ending = record { own = own ++ joined again; way = way; answered = answered_of replies };
+      own_is = refl;
+      past = sending s.taken (all_sent replies) (only_bytes fixed) ended first old now s.past (put-sent fixed old now put);
+      serves = λ before front. record {
+        replies = replies;
+        rest = left;
+        again = again;
+        fixed = fixed;
+        splits = s.splits;
+        each = s.each;
+        own = ap (λ (o : List Placed). o ++ joined again) s.own_is;
+        sent = sent-new all;
+        keeps = ap (λ (z : Sent). z.keeps) (sent-new all) ∙ none-kept (all_sent replies) (only_bytes fixed) (all-keep-none m k at replies s.each) refl;
+        ends = ends before front;
+        answered = refl;
+      };
+      caused = caused;
+      halted_is = refl;
+      answers = s.answers;
+    }
 
-pub connection-ends-quietly : (m : Meaning) (k : ℕ) (at : Address) (seen longer : List Signed) (replies : List Reply) (own : List Placed) (left : List ℕ) (ended : Bool) (answered : ℕ) (again : List (List Placed)) (way : Way) (first now : Option Past)
-    → ConnectionSoFar m k at replies own left ended answered first now
+pub connection-ends-quietly : (m : Meaning) (k : ℕ) (at : Address) (seen longer : List Signed) (replies : List Reply) (own : List Placed) (left : List ℕ) (ended : Bool) (answered : ℕ) (again : List (List Placed)) (way : Way) (c : Cause) (first now : Option Past)
+    → ConnectionSoFar m k at replies own left ended answered first now → CausedBy c way
     → ((before : List Placed) → IsPrefix (through k before) seen → EndsBy m k longer (before ++ (own ++ joined again)) at ended replies left again [] way)
-    → ConnectionServed m k at seen longer (own ++ joined again) (is_early way) answered first now
-connection-ends-quietly m k at seen longer replies own left ended answered again way first now s ends =
-    connection-ends m k at seen longer replies own left ended answered again [] way first now now s (nothing-put now) ends
+    → ConnectionServed m k at seen longer (own ++ joined again) (record { cause = c; answered = answered; halted = finds_halt way }) first now
+connection-ends-quietly m k at seen longer replies own left ended answered again way c first now s caused ends =
+    connection-ends m k at seen longer replies own left ended answered again [] way c first now now s caused (nothing-put now) ends

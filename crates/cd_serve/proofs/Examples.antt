@@ -5,7 +5,9 @@ use Rattle.std.proofs.lemmas.List.{length-append, length-map, append-nil}
 use Rattle.cd_outside.specs.declared.address.Address.{Address}
 use Rattle.cd_outside.specs.declared.key.Key.{Key}
 use Rattle.cd_outside.specs.declared.key.Key.TheVariants.{Listen, Writer}
+use Rattle.cd_outside.specs.declared.past.KeepRecord.{KeepRecord}
 use Rattle.cd_outside.specs.declared.past.Logged.{Logged}
+use Rattle.cd_outside.specs.Past.{fresh}
 use Rattle.cd_tree.specs.declared.tree.Tree.{Tree}
 use Rattle.cd_wire.specs.declared.answer.Answer.{Answer}
 use Rattle.cd_wire.specs.declared.request.Request.{Request}
@@ -26,14 +28,14 @@ use Rattle.cd_admin.specs.Deciding.{decided, reply, replace, halt}
 use Rattle.cd_module_set.specs.declared.target.Target.TheVariants as who
 use Rattle.cd_serve.specs.declared.fault.ChangeFault.{ChangeFault}
 use Rattle.cd_serve.specs.declared.fault.ChangeFault.TheVariants as fault
-use Rattle.cd_serve.specs.Meanings.{Meaning, Decides, IsAnswer, logged}
+use Rattle.cd_serve.specs.Meanings.{Meaning, Sent, Decides, IsAnswer, logged, only_bytes, nothing_sent, both_sent, after_sending}
 use Rattle.cd_serve.specs.Faults.{words, status, fault_answer, halted_answer}
-use Rattle.cd_serve.specs.Blocks.{Due, due}
-use Rattle.cd_serve.specs.Changes.{no_room, IsPublished, IsUndone, IsKept, IsHalted}
-use Rattle.cd_serve.specs.Episodes.{Episode, Kind, Outcome, Answers, IsAgain, Ends, conf_met, is_halt, another_halted}
+use Rattle.cd_serve.specs.Retirements.{Retirement, due}
+use Rattle.cd_serve.specs.Changes.{no_room, IsPublished, IsUndone, IsKept, IsHalting}
+use Rattle.cd_serve.specs.Episodes.{Episode, Kind, Outcome, Answers, IsAgain, Ends, conf_met, makes_change, is_halt, another_halted}
 use Rattle.cd_serve.specs.Replies.{is_whole}
-use Rattle.cd_serve.specs.Connections.{Way, Break}
-use Rattle.cd_serve.specs.Lanes.{is_early}
+use Rattle.cd_serve.specs.Connections.{Way, Interruption}
+use Rattle.cd_serve.specs.Lanes.{is_interrupted, is_faulted, finds_halt}
 
 -- ---- words and answers
 
@@ -52,11 +54,40 @@ of_words = (refl, refl, refl)
 of_statuses : (status (fault.CannotOpen site_key) ≡ 500) × (status (fault.StillInUse 1) ≡ 503) × (status fault.NoSerialLeft ≡ 503) × (status fault.NoDraftLeft ≡ 503)
 of_statuses = (refl, refl, refl, refl)
 
-of_outcomes : (is_whole (Outcome.answered true) ≡ true) × (is_whole (Outcome.answered false) ≡ true) × (is_whole Outcome.unlogged ≡ true) × (is_whole Outcome.broken ≡ false) × (is_whole Outcome.dropped ≡ false)
-of_outcomes = (refl, refl, refl, refl, refl)
+of_outcomes : (is_whole (Outcome.answered true) ≡ true) × (is_whole (Outcome.answered false) ≡ true) × (is_whole Outcome.unlogged ≡ true) × (is_whole Outcome.broken ≡ false) × (is_whole Outcome.lacking ≡ false) × (is_whole Outcome.dropped ≡ false) × (is_whole Outcome.halted ≡ false)
+of_outcomes = (refl, refl, refl, refl, refl, refl, refl)
 
-of_ways : (is_early (Way.early Break.reading) ≡ true) × (is_early (Way.early Break.wearing) ≡ true) × (is_early Way.clean ≡ false) × (is_early Way.dropped ≡ false) × (is_early Way.worn ≡ false)
-of_ways = (refl, refl, refl, refl, refl)
+of_ways : (is_interrupted (Way.interrupted Interruption.reading) ≡ true) × (is_interrupted (Way.interrupted Interruption.wearing) ≡ true) × (is_interrupted Way.clean ≡ false) × (is_interrupted Way.dropped ≡ false) × (is_interrupted Way.worn ≡ false)
+    × (is_interrupted Way.halted ≡ false) × (finds_halt Way.halted ≡ true) × (finds_halt Way.dropped ≡ false)
+of_ways = (refl, refl, refl, refl, refl, refl, refl, refl)
+
+-- a fault alone cuts an answer short, or one of its lines; bytes that can't be read may lack memory
+of_faults : (is_faulted (Way.interrupted Interruption.answering) ≡ true) × (is_faulted (Way.interrupted Interruption.logging) ≡ true) × (is_faulted (Way.interrupted Interruption.wearing) ≡ true)
+    × (is_faulted (Way.interrupted Interruption.lacking) ≡ false) × (is_faulted (Way.interrupted Interruption.reading) ≡ false) × (is_faulted (Way.interrupted Interruption.beginning) ≡ false) × (is_faulted Way.closed ≡ false)
+of_faults = (refl, refl, refl, refl, refl, refl, refl)
+
+of_changes : (makes_change Kind.changed ≡ true) × (makes_change Kind.halting ≡ true) × (makes_change Kind.served ≡ false) × (makes_change Kind.unopened ≡ false) × (makes_change Kind.kept ≡ false) × (makes_change Kind.spent ≡ false)
+of_changes = (refl, refl, refl, refl, refl, refl)
+
+-- ---- what is sent
+
+abbrev at_first : List KeepRecord → ℕ
+at_first [] = 0
+at_first (k ∷ ks) = k.put
+
+-- a configuration that is kept after two bytes of the second part was kept after five of all
+of_parts : (text : List ℕ) → ◌≡◌ {A = Sent} (both_sent (only_bytes (1 ∷ 2 ∷ 3 ∷ [])) (record { put = 4 ∷ 5 ∷ []; lines = []; keeps = record { put = 2; serial = 1; text = text } ∷ [] }))
+    (record { put = 1 ∷ 2 ∷ 3 ∷ 4 ∷ 5 ∷ []; lines = []; keeps = record { put = 5; serial = 1; text = text } ∷ [] })
+of_parts text = refl
+
+not_two : (text : List ℕ) → (both_sent (only_bytes (1 ∷ 2 ∷ 3 ∷ [])) (record { put = 4 ∷ 5 ∷ []; lines = []; keeps = record { put = 2; serial = 1; text = text } ∷ [] })).keeps ≡ record { put = 2; serial = 1; text = text } ∷ [] → ⊥
+not_two text is = let h : 5 ≡ 2 = ap (λ (ks : List KeepRecord). at_first ks) is in omega (arith, h)
+
+something_sent : (n : ℕ) (ns : List ℕ) → only_bytes (n ∷ ns) ≡ nothing_sent → ⊥
+something_sent n ns is = let h : n ∷ ns ≡ [] = ap (λ (z : Sent). z.put) is in cc
+
+of_nothing : (after_sending nothing_sent (fresh (record { host = []; port = 80 })) ≡ fresh (record { host = []; port = 80 })) × ((after_sending (only_bytes (1 ∷ [])) (fresh (record { host = []; port = 80 }))).put ≡ 1 ∷ [])
+of_nothing = (refl, refl)
 
 -- ---- room for a configuration
 
@@ -73,45 +104,45 @@ of_halts = (refl, refl, refl, refl, refl, refl)
 -- ---- histories
 
 -- a module without keys, the admin API and a site
-abbrev site : Plan
+abbrev pub site : Plan
 site = record {
   modules = record { name = codes "http"; at = record { parts = [] }; keys = [] } ∷ [];
   apps = record { name = codes "admin"; keys = admin_key ∷ [] } ∷ (record { name = codes "http"; keys = site_key ∷ [] } ∷ []);
 }
 
 -- these entries of a pass, after a history
-abbrev all_by : ℕ → List Entry → List Signed
+abbrev pub all_by : ℕ → List Entry → List Signed
 all_by k es = map (signed k) es
 
-abbrev on : ℕ → List Signed → List Entry → List Placed
+abbrev pub on : ℕ → List Signed → List Entry → List Placed
 on k before es = placed_from k before (all_by k es)
 
 module _ (t u : Tree) (q : Request) where
   -- the program publishes its first configuration, finishes, and retires serial 0
-  abbrev first : List Signed
+  abbrev pub first : List Signed
   first = all_by 0 (Begin 0 0 ∷ Draft 0 t site ∷ Made 0 0 0 None ∷ Started 0 0 1 None ∷ Started 0 1 1 None ∷ Publish 0 1 0 change.First ∷ Finish 0 ∷ Retire 0 ∷ [])
 
   -- ---- one pass serves while another one changes the configuration
 
-  abbrev opening : List Entry
+  abbrev pub opening : List Entry
   opening = Draft 1 u site ∷ Made 1 0 0 None ∷ Started 1 0 1 None ∷ Started 1 1 1 None ∷ []
 
-  abbrev begun : List Signed
+  abbrev pub begun : List Signed
   begun = first ++ (signed 1 (Begin 1 1) ∷ signed 2 (Begin 2 1) ∷ [])
 
-  abbrev opened_there : List Signed
+  abbrev pub opened_there : List Signed
   opened_there = begun ++ all_by 2 opening
 
-  abbrev published_there : List Signed
+  abbrev pub published_there : List Signed
   published_there = opened_there ++ signed 2 (Publish 1 2 1 (change.Request q)) ∷ []
 
-  abbrev stopped_there : List Signed
+  abbrev pub stopped_there : List Signed
   stopped_there = published_there ++ all_by 2 (Stopped 0 1 ∷ Stopped 0 0 ∷ [])
 
-  abbrev finished_there : List Signed
+  abbrev pub finished_there : List Signed
   finished_there = stopped_there ++ (signed 2 (Finish 2) ∷ signed 1 (Finish 1) ∷ [])
 
-  abbrev changing : List Signed
+  abbrev pub changing : List Signed
   changing = finished_there ++ all_by 1 (Retire 1 ∷ Cleaned 0 0 ∷ Begin 1 2 ∷ Finish 1 ∷ [])
 
   changing_is_legal : (legal (entries changing) ≡ true) × (are_signed changing ≡ true)
@@ -129,20 +160,20 @@ module _ (t u : Tree) (q : Request) where
   changes : Episode 2 (placed 2 changing)
   changes = record { begin = begin_of_two; work = work_of_two; finish = finish_of_two; block = []; whole = refl; begins = refl; finishes = refl; retires = refl }
 
-  abbrev begin_of_one : Placed
+  abbrev pub begin_of_one : Placed
   begin_of_one = record { before = first; entry = Begin 1 1 }
 
-  abbrev finish_of_one : Placed
+  abbrev pub finish_of_one : Placed
   finish_of_one = record { before = stopped_there ++ signed 2 (Finish 2) ∷ []; entry = Finish 1 }
 
-  abbrev first_of_one : List Placed
+  abbrev pub first_of_one : List Placed
   first_of_one = begin_of_one ∷ finish_of_one ∷ on 1 finished_there (Retire 1 ∷ Cleaned 0 0 ∷ [])
 
   -- the Finish of the pass that served closes the last request of serial 1, so the block of serial 1 follows it
-  serves : Episode 1 first_of_one
+  abbrev pub serves : Episode 1 first_of_one
   serves = record { begin = begin_of_one; work = []; finish = finish_of_one; block = on 1 finished_there (Retire 1 ∷ Cleaned 0 0 ∷ []); whole = refl; begins = refl; finishes = refl; retires = refl }
 
-  dues : (due (met finish_of_one) 1 ≡ Due.block 1) × (due (met finish_of_two) 2 ≡ Due.none) × (due (met begin_of_one) 1 ≡ Due.none)
+  dues : (due (met finish_of_one) 1 ≡ Retirement.here 1) × (due (met finish_of_two) 2 ≡ Retirement.none) × (due (met begin_of_one) 1 ≡ Retirement.none)
   dues = (refl, refl, refl)
 
   -- it began under the first configuration and was answered by it, though another one was published before it finished
@@ -212,7 +243,7 @@ module _ (t u : Tree) (q : Request) where
   halts : Episode 1 (placed 1 halting)
   halts = record { begin = halt_begin; work = halt_work; finish = halt_finish; block = []; whole = refl; begins = refl; finishes = refl; retires = refl }
 
-  halts_all : IsHalted halt_work
+  halts_all : IsHalting halt_work
   halts_all = record { halt = record { before = halted_before; entry = Halt 2 }; stopping = on 1 (halted_before ++ signed 1 (Halt 2) ∷ []) (Stopped 0 1 ∷ Stopped 0 0 ∷ []); block = []; whole = refl; halts = refl; stops = refl; retires = inl refl }
 
   abbrev again_begin : Placed
@@ -237,7 +268,7 @@ module _ (t u : Tree) (q : Request) where
   agains : Episode 2 again_own
   agains = record { begin = again_begin; work = again_work; finish = again_finish; block = on 2 (given_up_there ++ all_by 2 (Finish 2 ∷ [])) (Retire 1 ∷ Cleaned 0 0 ∷ []); whole = refl; begins = refl; finishes = refl; retires = inr refl }
 
-  again_due : due (met again_finish) 2 ≡ Due.block_or_elsewhere 1
+  again_due : due (met again_finish) 2 ≡ Retirement.here_or_elsewhere 1
   again_due = refl
 
   -- then the request begins in the halted state, where nobody answers
@@ -293,22 +324,29 @@ module _ (m : Meaning) (at : Address) (t u : Tree) (q : Request) where
     served_late lines differ (inr d) = let h : who.App ≡ who.Admin = sym app ∙ d.0.there in cc
 
     -- somebody answers, so the request is not dropped
-    not_dropped : (finish : Placed) → Ends m 1 at q Outcome.dropped (begin_of_one t u q) [] finish [] [] → ⊥
+    not_dropped : (finish : Placed) → Ends m 1 at q Outcome.dropped (begin_of_one t u q) [] finish nothing_sent → ⊥
     not_dropped finish d = let h : who.App ≡ who.Nobody = sym app ∙ d.0 in cc
 
-  -- nobody answers after the halt, so the request is dropped, and nothing is sent for it
-  dropped : (finish : Placed) → Ends m 2 at q Outcome.dropped (dropped_begin t u q) [] finish [] []
-  dropped finish = (refl, refl, refl, refl)
+  -- nobody answers after the halt, so nothing is sent for the request
+  halted : (finish : Placed) → Ends m 2 at q Outcome.halted (dropped_begin t u q) [] finish nothing_sent
+  halted finish = (refl, refl, refl, refl)
 
-  dropped_with_an_answer : (finish : Placed) → Ends m 2 at q Outcome.dropped (dropped_begin t u q) [] finish (65 ∷ []) [] → ⊥
-  dropped_with_an_answer finish d = let h : 65 ∷ [] ≡ [] = d.2 in cc
+  halted_with_an_answer : (finish : Placed) → Ends m 2 at q Outcome.halted (dropped_begin t u q) [] finish (only_bytes (65 ∷ [])) → ⊥
+  halted_with_an_answer finish d = something_sent 65 [] d.3
 
-  -- a request may be broken off with its Finish alone; then nothing was logged for it
-  broken : Ends m 1 at q Outcome.broken (begin_of_one t u q) [] (finish_of_one t u q) [] []
-  broken = (inr (refl, refl), refl)
+  -- it is dropped for that, and not since nobody answers at the address alone
+  halted_not_dropped : (finish : Placed) → Ends m 2 at q Outcome.dropped (dropped_begin t u q) [] finish nothing_sent → ⊥
+  halted_not_dropped finish d = let h : true ≡ false = d.1 in cc
 
-  broken_with_a_line : (put : List ℕ) (line : Logged) → Ends m 1 at q Outcome.broken (begin_of_one t u q) [] (finish_of_one t u q) put (line ∷ []) → ⊥
-  broken_with_a_line put line b = let h : line ∷ [] ≡ [] = b.1 in cc
+  running_not_halted : (finish : Placed) → Ends m 1 at q Outcome.halted (begin_of_one t u q) [] finish nothing_sent → ⊥
+  running_not_halted finish d = let h : false ≡ true = d.1 in cc
+
+  -- where memory lacks, a request may end with its Finish alone; then nothing was sent for it
+  lacking : Ends m 1 at q Outcome.lacking (begin_of_one t u q) [] (finish_of_one t u q) nothing_sent
+  lacking = (inr refl, refl)
+
+  lacking_with_a_line : (put : List ℕ) (line : Logged) → Ends m 1 at q Outcome.lacking (begin_of_one t u q) [] (finish_of_one t u q) (record { put = put; lines = line ∷ []; keeps = [] }) → ⊥
+  lacking_with_a_line put line b = let h : line ∷ [] ≡ [] = ap (λ (z : Sent). z.lines) b.1 in cc
 
   -- a request that was begun and not finished has no episode
   unfinished : Episode 1 (begin_of_one t u q ∷ []) → ⊥
@@ -435,7 +473,7 @@ module _ (m : Meaning) (at : Address) (t u : Tree) (q : Request) where
     halting_answers = (asks, halts_all t u q, refl, refl)
 
     -- the last app is stopped first
-    stopped_in_another_order : IsHalted (on 1 (halted_before t u q) (Halt 2 ∷ Stopped 0 0 ∷ Stopped 0 1 ∷ [])) → ⊥
+    stopped_in_another_order : IsHalting (on 1 (halted_before t u q) (Halt 2 ∷ Stopped 0 0 ∷ Stopped 0 1 ∷ [])) → ⊥
     stopped_in_another_order i = wrong_order t u q i.halt i.stopping i.block i.whole i.stops
 
     -- another pass had halted before the Finish

@@ -1,6 +1,6 @@
 -- A lane goes on: it begins, one more connection is served, and its last accept says that no more comes or fails.
-use Rattle.std.proofs.Common.{◌≡◌, ◌≤◌, ◌<◌, ◌∙◌, ◌++◌, ◌+◌, ◌-◌, ℕ, min, Bool, cond, List, [], ◌∷◌, Some, option_map, refl, ap, sym, subst, arith}
-use Rattle.std.specs.Prelude.{sum_by}
+use Rattle.std.proofs.Common.{◌≡◌, ◌≤◌, ◌<◌, ◌∙◌, ◌++◌, ◌+◌, ◌-◌, ℕ, min, Bool, true, false, cond, List, [], ◌∷◌, Some, option_map, refl, ap, sym, subst, arith}
+use Rattle.std.specs.Prelude.{sum_by, count_by}
 use Rattle.std.proofs.lemmas.List.{append_assoc, append-nil}
 use Rattle.std.proofs.lemmas.List.Sums.{sum_by-append}
 use mathlib.Core.List.{IsPrefix}
@@ -14,10 +14,11 @@ use Rattle.cd_legal.specs.declared.entry.Signed.{Signed}
 use Rattle.cd_legal.specs.Placed.{Placed, through}
 use Rattle.cd_serve.specs.declared.cause.Cause.{Cause}
 use Rattle.cd_serve.specs.declared.cause.Cause.TheVariants as cause
+use Rattle.cd_serve.specs.declared.connection_end.ConnectionEnd.{ConnectionEnd}
 use Rattle.cd_serve.specs.Meanings.{Meaning}
-use Rattle.cd_serve.specs.Connections.{Ending}
-use Rattle.cd_serve.specs.Lanes.{Told, is_early, early_in, answered_in, LaneSoFar}
-use Rattle.cd_serve.specs.Serving.{ConnectionServed, after_all, cuts_short, HasRisen, cut_by}
+use Rattle.cd_serve.specs.Connections.{Way, Ending}
+use Rattle.cd_serve.specs.Lanes.{Told, is_interrupted, is_faulted, finds_halt, interrupted_in, faulted_in, halted_in, answered_in, LaneSoFar}
+use Rattle.cd_serve.specs.Serving.{ConnectionServed, CausedBy, after_all, HasRisen, cut_by}
 use Rattle.cd_serve.proofs.Longer.{told-longer}
 use Rattle.cd_serve.proofs.Together.{told-together}
 
@@ -44,26 +45,67 @@ answered-more es e =
     let one : sum_by f (e ∷ []) ≡ f e = omega arith in
     sum_by-append f es (e ∷ []) ∙ ap (λ (n : ℕ). sum_by f es + n) one
 
-early-more : (es : List Ending) (e : Ending) → early_in (es ++ e ∷ []) ≡ early_in es + cond (is_early e.way) 1 0
-early-more es e =
-    let f = λ (x : Ending). cond {A = ℕ} (is_early x.way) 1 0 in
-    let one : sum_by f (e ∷ []) ≡ f e = omega arith in
-    sum_by-append f es (e ∷ []) ∙ ap (λ (n : ℕ). sum_by f es + n) one
+-- a count over endings, with one ending more
+count-more : (f : Way → Bool) (es : List Ending) (e : Ending) → count_by (λ (x : Ending). f x.way) (es ++ e ∷ []) ≡ count_by (λ (x : Ending). f x.way) es + cond (f e.way) 1 0
+count-more f es e =
+    let g = λ (x : Ending). cond {A = ℕ} (f x.way) 1 0 in
+    let one : sum_by g (e ∷ []) ≡ g e = omega arith in
+    sum_by-append g es (e ∷ []) ∙ ap (λ (n : ℕ). sum_by g es + n) one
 
-covers-more : (c : Cause) (mishaps f0 f1 f2 f3 cut : ℕ) → Covers mishaps f0 f1 cut → f1 ≤ f2 → HasRisen c f2 f3 → Covers (mishaps + cond (cuts_short c) 1 0) f0 f3 (cut_by c cut)
-covers-more cause.Whole mishaps f0 f1 f2 f3 cut covers le rose = λ a b. let h : f1 < count_end = omega (arith, le, rose) in omega (arith, covers h b, le, rose)
-covers-more cause.Failed mishaps f0 f1 f2 f3 cut covers le rose = λ a b. let h : f1 < count_end = omega (arith, le, rose.1) in omega (arith, covers h b, le, rose.0, rose.1)
-covers-more cause.Lacking mishaps f0 f1 f2 f3 cut covers le rose = λ a b. let h : f1 < count_end = omega (arith, le, rose) in let c : cut < count_end = omega arith in omega (arith, covers h c, le, rose)
+covers-more : (c : Cause) (early : Bool) (interruptions f0 f1 f2 f3 cut : ℕ) → (c ≡ cause.Whole → early ≡ false) → Covers interruptions f0 f1 cut → f1 ≤ f2 → HasRisen c f2 f3 → Covers (interruptions + cond early 1 0) f0 f3 (cut_by c cut)
+covers-more cause.Whole true interruptions f0 f1 f2 f3 cut whole covers le rose = absurd (let h : true ≡ false = whole refl in cc)
+covers-more cause.Whole false interruptions f0 f1 f2 f3 cut whole covers le rose = λ a b. let h : f1 < count_end = omega (arith, le, rose) in omega (arith, covers h b, le, rose)
+covers-more cause.Failed true interruptions f0 f1 f2 f3 cut whole covers le rose = λ a b. let h : f1 < count_end = omega (arith, le, rose.1) in omega (arith, covers h b, le, rose.0, rose.1)
+covers-more cause.Failed false interruptions f0 f1 f2 f3 cut whole covers le rose = λ a b. let h : f1 < count_end = omega (arith, le, rose.1) in omega (arith, covers h b, le, rose.0, rose.1)
+covers-more cause.Lacking true interruptions f0 f1 f2 f3 cut whole covers le rose = λ a b. let h : f1 < count_end = omega (arith, le, rose) in let c : cut < count_end = omega arith in omega (arith, covers h c, le, rose)
+covers-more cause.Lacking false interruptions f0 f1 f2 f3 cut whole covers le rose = λ a b. let h : f1 < count_end = omega (arith, le, rose) in let c : cut < count_end = omega arith in omega (arith, covers h c, le, rose)
 
-cut-more : (c : Cause) (cut early : ℕ) → cut ≤ early → cut_by c cut ≤ early + cond (cuts_short c) 1 0
-cut-more cause.Whole cut early le = omega (arith, le)
-cut-more cause.Failed cut early le = omega (arith, le)
-cut-more cause.Lacking cut early le = omega (arith, le)
+-- without the memory that a connection lacked
+faults-more : (c : Cause) (faulted : Bool) (interruptions f0 f1 f2 f3 : ℕ) → (faulted ≡ true → c ≡ cause.Failed) → Covers interruptions f0 f1 0 → f1 ≤ f2 → HasRisen c f2 f3 → Covers (interruptions + cond faulted 1 0) f0 f3 0
+faults-more cause.Failed true interruptions f0 f1 f2 f3 failed covers le rose = λ a b. let h : f1 < count_end = omega (arith, le, rose.1) in omega (arith, covers h b, le, rose.0, rose.1)
+faults-more cause.Failed false interruptions f0 f1 f2 f3 failed covers le rose = λ a b. let h : f1 < count_end = omega (arith, le, rose.1) in omega (arith, covers h b, le, rose.0, rose.1)
+faults-more cause.Whole true interruptions f0 f1 f2 f3 failed covers le rose = absurd (let h : cause.Whole ≡ cause.Failed = failed refl in cc)
+faults-more cause.Whole false interruptions f0 f1 f2 f3 failed covers le rose = λ a b. let h : f1 < count_end = omega (arith, le, rose) in omega (arith, covers h b, le, rose)
+faults-more cause.Lacking true interruptions f0 f1 f2 f3 failed covers le rose = absurd (let h : cause.Lacking ≡ cause.Failed = failed refl in cc)
+faults-more cause.Lacking false interruptions f0 f1 f2 f3 failed covers le rose = λ a b. let h : f1 < count_end = omega (arith, le, rose) in omega (arith, covers h b, le, rose)
+
+cut-more : (c : Cause) (early : Bool) (cut earlies : ℕ) → (c ≡ cause.Lacking → early ≡ true) → cut ≤ earlies → cut_by c cut ≤ earlies + cond early 1 0
+cut-more cause.Whole early cut earlies lacking le = omega (arith, le)
+cut-more cause.Failed early cut earlies lacking le = omega (arith, le)
+cut-more cause.Lacking true cut earlies lacking le = omega (arith, le)
+cut-more cause.Lacking false cut earlies lacking le = absurd (let h : false ≡ true = lacking refl in cc)
+
+-- the causes of a way
+caused-whole : (c : Cause) (way : Way) → CausedBy c way → c ≡ cause.Whole → is_interrupted way ≡ false
+caused-whole cause.Whole way caused is = caused
+caused-whole cause.Failed way caused is = absurd (let h : cause.Failed ≡ cause.Whole = is in cc)
+caused-whole cause.Lacking way caused is = absurd (let h : cause.Lacking ≡ cause.Whole = is in cc)
+
+caused-lacking : (c : Cause) (way : Way) → CausedBy c way → c ≡ cause.Lacking → is_interrupted way ≡ true
+caused-lacking cause.Lacking way caused is = caused.0
+caused-lacking cause.Whole way caused is = absurd (let h : cause.Whole ≡ cause.Lacking = is in cc)
+caused-lacking cause.Failed way caused is = absurd (let h : cause.Failed ≡ cause.Lacking = is in cc)
+
+-- only an early way is faulted
+faulted-early : (way : Way) → is_faulted way ≡ true → is_interrupted way ≡ true
+faulted-early (Way.interrupted break) is = refl
+faulted-early Way.clean is = absurd (let h : false ≡ true = is in cc)
+faulted-early Way.truncated is = absurd (let h : false ≡ true = is in cc)
+faulted-early Way.closed is = absurd (let h : false ≡ true = is in cc)
+faulted-early Way.dropped is = absurd (let h : false ≡ true = is in cc)
+faulted-early Way.halted is = absurd (let h : false ≡ true = is in cc)
+faulted-early Way.worn is = absurd (let h : false ≡ true = is in cc)
+faulted-early (Way.refused fault) is = absurd (let h : false ≡ true = is in cc)
+
+caused-failed : (c : Cause) (way : Way) → CausedBy c way → is_faulted way ≡ true → c ≡ cause.Failed
+caused-failed cause.Failed way caused is = refl
+caused-failed cause.Whole way caused is = absurd (let h : true ≡ false = sym (faulted-early way is) ∙ caused in cc)
+caused-failed cause.Lacking way caused is = absurd (let h : true ≡ false = sym is ∙ caused.1 in cc)
 
 covers-same : (a b f0 f1 cut : ℕ) → a ≡ b → Covers b f0 f1 cut → Covers a f0 f1 cut
 covers-same a b f0 f1 cut is covers = λ x y. omega (arith, covers x y, is)
 
-pub lane-starts : (m : Meaning) (k : ℕ) (history : List Signed) (f : ℕ) (p : Past) → LaneSoFar m k history [] f f 0 0 p p
+pub lane-starts : (m : Meaning) (k : ℕ) (history : List Signed) (f : ℕ) (p : Past) → LaneSoFar m k history [] f f 0 0 0 p p
 lane-starts m k history f p = record {
   connections = [];
   endings = [];
@@ -71,18 +113,23 @@ lane-starts m k history f p = record {
   told = record { whole = refl; each = tt };
   answers = refl;
   covered = λ a b. omega arith;
-  cut_early = omega arith;
+  faulted = λ a b. omega arith;
+  cut_interrupted = omega arith;
+  halts_are = refl;
 }
 
-pub lane-goes : (m : Meaning) (k : ℕ) (at : Address) (seen longer : List Signed) (own more : List Placed) (p q now : Past) (f0 f1 f2 f3 answered cut n : ℕ) (c : Cause)
-    → LaneSoFar m k seen own f0 f1 answered cut p q → IsPrefix seen longer → IsPrefix (through k own) seen → f1 ≤ f2 → HasRisen c f2 f3
-    → ConnectionServed m k at seen longer more (cuts_short c) n (Some (after_accept (accepted.Connection at) q)) (Some now)
-    → LaneSoFar m k longer (own ++ more) f0 f3 (min (answered + n) count_end) (cut_by c cut) p now
-lane-goes m k at seen longer own more p q now f0 f1 f2 f3 answered cut n c so_far front last le rose one =
-    let f = after_all one.taken one.ended one.put one.lines in
+pub lane-goes : (m : Meaning) (k : ℕ) (at : Address) (seen longer : List Signed) (own more : List Placed) (p q now : Past) (f0 f1 f2 f3 answered cut halts : ℕ) (end : ConnectionEnd)
+    → LaneSoFar m k seen own f0 f1 answered cut halts p q → IsPrefix seen longer → IsPrefix (through k own) seen → f1 ≤ f2 → HasRisen end.cause f2 f3
+    → ConnectionServed m k at seen longer more end (Some (after_accept (accepted.Connection at) q)) (Some now)
+    → LaneSoFar m k longer (own ++ more) f0 f3 (min (answered + end.answered) count_end) (cut_by end.cause cut) (halts + cond end.halted 1 0) p now
+lane-goes m k at seen longer own more p q now f0 f1 f2 f3 answered cut halts end so_far front last le rose one =
+    let f = after_all one.taken one.ended one.sent in
+    let way = one.ending.way in
     let is : now ≡ with_connection f (after_accept (accepted.Connection at) q) = past_is at q now f one.past in
     let faults : now.accept_faults ≡ q.accept_faults = ap (λ (z : Past). z.accept_faults) is in
-    let earlies : early_in (so_far.endings ++ one.ending ∷ []) ≡ early_in so_far.endings + cond (cuts_short c) 1 0 = early-more so_far.endings one.ending ∙ ap (λ (b : Bool). early_in so_far.endings + cond b 1 0) one.early_is in
+    let early : interrupted_in (so_far.endings ++ one.ending ∷ []) ≡ interrupted_in so_far.endings + cond (is_interrupted way) 1 0 = count-more is_interrupted so_far.endings one.ending in
+    let faulted : faulted_in (so_far.endings ++ one.ending ∷ []) ≡ faulted_in so_far.endings + cond (is_faulted way) 1 0 = count-more is_faulted so_far.endings one.ending in
+    let halted : halted_in (so_far.endings ++ one.ending ∷ []) ≡ halted_in so_far.endings + cond end.halted 1 0 = count-more finds_halt so_far.endings one.ending ∙ ap (λ (b : Bool). halted_in so_far.endings + cond b 1 0) one.halted_is in
     record {
       connections = so_far.connections ++ f (fresh at) ∷ [];
       endings = so_far.endings ++ one.ending ∷ [];
@@ -90,28 +137,36 @@ lane-goes m k at seen longer own more p q now f0 f1 f2 f3 answered cut n c so_fa
       told = told-together m k longer [] own more so_far.connections (f (fresh at) ∷ []) so_far.endings (one.ending ∷ []) (told-within m k seen longer own so_far.connections so_far.endings front so_far.told)
           (record { whole = sym one.own_is ∙ sym (append-nil one.ending.own); each = (one.serves own last, tt) });
       answers = omega (arith, so_far.answers, one.answers, answered-more so_far.endings one.ending);
-      covered = covers-same _ ((early_in so_far.endings + (q.accept_faults - p.accept_faults)) + cond (cuts_short c) 1 0) f0 f3 (cut_by c cut) (omega (arith, earlies, faults)) (covers-more c _ f0 f1 f2 f3 cut so_far.covered le rose);
-      cut_early = omega (arith, earlies, cut-more c cut (early_in so_far.endings) so_far.cut_early);
+      covered = covers-same _ ((interrupted_in so_far.endings + (q.accept_faults - p.accept_faults)) + cond (is_interrupted way) 1 0) f0 f3 (cut_by end.cause cut) (omega (arith, early, faults))
+          (covers-more end.cause (is_interrupted way) _ f0 f1 f2 f3 cut (caused-whole end.cause way one.caused) so_far.covered le rose);
+      faulted = covers-same _ ((faulted_in so_far.endings + (q.accept_faults - p.accept_faults)) + cond (is_faulted way) 1 0) f0 f3 0 (omega (arith, faulted, faults))
+          (faults-more end.cause (is_faulted way) _ f0 f1 f2 f3 (caused-failed end.cause way one.caused) so_far.faulted le rose);
+      cut_interrupted = omega (arith, early, cut-more end.cause (is_interrupted way) cut (interrupted_in so_far.endings) (caused-lacking end.cause way one.caused) so_far.cut_interrupted);
+      halts_are = ap (λ (n : ℕ). n + cond end.halted 1 0) so_far.halts_are ∙ sym halted;
     }
 
-pub lane-ends : (m : Meaning) (k : ℕ) (history : List Signed) (own : List Placed) (p q : Past) (f0 f1 f2 answered cut : ℕ) → LaneSoFar m k history own f0 f1 answered cut p q → f1 ≤ f2 → LaneSoFar m k history own f0 f2 answered cut p (after_accept accepted.Ended q)
-lane-ends m k history own p q f0 f1 f2 answered cut so_far le = record {
+pub lane-ends : (m : Meaning) (k : ℕ) (history : List Signed) (own : List Placed) (p q : Past) (f0 f1 f2 answered cut halts : ℕ) → LaneSoFar m k history own f0 f1 answered cut halts p q → f1 ≤ f2 → LaneSoFar m k history own f0 f2 answered cut halts p (after_accept accepted.Ended q)
+lane-ends m k history own p q f0 f1 f2 answered cut halts so_far le = record {
   connections = so_far.connections;
   endings = so_far.endings;
   added = so_far.added;
   told = so_far.told;
   answers = so_far.answers;
   covered = λ a b. let h : f1 < count_end = omega (arith, le) in omega (arith, so_far.covered h b, le);
-  cut_early = so_far.cut_early;
+  faulted = λ a b. let h : f1 < count_end = omega (arith, le) in omega (arith, so_far.faulted h b, le);
+  cut_interrupted = so_far.cut_interrupted;
+  halts_are = so_far.halts_are;
 }
 
-pub lane-fails : (m : Meaning) (k : ℕ) (history : List Signed) (own : List Placed) (p q : Past) (f0 f1 f2 answered cut : ℕ) → LaneSoFar m k history own f0 f1 answered cut p q → f1 ≤ f2 → Rose f1 f2 → LaneSoFar m k history own f0 f2 answered cut p (after_accept accepted.Failed q)
-lane-fails m k history own p q f0 f1 f2 answered cut so_far le rose = record {
+pub lane-fails : (m : Meaning) (k : ℕ) (history : List Signed) (own : List Placed) (p q : Past) (f0 f1 f2 answered cut halts : ℕ) → LaneSoFar m k history own f0 f1 answered cut halts p q → f1 ≤ f2 → Rose f1 f2 → LaneSoFar m k history own f0 f2 answered cut halts p (after_accept accepted.Failed q)
+lane-fails m k history own p q f0 f1 f2 answered cut halts so_far le rose = record {
   connections = so_far.connections;
   endings = so_far.endings;
   added = so_far.added;
   told = so_far.told;
   answers = so_far.answers;
   covered = λ a b. let h : f1 < count_end = omega (arith, le) in omega (arith, so_far.covered h b, le, rose);
-  cut_early = so_far.cut_early;
+  faulted = λ a b. let h : f1 < count_end = omega (arith, le) in omega (arith, so_far.faulted h b, le, rose);
+  cut_interrupted = so_far.cut_interrupted;
+  halts_are = so_far.halts_are;
 }

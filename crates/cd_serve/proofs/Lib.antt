@@ -3,9 +3,11 @@ pub mod Together
 pub mod Joined
 pub mod Told
 pub mod Connecting
+pub mod Completing
 pub mod Going
 pub mod Halts
 mod Examples
+mod Tellings
 pub mod Works
 pub mod Opens
 pub mod Tries

@@ -12,30 +12,32 @@ use Rattle.cd_legal.proofs.Placed.{placed-stays}
 use Rattle.cd_legal.proofs.Logs.{mine-append, prefix_more}
 use Rattle.cd_serve.specs.Meanings.{Meaning}
 use Rattle.cd_serve.specs.Replies.{Reply}
-use Rattle.cd_serve.specs.Connections.{Break, Way, Ending, IsWorn, EndsBy, Serves, ServesEach}
+use Rattle.cd_serve.specs.Connections.{Interruption, Way, Ending, IsWorn, EndsBy, Serves, ServesEach}
 use Rattle.cd_serve.specs.Lanes.{IsTold, Told}
 
 worn-longer : (k : ℕ) (history more : List Signed) (own : List Placed) → IsWorn k history own → IsWorn k (history ++ more) own
 worn-longer k history more own w = record { place = w.place; after = w.after; within = prefix_more w.place history more w.within; full = w.full }
 
-break-longer : (m : Meaning) (k : ℕ) (history more : List Signed) (own : List Placed) (at : Address) (ended : Bool) (replies : List Reply) (rest : List ℕ) (again : List (List Placed)) (fixed : List ℕ) (why : Break)
-    → EndsBy m k history own at ended replies rest again fixed (Way.early why) → EndsBy m k (history ++ more) own at ended replies rest again fixed (Way.early why)
-break-longer m k history more own at ended replies rest again fixed Break.answering e = e
-break-longer m k history more own at ended replies rest again fixed Break.logging e = e
-break-longer m k history more own at ended replies rest again fixed Break.reading e = e
-break-longer m k history more own at ended replies rest again fixed Break.beginning e = e
-break-longer m k history more own at ended replies rest again fixed Break.wearing e = (e.0, e.1, worn-longer k history more own e.2, e.3)
-break-longer m k history more own at ended replies rest again fixed (Break.refusing fault) e = e
+break-longer : (m : Meaning) (k : ℕ) (history more : List Signed) (own : List Placed) (at : Address) (ended : Bool) (replies : List Reply) (rest : List ℕ) (again : List (List Placed)) (fixed : List ℕ) (why : Interruption)
+    → EndsBy m k history own at ended replies rest again fixed (Way.interrupted why) → EndsBy m k (history ++ more) own at ended replies rest again fixed (Way.interrupted why)
+break-longer m k history more own at ended replies rest again fixed Interruption.answering e = e
+break-longer m k history more own at ended replies rest again fixed Interruption.lacking e = e
+break-longer m k history more own at ended replies rest again fixed Interruption.logging e = e
+break-longer m k history more own at ended replies rest again fixed Interruption.reading e = e
+break-longer m k history more own at ended replies rest again fixed Interruption.beginning e = e
+break-longer m k history more own at ended replies rest again fixed Interruption.wearing e = (e.0, e.1, worn-longer k history more own e.2, e.3)
+break-longer m k history more own at ended replies rest again fixed (Interruption.refusing fault) e = e
 
 ends-longer : (m : Meaning) (k : ℕ) (history more : List Signed) (own : List Placed) (at : Address) (ended : Bool) (replies : List Reply) (rest : List ℕ) (again : List (List Placed)) (fixed : List ℕ) (way : Way)
     → EndsBy m k history own at ended replies rest again fixed way → EndsBy m k (history ++ more) own at ended replies rest again fixed way
 ends-longer m k history more own at ended replies rest again fixed Way.clean e = e
-ends-longer m k history more own at ended replies rest again fixed Way.cut e = e
+ends-longer m k history more own at ended replies rest again fixed Way.truncated e = e
 ends-longer m k history more own at ended replies rest again fixed Way.closed e = e
 ends-longer m k history more own at ended replies rest again fixed Way.dropped e = e
+ends-longer m k history more own at ended replies rest again fixed Way.halted e = e
 ends-longer m k history more own at ended replies rest again fixed Way.worn e = (e.0, e.1, worn-longer k history more own e.2, e.3)
 ends-longer m k history more own at ended replies rest again fixed (Way.refused fault) e = e
-ends-longer m k history more own at ended replies rest again fixed (Way.early why) e = break-longer m k history more own at ended replies rest again fixed why e
+ends-longer m k history more own at ended replies rest again fixed (Way.interrupted why) e = break-longer m k history more own at ended replies rest again fixed why e
 
 pub serves-longer : (m : Meaning) (k : ℕ) (history more : List Signed) (before : List Placed) (c : Connection) (e : Ending) → Serves m k history before c e → Serves m k (history ++ more) before c e
 serves-longer m k history more before c e s = record {
@@ -46,8 +48,7 @@ serves-longer m k history more before c e s = record {
   splits = s.splits;
   each = s.each;
   own = s.own;
-  put = s.put;
-  lines = s.lines;
+  sent = s.sent;
   keeps = s.keeps;
   ends = ends-longer m k history more (before ++ e.own) c.address c.ended s.replies s.rest s.again s.fixed e.way s.ends;
   answered = s.answered;

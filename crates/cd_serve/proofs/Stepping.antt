@@ -25,13 +25,13 @@ use Rattle.cd_gate.specs.Growing.{Places, all_signed}
 use Rattle.cd_serve.specs.declared.cause.Cause.{Cause}
 use Rattle.cd_serve.specs.declared.cause.Cause.TheVariants as cause
 use Rattle.cd_serve.specs.declared.connection_end.ConnectionEnd.{ConnectionEnd}
-use Rattle.cd_serve.specs.Meanings.{Meaning, IsCutOff}
+use Rattle.cd_serve.specs.Meanings.{Meaning, IsProperPrefix}
 use Rattle.cd_serve.specs.Episodes.{Outcome}
 use Rattle.cd_serve.specs.Replies.{Reply, is_whole}
-use Rattle.cd_serve.specs.Connections.{Break, Way, LastIs, IsTail, HasFurther, IsWorn, EndsBy}
-use Rattle.cd_serve.specs.Lanes.{is_early}
-use Rattle.cd_serve.specs.Serving.{Replied, NotBegun, ConnectionSoFar, ConnectionServed, cuts_short, HasRisen}
-use Rattle.cd_serve.specs.Stepping.{HasPlaced, GoesOn, IsOver}
+use Rattle.cd_serve.specs.Connections.{Interruption, Way, LastIs, IsTail, HasFurther, IsWorn, EndsBy}
+use Rattle.cd_serve.specs.Lanes.{finds_halt}
+use Rattle.cd_serve.specs.Serving.{Replied, NotBegun, ConnectionSoFar, ConnectionServed, CausedBy, HasRisen}
+use Rattle.cd_serve.specs.Stepping.{HasPlaced, GoesOn, IsEnded}
 use Rattle.cd_serve.proofs.Connecting.{connection-starts, connection-takes, connection-ended, connection-replies, connection-ends, connection-ends-quietly, go-on-more}
 use Rattle.cd_serve.proofs.Told.{nothing-put}
 
@@ -54,10 +54,10 @@ prefix_same xs = ([], append-nil xs)
 
 module _ {T : Type 0} where
   pub placed-none : (v : View T) → HasPlaced v v []
-  placed-none v = record { number = refl; seen = prefix_same v.seen; placed_is = sym (append-nil (placed v.number v.seen)); last = (v.seen, refl); adds = sym (append-nil v.mine); same = refl }
+  placed-none v = record { number = refl; seen = prefix_same v.seen; history = λ h. h; placed_is = sym (append-nil (placed v.number v.seen)); last = (v.seen, refl); adds = sym (append-nil v.mine); same = refl }
 
   pub has-placed : (v w : View T) (own : List Placed) → Places v w own → HasPlaced v w own
-  has-placed v w own p = record { number = p.number; seen = p.seen; placed_is = p.placed_is; last = p.last; adds = p.adds; same = p.same }
+  has-placed v w own p = record { number = p.number; seen = p.seen; history = λ h. p.history; placed_is = p.placed_is; last = p.last; adds = p.adds; same = p.same }
 
   pub placed-both : (v w x : View T) (one two : List Placed) → HasPlaced v w one → HasPlaced w x two → HasPlaced v x (one ++ two)
   placed-both v w x one two a b =
@@ -65,6 +65,7 @@ module _ {T : Type 0} where
       record {
         number = b.number ∙ a.number;
         seen = prefix_trans v.seen w.seen x.seen a.seen b.seen;
+        history = λ h. b.history (a.history h);
         placed_is =
             subst (λ (j : ℕ). placed j x.seen ≡ placed j w.seen ++ two) a.number b.placed_is
             ∙ (ap (λ (l : List Placed). l ++ two) a.placed_is ∙ append_assoc (placed k v.seen) one two);
@@ -80,6 +81,10 @@ module _ {T : Type 0} where
 
   placed-nil : (v w : View T) (own : List Placed) → HasPlaced v w own → HasPlaced v w (own ++ [])
   placed-nil v w own p = subst (λ (l : List Placed). HasPlaced v w l) (sym (append-nil own)) p
+
+-- a connection that ended for this cause, whose requests were answered so often, and which found the host halted or not
+abbrev pub over_with : Cause → ℕ → Bool → ConnectionEnd
+over_with c n halted = record { cause = c; answered = n; halted = halted }
 
 module _ {T : Type 0} (m : Meaning) (at : Address) where
   pub goes-new : (v : View T) (told : Option Past) → GoesOn m at [] false 0 v v told told
@@ -110,44 +115,42 @@ module _ {T : Type 0} (m : Meaning) (at : Address) where
   same-past left ended n v w first (Some p) now g is = subst (λ (z : Option Past). GoesOn m at left ended n v w first z) (sym is) g
 
   -- it is over with what is handed out
-  pub ends-as : (c : Cause) (n : ℕ) (v w : View T) (first now : Option Past) (e : ConnectionEnd) → e ≡ record { cause = c; answered = n; halted = false } → IsOver m at c n v w first now → IsOver m at e.cause e.answered v w first now
-  ends-as c n v w first now e is over = subst (λ (z : ConnectionEnd). IsOver m at z.cause z.answered v w first now) (sym is) over
+  pub ends-as : (c : Cause) (n : ℕ) (v w : View T) (first now : Option Past) (e : ConnectionEnd) → e ≡ over_with c n false → IsEnded m at (over_with c n false) v w first now → IsEnded m at e v w first now
+  ends-as c n v w first now e is over = subst (λ (z : ConnectionEnd). IsEnded m at z v w first now) (sym is) over
 
   -- it ends, and nothing more was made or sent
   ends-quietly : (left : List ℕ) (ended : Bool) (n : ℕ) (v w : View T) (first now : Option Past) (c : Cause) (way : Way) (replies : List Reply) (own : List Placed) → HasPlaced v w own → ConnectionSoFar m v.number at replies own left ended n first now
-      → ((before : List Placed) → EndsBy m v.number w.seen (before ++ (own ++ [])) at ended replies left [] [] way) → is_early way ≡ cuts_short c → IsOver m at c n v w first now
-  ends-quietly left ended n v w first now c way replies own made so_far ends same = record {
+      → ((before : List Placed) → EndsBy m v.number w.seen (before ++ (own ++ [])) at ended replies left [] [] way) → CausedBy c way → IsEnded m at (over_with c n (finds_halt way)) v w first now
+  ends-quietly left ended n v w first now c way replies own made so_far ends caused = record {
     own = own ++ [];
     made = placed-nil v w own made;
-    served = subst (λ (b : Bool). ConnectionServed m v.number at v.seen w.seen (own ++ []) b n first now) same
-        (connection-ends-quietly m v.number at v.seen w.seen replies own left ended n [] way first now so_far (λ before front. ends before));
+    served = connection-ends-quietly m v.number at v.seen w.seen replies own left ended n [] way c first now so_far caused (λ before front. ends before);
   }
 
   module _ (left : List ℕ) (ended : Bool) (n : ℕ) (v w : View T) (first now : Option Past) (g : GoesOn m at left ended n v w first now) where
-    pub over-clean : IsTail left ended Tail.clean → IsOver m at cause.Whole n v w first now
+    pub over-clean : IsTail left ended Tail.clean → IsEnded m at (over_with cause.Whole n false) v w first now
     over-clean tail = ends-quietly left ended n v w first now cause.Whole Way.clean g.replies g.own g.made g.so_far (λ before. (g.none_closes, tail, refl, refl)) refl
 
-    pub over-cut : IsTail left ended Tail.cut → IsOver m at cause.Whole n v w first now
-    over-cut tail = ends-quietly left ended n v w first now cause.Whole Way.cut g.replies g.own g.made g.so_far (λ before. (g.none_closes, tail, refl, refl)) refl
+    pub over-cut : IsTail left ended Tail.cut → IsEnded m at (over_with cause.Whole n false) v w first now
+    over-cut tail = ends-quietly left ended n v w first now cause.Whole Way.truncated g.replies g.own g.made g.so_far (λ before. (g.none_closes, tail, refl, refl)) refl
 
-    pub over-reading : (c : Cause) → cuts_short c ≡ true → IsOver m at c n v w first now
-    over-reading c short = ends-quietly left ended n v w first now c (Way.early Break.reading) g.replies g.own g.made g.so_far (λ before. (g.none_closes, refl, refl)) (sym short)
+    pub over-reading : (c : Cause) → CausedBy c (Way.interrupted Interruption.reading) → IsEnded m at (over_with c n false) v w first now
+    over-reading c caused = ends-quietly left ended n v w first now c (Way.interrupted Interruption.reading) g.replies g.own g.made g.so_far (λ before. (g.none_closes, refl, refl)) caused
 
     -- the fixed answer to what is refused follows
-    refused-so : (x : View T) (part : List ℕ) (then : Option Past) (c : Cause) (way : Way) → x ≡ w → then ≡ option_map (after_put part) now
-        → ((before : List Placed) → EndsBy m v.number w.seen (before ++ (g.own ++ [])) at ended g.replies left [] part way) → is_early way ≡ cuts_short c → IsOver m at c n v w first then
-    refused-so x part then c way same put ends early = record {
+    refused-so : (part : List ℕ) (then : Option Past) (c : Cause) (way : Way) → then ≡ option_map (after_put part) now
+        → ((before : List Placed) → EndsBy m v.number w.seen (before ++ (g.own ++ [])) at ended g.replies left [] part way) → CausedBy c way → IsEnded m at (over_with c n (finds_halt way)) v w first then
+    refused-so part then c way put ends caused = record {
       own = g.own ++ [];
       made = placed-nil v w g.own g.made;
-      served = subst (λ (b : Bool). ConnectionServed m v.number at v.seen w.seen (g.own ++ []) b n first then) early
-          (connection-ends m v.number at v.seen w.seen g.replies g.own left ended n [] part way first now then g.so_far put (λ before front. ends before));
+      served = connection-ends m v.number at v.seen w.seen g.replies g.own left ended n [] part way c first now then g.so_far caused put (λ before front. ends before);
     }
 
-    pub over-refused : (fault : WireFault) (part : List ℕ) (then : Option Past) → IsTail left ended (Tail.refused fault) → part ≡ refusal_bytes (status_of fault) → then ≡ option_map (after_put part) now → IsOver m at cause.Whole n v w first then
-    over-refused fault part then tail is put = refused-so w part then cause.Whole (Way.refused fault) refl put (λ before. (g.none_closes, tail, refl, is)) refl
+    pub over-refused : (fault : WireFault) (part : List ℕ) (then : Option Past) → IsTail left ended (Tail.refused fault) → part ≡ refusal_bytes (status_of fault) → then ≡ option_map (after_put part) now → IsEnded m at (over_with cause.Whole n false) v w first then
+    over-refused fault part then tail is put = refused-so part then cause.Whole (Way.refused fault) put (λ before. (g.none_closes, tail, refl, is)) refl
 
-    pub over-refusing : (fault : WireFault) (part : List ℕ) (then : Option Past) → IsTail left ended (Tail.refused fault) → IsCutOff part (refusal_bytes (status_of fault)) → then ≡ option_map (after_put part) now → IsOver m at cause.Failed n v w first then
-    over-refusing fault part then tail is put = refused-so w part then cause.Failed (Way.early (Break.refusing fault)) refl put (λ before. (g.none_closes, tail, refl, is)) refl
+    pub over-refusing : (fault : WireFault) (part : List ℕ) (then : Option Past) → IsTail left ended (Tail.refused fault) → IsProperPrefix part (refusal_bytes (status_of fault)) → then ≡ option_map (after_put part) now → IsEnded m at (over_with cause.Failed n false) v w first then
+    over-refusing fault part then tail is put = refused-so part then cause.Failed (Way.interrupted (Interruption.refusing fault)) put (λ before. (g.none_closes, tail, refl, is)) refl
 
     -- ---- a request
 
@@ -167,9 +170,9 @@ module _ {T : Type 0} (m : Meaning) (at : Address) where
 
         pub over-last : (c : Cause) (way : Way) (l : ℕ) → l ≡ min (n + cond (is_whole o) 1 0) count_end
             → ((before : List Placed) → LastIs o (g.replies ++ r.reply ∷ []) → EndsBy m v.number x.seen (before ++ ((g.own ++ own) ++ [])) at ended (g.replies ++ r.reply ∷ []) rest [] [] way)
-            → is_early way ≡ cuts_short c → IsOver m at c l v x first then
+            → CausedBy c way → IsEnded m at (over_with c l (finds_halt way)) v x first then
         over-last c way l is ends early =
-            subst (λ (z : ℕ). IsOver m at c z v x first then) (sym is)
+            subst (λ (z : ℕ). IsEnded m at (over_with c z (finds_halt way)) v x first then) (sym is)
             (ends-quietly rest ended (min (n + cond (is_whole o) 1 0) count_end) v x first then c way (g.replies ++ r.reply ∷ []) (g.own ++ own) made so_far (λ before. ends before last-is) early)
 
         -- the count stays where the answer was not sent whole
@@ -188,17 +191,23 @@ module _ {T : Type 0} (m : Meaning) (at : Address) where
         none_closes = go-on-more g.replies (r (Outcome.answered false) r').reply g.none_closes (r (Outcome.answered false) r').ends;
       }
 
-      pub over-closed : (l : ℕ) → Replied m w.number at q (Outcome.answered true) own now then → l ≡ min (n + 1) count_end → IsOver m at cause.Whole l v x first then
+      pub over-closed : (l : ℕ) → Replied m w.number at q (Outcome.answered true) own now then → l ≡ min (n + 1) count_end → IsEnded m at (over_with cause.Whole l false) v x first then
       over-closed l r' is = over-last (Outcome.answered true) r' cause.Whole Way.closed l is (λ before last. (last, refl, refl)) refl
 
-      pub over-unlogged : (l : ℕ) → Replied m w.number at q Outcome.unlogged own now then → l ≡ min (n + 1) count_end → IsOver m at cause.Failed l v x first then
-      over-unlogged l r' is = over-last Outcome.unlogged r' cause.Failed (Way.early Break.logging) l is (λ before last. (last, refl, refl)) refl
+      pub over-unlogged : (l : ℕ) → Replied m w.number at q Outcome.unlogged own now then → l ≡ min (n + 1) count_end → IsEnded m at (over_with cause.Failed l false) v x first then
+      over-unlogged l r' is = over-last Outcome.unlogged r' cause.Failed (Way.interrupted Interruption.logging) l is (λ before last. (last, refl, refl)) refl
 
-      pub over-broken : (c : Cause) → cuts_short c ≡ true → Replied m w.number at q Outcome.broken own now then → IsOver m at c n v x first then
-      over-broken c short r' = over-last Outcome.broken r' c (Way.early Break.answering) n (not-whole Outcome.broken r' refl) (λ before last. (last, refl, refl)) (sym short)
+      pub over-broken : Replied m w.number at q Outcome.broken own now then → IsEnded m at (over_with cause.Failed n false) v x first then
+      over-broken r' = over-last Outcome.broken r' cause.Failed (Way.interrupted Interruption.answering) n (not-whole Outcome.broken r' refl) (λ before last. (last, refl, refl)) refl
 
-      pub over-dropped : Replied m w.number at q Outcome.dropped own now then → IsOver m at cause.Whole n v x first then
+      pub over-lacking : Replied m w.number at q Outcome.lacking own now then → IsEnded m at (over_with cause.Lacking n false) v x first then
+      over-lacking r' = over-last Outcome.lacking r' cause.Lacking (Way.interrupted Interruption.lacking) n (not-whole Outcome.lacking r' refl) (λ before last. (last, refl, refl)) (refl, refl)
+
+      pub over-dropped : Replied m w.number at q Outcome.dropped own now then → IsEnded m at (over_with cause.Whole n false) v x first then
       over-dropped r' = over-last Outcome.dropped r' cause.Whole Way.dropped n (not-whole Outcome.dropped r' refl) (λ before last. (last, refl, refl)) refl
+
+      pub over-halted : Replied m w.number at q Outcome.halted own now then → IsEnded m at (over_with cause.Whole n true) v x first then
+      over-halted r' = over-last Outcome.halted r' cause.Whole Way.halted n (not-whole Outcome.halted r' refl) (λ before last. (last, refl, refl)) refl
 
       -- ---- a request that was not begun
 
@@ -224,22 +233,21 @@ module _ {T : Type 0} (m : Meaning) (at : Address) where
         so_far-told = subst (λ (z : Option Past). ConnectionSoFar m v.number at g.replies g.own left ended n first z) (sym b.past) g.so_far
 
         over-so : (part : List ℕ) (put : Option Past) (c : Cause) (way : Way) → put ≡ option_map (after_put part) then
-            → ((before : List Placed) → IsPrefix (through v.number before) v.seen → EndsBy m v.number x.seen (before ++ (g.own ++ joined b.again)) at ended g.replies left b.again part way) → is_early way ≡ cuts_short c → IsOver m at c n v x first put
-        over-so part put c way told ends early = record {
+            → ((before : List Placed) → IsPrefix (through v.number before) v.seen → EndsBy m v.number x.seen (before ++ (g.own ++ joined b.again)) at ended g.replies left b.again part way) → CausedBy c way → IsEnded m at (over_with c n (finds_halt way)) v x first put
+        over-so part put c way told ends caused = record {
           own = g.own ++ joined b.again;
           made = all_made;
-          served = subst (λ (z : Bool). ConnectionServed m v.number at v.seen x.seen (g.own ++ joined b.again) z n first put) early
-              (connection-ends m v.number at v.seen x.seen g.replies g.own left ended n b.again part way first then put so_far-told told ends);
+          served = connection-ends m v.number at v.seen x.seen g.replies g.own left ended n b.again part way c first then put so_far-told caused told ends;
         }
 
-        pub over-worn : (part : List ℕ) (put : Option Past) → MAX_BEGINS ≤ begins_now (entries x.seen) → part ≡ refusal_bytes 503 → put ≡ option_map (after_put part) then → IsOver m at cause.Whole n v x first put
+        pub over-worn : (part : List ℕ) (put : Option Past) → MAX_BEGINS ≤ begins_now (entries x.seen) → part ≡ refusal_bytes 503 → put ≡ option_map (after_put part) then → IsEnded m at (over_with cause.Whole n false) v x first put
         over-worn part put full is told = over-so part put cause.Whole Way.worn told (λ before front. (g.none_closes, further, worn full before front, is)) refl
 
-        pub over-wearing : (part : List ℕ) (put : Option Past) → MAX_BEGINS ≤ begins_now (entries x.seen) → IsCutOff part (refusal_bytes 503) → put ≡ option_map (after_put part) then → IsOver m at cause.Failed n v x first put
-        over-wearing part put full is told = over-so part put cause.Failed (Way.early Break.wearing) told (λ before front. (g.none_closes, further, worn full before front, is)) refl
+        pub over-wearing : (part : List ℕ) (put : Option Past) → MAX_BEGINS ≤ begins_now (entries x.seen) → IsProperPrefix part (refusal_bytes 503) → put ≡ option_map (after_put part) then → IsEnded m at (over_with cause.Failed n false) v x first put
+        over-wearing part put full is told = over-so part put cause.Failed (Way.interrupted Interruption.wearing) told (λ before front. (g.none_closes, further, worn full before front, is)) refl
 
-        pub over-unbegun : IsOver m at cause.Lacking n v x first then
-        over-unbegun = over-so [] then cause.Lacking (Way.early Break.beginning) (nothing-put then) (λ before front. (g.none_closes, further, refl)) refl
+        pub over-unbegun : IsEnded m at (over_with cause.Lacking n false) v x first then
+        over-unbegun = over-so [] then cause.Lacking (Way.interrupted Interruption.beginning) (nothing-put then) (λ before front. (g.none_closes, further, refl)) (refl, refl)
 
 -- a fault that rose later has risen since before
 pub risen-later : (c : Cause) (f0 f1 f2 : ℕ) → f0 ≤ f1 → HasRisen c f1 f2 → HasRisen c f0 f2

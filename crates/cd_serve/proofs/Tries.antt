@@ -14,17 +14,16 @@ use Rattle.cd_legal.specs.declared.entry.Entry.TheVariants.{Draft, Publish, Aban
 use Rattle.cd_legal.specs.declared.entry.Signed.{Signed}
 use Rattle.cd_legal.specs.declared.plan.Plan.{Plan}
 use Rattle.cd_legal.specs.declared.state.State.{State}
-use Rattle.cd_legal.specs.Entry.{signed}
 use Rattle.cd_legal.specs.State.{Conf, has_number, draft_of}
 use Rattle.cd_legal.specs.Legal.{state_at}
 use Rattle.cd_legal.specs.Owing.{Owes}
 use Rattle.cd_legal.specs.Placed.{Placed, through}
 use Rattle.cd_legal.specs.Runs.{Failure, opened, opened_until, stopped_all, cleaned_all, ended_all, undone_after, entries_for, started_in, stopped_of}
 use Rattle.cd_legal.specs.Signing.{IsHistory}
-use Rattle.cd_legal.proofs.Logs.{prefix_trans, history-front}
+use Rattle.cd_legal.proofs.Logs.{prefix_trans}
 use Rattle.cd_legal.proofs.Serials.{serial-rises}
 use Rattle.cd_gate.specs.declared.view.View.{View}
-use Rattle.cd_gate.specs.Growing.{all_signed, owes_after}
+use Rattle.cd_gate.specs.Growing.{owes_after}
 use Rattle.cd_gate.specs.Words.{owed}
 use Rattle.cd_desk.specs.declared.drafts.DraftFault.{DraftFault}
 use Rattle.cd_desk.specs.declared.drafts.DraftFault.TheVariants as undrafted
@@ -32,9 +31,10 @@ use Rattle.cd_hall.specs.declared.hall.Ticket.{Ticket}
 use Rattle.cd_hall.specs.Drafts.{Held, new_held, IsWholeDraft}
 use Rattle.cd_hall.specs.Publishing.{Refusal, refusal}
 use Rattle.cd_hall.specs.Tickets.{IsTicketOf}
-use Rattle.cd_hall.specs.Turned.{Turned, placed_behind}
-use Rattle.cd_hall.proofs.Placing.{behind_entries}
+use Rattle.cd_hall.specs.Spread.{Spread}
+use Rattle.cd_hall.specs.Turned.{Turned}
 use Rattle.cd_hall.proofs.Requested.{ticket_stays}
+use Rattle.cd_hall.proofs.Spreading.{spread_history}
 use Rattle.cd_life.specs.Fits.{Suits}
 use Rattle.cd_module.specs.declared.fault.LoadFault.{LoadFault}
 use Rattle.cd_serve.specs.declared.attempting.Attempt.{Attempt}
@@ -43,7 +43,7 @@ use Rattle.cd_serve.specs.declared.fault.ChangeFault.TheVariants.{StillInUse, No
 use Rattle.cd_serve.specs.Meanings.{Meaning}
 use Rattle.cd_serve.specs.Changes.{no_room, IsPublished, IsGivenUp, IsUndone}
 use Rattle.cd_serve.specs.Attempts.{Works, HasMade, IsNewDraft, IsDrafted, Opens, Asks, Attempted, Publishes, Concludes, refused_by, undrafted_by, failed_held}
-use Rattle.cd_serve.proofs.Works.{works-turned, works-both, made-turned, made-both}
+use Rattle.cd_serve.proofs.Works.{works-turned, works-spread, works-both, made-turned, made-spread, made-both, headed}
 
 -- ---- what entries leave of what a pass owes
 
@@ -81,24 +81,27 @@ module _ {T : Type 0} where
   pub goes-turned : (v w : View T) (found : List Signed) (es : List Entry) → Turned v w found es → (owes_after (owed v) es).ticket ≡ v.ticket → Goes v w
   goes-turned v w found es t stays = record { seen = t.grows.seen; history = t.grows.history; ticket = ap (λ (o : Owes). o.ticket) t.grows.owes ∙ stays }
 
+  pub goes-spread : (v w : View T) (found : List Signed) (es : List Entry) → Spread v w found es → (owes_after (owed v) es).ticket ≡ v.ticket → Goes v w
+  goes-spread v w found es s stays = record { seen = s.grows.seen; history = s.grows.history; ticket = ap (λ (o : Owes). o.ticket) s.grows.owes ∙ stays }
+
   pub goes-made : (v w : View T) (es : List Entry) → HasMade v w es → Goes v w
   goes-made v w es m = record { seen = m.works.places.seen; history = m.works.places.history; ticket = m.works.ticket }
 
   pub goes-both : (v w x : View T) → Goes v w → Goes w x → Goes v x
   goes-both v w x a b = record { seen = prefix_trans v.seen w.seen x.seen a.seen b.seen; history = b.history; ticket = b.ticket ∙ a.ticket }
 
-  pub goes-given-up : (v w : View T) (found : List Signed) (d made started : ℕ) → Turned v w found (Abandon d ∷ ended_all d made started) → Goes v w
-  goes-given-up v w found d made started t = goes-turned v w found (Abandon d ∷ ended_all d made started) t (ap (λ (o : Owes). o.ticket) (ends-owe _ d made started))
+  pub goes-given-up : (v w : View T) (found : List Signed) (d made started : ℕ) → Spread v w found (Abandon d ∷ ended_all d made started) → Goes v w
+  goes-given-up v w found d made started t = goes-spread v w found (Abandon d ∷ ended_all d made started) t (ap (λ (o : Owes). o.ticket) (ends-owe _ d made started))
 
   pub goes-concluded : (v w : View T) (h : Held) (serial : ℕ) (by : Change) (a : Attempt) → Concludes v w h serial by a → Goes v w
-  goes-concluded v w h serial by a (inl p) = goes-turned v w p.1.0 (Publish h.number (serial + 1) serial by ∷ stopped_of (state_at p.1.0) serial) p.1.1 (ap (λ (o : Owes). o.ticket) (stopped-owe _ (state_at p.1.0) serial))
+  goes-concluded v w h serial by a (inl p) = goes-spread v w p.1.0 (Publish h.number (serial + 1) serial by ∷ stopped_of (state_at p.1.0) serial) p.1.1 (ap (λ (o : Owes). o.ticket) (stopped-owe _ (state_at p.1.0) serial))
   goes-concluded v w h serial by a (inr u) = goes-both v u.between w (goes-turned v u.between u.asked [] u.turned refl) (goes-given-up u.between w u.found h.number h.made h.started u.gave_up)
 
   -- neither a draft that was published is there any more, nor one that was given up
   pub free-published : (v w : View T) (d serial : ℕ) (by : Change) → Publishes v w d serial by → w.draft ≡ None
   free-published v w d serial by p = ap (λ (o : Owes). o.draft) p.1.grows.owes ∙ ap (λ (o : Owes). o.draft) (stopped-owe _ (state_at p.0) serial)
 
-  pub free-given-up : (v w : View T) (found : List Signed) (d made started : ℕ) → Turned v w found (Abandon d ∷ ended_all d made started) → w.draft ≡ None
+  pub free-given-up : (v w : View T) (found : List Signed) (d made started : ℕ) → Spread v w found (Abandon d ∷ ended_all d made started) → w.draft ≡ None
   free-given-up v w found d made started t = ap (λ (o : Owes). o.draft) t.grows.owes ∙ ap (λ (o : Owes). o.draft) (ends-owe _ d made started)
 
 module _ {T A B : Type 0} {g : _} where
@@ -149,20 +152,20 @@ module _ {T : Type 0} (m : Meaning) (tree : Tree) (q : Request) (serial d : ℕ)
   published v x y o p duties =
       let s = state_at p.0 in
       let e : Entry = Publish d (serial + 1) serial (change.Request q) in
-      let k = x.number in (
-        o.work ++ placed_behind k p.0 (e ∷ stopped_of s serial),
-        works-both v x y o.work _ o.works (works-turned x y p.0 (e ∷ stopped_of s serial) p.1 (ap (λ (z : Owes). z.ticket) (stopped-owe _ s serial)) duties),
+      let h = headed x y p.0 e (stopped_of s serial) p.1 in (
+        o.work ++ p.1.added,
+        works-both v x y o.work p.1.added o.works (works-spread x y p.0 (e ∷ stopped_of s serial) p.1 (ap (λ (z : Owes). z.ticket) (stopped-owe _ s serial)) duties),
         record {
           draft = d;
           plan = plan;
           opening = o.work;
           publish = record { before = p.0; entry = e };
-          stopping = placed_behind k (p.0 ++ signed k e ∷ []) (stopped_of s serial);
-          whole = refl;
+          stopping = h.rest;
+          whole = ap (λ (l : List Placed). o.work ++ l) h.whole;
           planned = planned;
           opens = o.are;
           publishes = refl;
-          stops = behind_entries k (p.0 ++ signed k e ∷ []) (stopped_of s serial);
+          stops = h.are;
         },
       )
 
@@ -176,30 +179,29 @@ module _ {T : Type 0} (m : Meaning) (tree : Tree) (q : Request) (serial d : ℕ)
     pub history : IsHistory given_up.abandon.before
 
   pub undone : (v x y z : View T) (made started : ℕ) (asked found : List Signed) → Opening v x → made ≡ length plan.modules → started ≡ length plan.apps → Turned x y asked [] → y.duties ≡ x.duties
-      → Turned y z found (Abandon d ∷ ended_all d made started) → z.duties ≡ y.duties → Undone v x y z
+      → Spread y z found (Abandon d ∷ ended_all d made started) → z.duties ≡ y.duties → Undone v x y z
   undone v x y z made started asked found o all_made all_started t same u later =
       let e : Entry = Abandon d in
       let es : List Entry = ended_all d made started in
-      let k = y.number in
-      let front : IsPrefix found z.seen = (all_signed k (e ∷ es), sym u.is) in
+      let h = headed y z found e es u in
       record {
-        work = o.work ++ placed_behind k found (e ∷ es);
-        works = works-both v x z o.work _ o.works (works-both x y z [] (placed_behind k found (e ∷ es)) (works-turned x y asked [] t refl same) (works-turned y z found (e ∷ es) u (ap (λ (p : Owes). p.ticket) (ends-owe _ d made started)) later));
+        work = o.work ++ u.added;
+        works = works-both v x z o.work u.added o.works (works-both x y z [] u.added (works-turned x y asked [] t refl same) (works-spread y z found (e ∷ es) u (ap (λ (p : Owes). p.ticket) (ends-owe _ d made started)) later));
         given_up = record {
           draft = d;
           plan = plan;
           opening = o.work;
           abandon = record { before = found; entry = e };
-          ending = placed_behind k (found ++ signed k e ∷ []) es;
-          whole = refl;
+          ending = h.rest;
+          whole = ap (λ (l : List Placed). o.work ++ l) h.whole;
           planned = planned;
           opens = o.are;
           abandons = refl;
-          ends = behind_entries k (found ++ signed k e ∷ []) es ∙ (ap (λ (n : ℕ). ended_all d n started) all_made ∙ ap (λ (n : ℕ). ended_all d (length plan.modules) n) all_started);
+          ends = h.are ∙ (ap (λ (n : ℕ). ended_all d n started) all_made ∙ ap (λ (n : ℕ). ended_all d (length plan.modules) n) all_started);
         };
         after = prefix_trans (through v.number o.work) x.seen y.seen o.works.places.last t.grows.seen;
         before = u.seen;
-        history = history-front found z.seen front u.grows.history;
+        history = spread_history y z found (e ∷ es) u;
       }
 
   -- by what the refusal says
@@ -220,14 +222,14 @@ module _ {T : Type 0} (m : Meaning) (tree : Tree) (q : Request) (serial d : ℕ)
       let all = published v x z o one p.2 in
       subst (λ (b : Attempt). (work : List Placed) × Works v z work × Attempted m tree q v.number serial (state_at z.seen) work b) (sym p.0) all
   concluded v x z h a o number made started (inr u) low =
-      let gave : Turned u.between z u.found (Abandon d ∷ ended_all d h.made h.started) = subst (λ (n : ℕ). Turned u.between z u.found (Abandon n ∷ ended_all n h.made h.started)) number u.gave_up in
+      let gave : Spread u.between z u.found (Abandon d ∷ ended_all d h.made h.started) = subst (λ (n : ℕ). Spread u.between z u.found (Abandon n ∷ ended_all n h.made h.started)) number u.gave_up in
       let all = undone v x u.between z h.made h.started u.asked u.found o made started u.turned u.same gave u.later in
       subst (λ (b : Attempt). (work : List Placed) × Works v z work × Attempted m tree q v.number serial (state_at z.seen) work b) (sym u.is)
       (kept v x u.between z all (low u.between u.turned.grows.seen u.turned.grows.history) u.why (refusal-says (state_at u.between.seen) serial u.why u.refused))
 
   -- a key could not be opened
   pub undone-at : (v w x z : View T) (h f : Held) (key : Key) (drafted found : List Signed) (es : List Entry) → Turned v w drafted (Draft d tree plan ∷ []) → w.duties ≡ v.duties → HasMade w x es → Opens h f es (Some key)
-      → h ≡ new_held d tree plan → Turned x z found (Abandon f.number ∷ ended_all f.number f.made f.started) → z.duties ≡ x.duties
+      → h ≡ new_held d tree plan → Spread x z found (Abandon f.number ∷ ended_all f.number f.made f.started) → z.duties ≡ x.duties
       → (work : List Placed) × Works v z work × IsUndone m tree key work
   undone-at v w x z h f key drafted found es t duties made opens new u later =
       let e : List Entry = Draft d tree plan ∷ [] in
@@ -235,7 +237,7 @@ module _ {T : Type 0} (m : Meaning) (tree : Tree) (q : Request) (serial d : ℕ)
       let until : es ≡ opened_until d plan opens.0 key = opens.1 ∙ ap (λ (z : Held). opened_until z.number z.plan opens.0 key) new in
       let same : Abandon f.number ∷ ended_all f.number f.made f.started ≡ Abandon d ∷ undone_after d plan opens.0 =
       ap (λ (z : Held). Abandon z.number ∷ ended_all z.number z.made z.started) now ∙ numbered d tree plan opens.0 in
-      let last : HasMade x z (Abandon f.number ∷ ended_all f.number f.made f.started) = made-turned x z found _ u (ap (λ (p : Owes). p.ticket) (ends-owe _ f.number f.made f.started)) later in
+      let last : HasMade x z (Abandon f.number ∷ ended_all f.number f.made f.started) = made-spread x z found _ u (ap (λ (p : Owes). p.ticket) (ends-owe _ f.number f.made f.started)) later in
       let all : HasMade v z (e ++ (es ++ (Abandon f.number ∷ ended_all f.number f.made f.started))) =
       made-both v w z e _ (made-turned v w drafted e t refl duties) (made-both w x z es _ made last) in (
         all.work,
@@ -265,7 +267,7 @@ module _ {T : Type 0} (m : Meaning) (q : Request) (serial : ℕ) (h : Held) (pla
       (λ y front history. omega (arith, low, serial-rises x.seen y.seen front history.is_legal))
 
   pub opened-in-part : (u v x z : View T) (drafted found : List Signed) (g : Held) (key : Key) → IsNewDraft h → IsDrafted u v drafted h → ((es : List Entry) × HasMade v x es × Opens h g es (Some key))
-      → Turned x z found (Abandon g.number ∷ ended_all g.number g.made g.started) → z.duties ≡ x.duties → (work : List Placed) × Works u z work × IsUndone m h.tree key work
+      → Spread x z found (Abandon g.number ∷ ended_all g.number g.made g.started) → z.duties ≡ x.duties → (work : List Placed) × Works u z work × IsUndone m h.tree key work
   opened-in-part u v x z drafted found g key new made opens gone later =
       undone-at m h.tree q serial h.number h.plan planned u v x z h g key drafted found opens.0 made.made made.duties opens.1 opens.2 (new-is h new) gone later
 

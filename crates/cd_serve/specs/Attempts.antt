@@ -19,6 +19,7 @@ use Rattle.cd_desk.specs.declared.drafts.DraftFault.{DraftFault}
 use Rattle.cd_desk.specs.declared.drafts.DraftFault.TheVariants as undrafted
 use Rattle.cd_hall.specs.Drafts.{Held}
 use Rattle.cd_hall.specs.Publishing.{Refusal, refusal}
+use Rattle.cd_hall.specs.Spread.{Spread}
 use Rattle.cd_hall.specs.Turned.{Turned}
 use Rattle.cd_serve.specs.declared.attempting.Attempt.{Attempt}
 use Rattle.cd_serve.specs.declared.attempting.Attempt.TheVariants.{Published, Superseded, Refused, Lacking}
@@ -86,7 +87,7 @@ refused_by Refusal.exhausted = Refused NoSerialLeft
 module _ {T : Type 0} where
   -- the draft was published as the serial after this one by the change, and the apps of this one were stopped
   abbrev pub Publishes : View T → View T → ℕ → ℕ → Change → Type 0
-  Publishes v w d serial change = (found : List Signed) × Turned v w found (Publish d (serial + 1) serial change ∷ stopped_of (state_at found) serial)
+  Publishes v w d serial change = (found : List Signed) × Spread v w found (Publish d (serial + 1) serial change ∷ stopped_of (state_at found) serial)
 
   -- it was given up, with so many instances and apps, once nothing could follow this serial
   pub record GivesUp (v w : View T) (d made started serial : ℕ) (a : Attempt) : Type 0 where
@@ -98,7 +99,7 @@ module _ {T : Type 0} where
     pub refused : Some why ≡ refusal (state_at between.seen) serial
     pub is : a ≡ refused_by why
     pub found : List Signed
-    pub gave_up : Turned between w found (Abandon d ∷ ended_all d made started)
+    pub gave_up : Spread between w found (Abandon d ∷ ended_all d made started)
     pub later : w.duties ≡ between.duties
 
   -- one of the two

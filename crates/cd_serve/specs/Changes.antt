@@ -1,3 +1,4 @@
+-- Part of the main theorem.
 -- What a pass does between Begin and Finish where a request changes the configuration: a draft that is published, or given up,
 -- or the halt.
 use Rattle.std.specs.Prelude.{◌≡◌, ℕ, ◌+◌, ◌-◌, ◌<◌, ◌==◌, ◌&&◌, not, nat_le, if◌then◌else◌, List, ◌∷◌, ◌++◌, length, Option, Some, None, Ok}
@@ -18,7 +19,7 @@ use Rattle.cd_legal.specs.Runs.{Failure, opened, opened_until, ended_all, undone
 use Rattle.cd_serve.specs.declared.fault.ChangeFault.{ChangeFault}
 use Rattle.cd_serve.specs.declared.fault.ChangeFault.TheVariants.{StillInUse, NoSerialLeft}
 use Rattle.cd_serve.specs.Meanings.{Meaning}
-use Rattle.cd_serve.specs.Blocks.{Due, IsDue}
+use Rattle.cd_serve.specs.Retirements.{Retirement, IsRetirement}
 
 -- why no configuration may follow the current one: the one so many serials before the next is not retired, or no serial is left
 abbrev pub no_room : State → Option ChangeFault
@@ -78,11 +79,11 @@ module _ (m : Meaning) (tree : Tree) where
     pub later : serial < (met given_up.abandon).serial
 
 -- the host was halted, and the apps of the serial before were stopped; the block of that serial may follow
-pub record IsHalted (work : List Placed) : Type 0 where
+pub record IsHalting (work : List Placed) : Type 0 where
   pub halt : Placed
   pub stopping : List Placed
   pub block : List Placed
   pub whole : work ≡ halt ∷ (stopping ++ block)
   pub halts : halt.entry ≡ Halt ((met halt).serial + 1)
   pub stops : placed_entries stopping ≡ stopped_of (met halt) (met halt).serial
-  pub retires : IsDue (met halt) (Due.block_or_elsewhere (met halt).serial) block
+  pub retires : IsRetirement (met halt) (Retirement.here_or_elsewhere (met halt).serial) block

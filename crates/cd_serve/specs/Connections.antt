@@ -1,3 +1,4 @@
+-- Part of the main theorem.
 -- How a pass serves a connection: its requests, one after another, until it ends.
 use Rattle.std.specs.Prelude.{◌≡◌, ◌≤◌, ℕ, Bool, true, false, List, [], ◌∷◌, ◌++◌}
 use mathlib.Core.List.{IsPrefix}
@@ -15,24 +16,24 @@ use Rattle.cd_legal.specs.Begins.{begins_at}
 use Rattle.cd_legal.specs.Entry.{entries}
 use Rattle.cd_legal.specs.Legal.{state_at}
 use Rattle.cd_legal.specs.Placed.{Placed, through}
-use Rattle.cd_serve.specs.Meanings.{Meaning, IsCutOff}
+use Rattle.cd_serve.specs.Meanings.{Meaning, IsProperPrefix, only_bytes, both_sent, sent_on}
 use Rattle.cd_serve.specs.Episodes.{Outcome}
-use Rattle.cd_serve.specs.Replies.{Reply, AllAgain, AreReplies, requests, owns, puts, logs, answered_of}
+use Rattle.cd_serve.specs.Replies.{Reply, AllAgain, AreReplies, requests, owns, all_sent, answered_of}
 
 -- ---- the ways to end
 
--- what cut a connection short: the answer to its last request, or a line of it; the reading of its next bytes; the beginning of a
--- further request; the fixed answer to what is refused; or the fixed answer where the serial is worn
-pub data Break : Type 0 where
-  answering logging reading beginning wearing : Break
-  refusing : WireFault → Break
+-- what cut a connection short: the answer to its last request, which was not written whole or lacked memory, or a line of it; the
+-- reading of its next bytes; the beginning of a further request; the fixed answer to what is refused; or that where the serial is worn
+pub data Interruption : Type 0 where
+  answering lacking logging reading beginning wearing : Interruption
+  refusing : WireFault → Interruption
 
--- its bytes ended after its last request, or inside a body; what follows is refused; the last answer closes it; nobody answered
--- its last request; too many requests began under the serial; or it was cut short
+-- its bytes ended after its last request, or inside a body; what follows is refused; the last answer closes it; nobody answered its
+-- last request there, or anywhere, since the host has halted; too many requests began under the serial; or it was interrupted
 pub data Way : Type 0 where
-  clean cut closed dropped worn : Way
+  clean truncated closed dropped halted worn : Way
   refused : WireFault → Way
-  early : Break → Way
+  interrupted : Interruption → Way
 
 -- each was answered, and none says that the connection closes
 abbrev pub AllGoOn : List Reply → Type 0
@@ -72,18 +73,20 @@ module _ (m : Meaning) (k : ℕ) (history : List Signed) (own : List Placed) (at
   -- it ended in this way
   abbrev pub EndsBy : Way → Type 0
   EndsBy Way.clean = AllGoOn replies × IsTail rest ended Tail.clean × (again ≡ []) × (fixed ≡ [])
-  EndsBy Way.cut = AllGoOn replies × IsTail rest ended Tail.cut × (again ≡ []) × (fixed ≡ [])
+  EndsBy Way.truncated = AllGoOn replies × IsTail rest ended Tail.cut × (again ≡ []) × (fixed ≡ [])
   EndsBy (Way.refused fault) = AllGoOn replies × IsTail rest ended (Tail.refused fault) × (again ≡ []) × (fixed ≡ refusal_bytes (status_of fault))
   EndsBy Way.closed = LastIs (Outcome.answered true) replies × (again ≡ []) × (fixed ≡ [])
   EndsBy Way.dropped = LastIs Outcome.dropped replies × (again ≡ []) × (fixed ≡ [])
+  EndsBy Way.halted = LastIs Outcome.halted replies × (again ≡ []) × (fixed ≡ [])
   EndsBy Way.worn = AllGoOn replies × HasFurther m k at rest again × IsWorn k history own × (fixed ≡ refusal_bytes 503)
-  EndsBy (Way.early Break.answering) = LastIs Outcome.broken replies × (again ≡ []) × (fixed ≡ [])
-  EndsBy (Way.early Break.logging) = LastIs Outcome.unlogged replies × (again ≡ []) × (fixed ≡ [])
-  EndsBy (Way.early Break.reading) = AllGoOn replies × (again ≡ []) × (fixed ≡ [])
-  EndsBy (Way.early Break.beginning) = AllGoOn replies × HasFurther m k at rest again × (fixed ≡ [])
-  EndsBy (Way.early Break.wearing) = AllGoOn replies × HasFurther m k at rest again × IsWorn k history own × IsCutOff fixed (refusal_bytes 503)
-  EndsBy (Way.early (Break.refusing fault)) =
-      AllGoOn replies × IsTail rest ended (Tail.refused fault) × (again ≡ []) × IsCutOff fixed (refusal_bytes (status_of fault))
+  EndsBy (Way.interrupted Interruption.answering) = LastIs Outcome.broken replies × (again ≡ []) × (fixed ≡ [])
+  EndsBy (Way.interrupted Interruption.lacking) = LastIs Outcome.lacking replies × (again ≡ []) × (fixed ≡ [])
+  EndsBy (Way.interrupted Interruption.logging) = LastIs Outcome.unlogged replies × (again ≡ []) × (fixed ≡ [])
+  EndsBy (Way.interrupted Interruption.reading) = AllGoOn replies × (again ≡ []) × (fixed ≡ [])
+  EndsBy (Way.interrupted Interruption.beginning) = AllGoOn replies × HasFurther m k at rest again × (fixed ≡ [])
+  EndsBy (Way.interrupted Interruption.wearing) = AllGoOn replies × HasFurther m k at rest again × IsWorn k history own × IsProperPrefix fixed (refusal_bytes 503)
+  EndsBy (Way.interrupted (Interruption.refusing fault)) =
+      AllGoOn replies × IsTail rest ended (Tail.refused fault) × (again ≡ []) × IsProperPrefix fixed (refusal_bytes (status_of fault))
 
 -- ---- a connection
 
@@ -94,7 +97,7 @@ pub record Ending : Type 0 where
   pub answered : ℕ
 
 -- Pass k served the connection, after these entries, so: its bytes are the requests that it replied to, and then a rest; its
--- entries are those of their episodes; what was sent and logged for them is what was sent and logged, and no configuration was kept.
+-- entries are those of their episodes; what was sent is what was sent for them, and then the fixed answer, if one is due.
 pub record Serves (m : Meaning) (k : ℕ) (history : List Signed) (before : List Placed) (c : Connection) (e : Ending) : Type 0 where
   pub replies : List Reply
   pub rest : List ℕ
@@ -103,8 +106,7 @@ pub record Serves (m : Meaning) (k : ℕ) (history : List Signed) (before : List
   pub splits : Splits c.taken (requests replies) rest
   pub each : AreReplies m k c.address replies
   pub own : e.own ≡ owns replies ++ joined again
-  pub put : c.put ≡ puts replies ++ fixed
-  pub lines : c.lines ≡ logs replies
+  pub sent : sent_on c ≡ both_sent (all_sent replies) (only_bytes fixed)
   pub keeps : c.keeps ≡ []
   pub ends : EndsBy m k history (before ++ e.own) c.address c.ended replies rest again fixed e.way
   pub answered : e.answered ≡ answered_of replies

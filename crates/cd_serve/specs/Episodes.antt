@@ -1,3 +1,4 @@
+-- Part of the main theorem.
 -- Episodes: what a pass does in the history for a request, from its Begin to its Finish, and how the request is answered for it.
 use Rattle.std.specs.Prelude.{◌≡◌, ◌⊎◌, ℕ, ◌==◌, ◌&&◌, ◌||◌, not, Bool, true, false, List, [], ◌∷◌, ◌++◌, length, IsTrue}
 use Rattle.cd_outside.specs.declared.address.Address.{Address}
@@ -12,14 +13,15 @@ use Rattle.cd_legal.specs.declared.entry.Entry.TheVariants.{Begin, Finish, Halt}
 use Rattle.cd_legal.specs.declared.entry.Signed.{Signed}
 use Rattle.cd_legal.specs.State.{Conf, conf_of}
 use Rattle.cd_legal.specs.Placed.{Placed, met}
+use Rattle.cd_legal.specs.Serials.{is_halted}
 use Rattle.cd_admin.specs.Answers.{done}
 use Rattle.cd_admin.specs.Deciding.{replace, halt}
 use Rattle.cd_serve.specs.declared.fault.ChangeFault.{ChangeFault}
 use Rattle.cd_serve.specs.declared.fault.ChangeFault.TheVariants.{CannotOpen, NoDraftLeft}
-use Rattle.cd_serve.specs.Meanings.{Meaning, sent, says_close, IsCutOff, IsForNobody, Decides, IsAnswer}
+use Rattle.cd_serve.specs.Meanings.{Meaning, Sent, sent, says_close, IsProperPrefix, only_bytes, nothing_sent, answer_sent, IsForNobody, Decides, IsAnswer}
 use Rattle.cd_serve.specs.Faults.{fault_answer, halted_answer}
-use Rattle.cd_serve.specs.Blocks.{due, IsDue}
-use Rattle.cd_serve.specs.Changes.{IsPublished, IsUndone, IsKept, IsSuperseded, IsHalted}
+use Rattle.cd_serve.specs.Retirements.{due, IsRetirement}
+use Rattle.cd_serve.specs.Changes.{IsPublished, IsUndone, IsKept, IsSuperseded, IsHalting}
 
 -- pass k begins a request under the current serial, does this work, finishes it, and makes the block that follows
 pub record Episode (k : ℕ) (own : List Placed) : Type 0 where
@@ -30,7 +32,7 @@ pub record Episode (k : ℕ) (own : List Placed) : Type 0 where
   pub whole : own ≡ begin ∷ (work ++ finish ∷ block)
   pub begins : begin.entry ≡ Begin k (met begin).serial
   pub finishes : finish.entry ≡ Finish k
-  pub retires : IsDue (met finish) (due (met finish) k) block
+  pub retires : IsRetirement (met finish) (due (met finish) k) block
 
 -- the configuration that is current where an entry stands
 abbrev pub conf_met : Placed → Conf
@@ -65,7 +67,7 @@ module _ (m : Meaning) (k : ℕ) (at : Address) (q : Request) where
       ((tree : Tree) × (why : ChangeFault) × Replaces begin tree × IsKept m tree k (met begin).serial why work × (r ≡ fault_answer why))
       × (lines ≡ [])
   Answers Kind.halting begin work finish r lines =
-      Halts begin × IsHalted work × (r ≡ halted_answer) × (lines ≡ [])
+      Halts begin × IsHalting work × (r ≡ halted_answer) × (lines ≡ [])
   Answers Kind.spent begin work finish r lines =
       ((tree : Tree) × Replaces begin tree) × (work ≡ []) × (length (met finish).drafts ≡ MAX_DRAFTS)
       × (r ≡ fault_answer NoDraftLeft) × (lines ≡ [])
@@ -92,21 +94,37 @@ module _ (m : Meaning) (k : ℕ) (at : Address) (q : Request) where
 
 -- ---- how the last episode of a request ends it
 
--- answered, and whether the connection closes then; answered, but a line was not logged; broken off before all of its answer was
--- sent; or dropped, since nobody answers
+-- answered, and whether the connection closes then; answered, but a line was not logged; broken off, since the lane failed before all
+-- of its answer was sent; not answered for want of memory; or dropped, since nobody answers there, or since the host has halted
 pub data Outcome : Type 0 where
   answered : Bool → Outcome
-  unlogged broken dropped : Outcome
+  unlogged broken lacking dropped halted : Outcome
+
+-- an answer of this kind stands for a change that was made
+abbrev pub makes_change : Kind → Bool
+makes_change Kind.served = false
+makes_change Kind.changed = true
+makes_change Kind.unopened = false
+makes_change Kind.kept = false
+makes_change Kind.halting = true
+makes_change Kind.spent = false
 
 module _ (m : Meaning) (k : ℕ) (at : Address) (q : Request) where
-  -- what is sent and logged
-  abbrev pub Ends : Outcome → Placed → List Placed → Placed → List ℕ → List Logged → Type 0
-  Ends (Outcome.answered close) begin work finish put lines =
-      (kind : Kind) × (r : Answer) × Answers m k at q kind begin work finish r lines × (put ≡ sent q r) × (close ≡ says_close q r)
-  Ends Outcome.unlogged begin work finish put lines =
-      (kind : Kind) × (r : Answer) × (all : List Logged) × Answers m k at q kind begin work finish r all × (put ≡ sent q r) × IsCutOff lines all
-  Ends Outcome.broken begin work finish put lines =
-      (((kind : Kind) × (r : Answer) × (all : List Logged) × Answers m k at q kind begin work finish r all × IsCutOff put (sent q r))
-      ⊎ ((work ≡ []) × (put ≡ []))) × (lines ≡ [])
-  Ends Outcome.dropped begin work finish put lines =
-      IsForNobody m (conf_met begin) at q × (work ≡ []) × (put ≡ []) × (lines ≡ [])
+  -- what is sent; where memory lacks no change was made
+  abbrev pub Ends : Outcome → Placed → List Placed → Placed → Sent → Type 0
+  Ends (Outcome.answered close) begin work finish s =
+      (kind : Kind) × (r : Answer) × (lines : List Logged) × Answers m k at q kind begin work finish r lines
+      × (s ≡ answer_sent q r lines) × (close ≡ says_close q r)
+  Ends Outcome.unlogged begin work finish s =
+      (kind : Kind) × (r : Answer) × (all : List Logged) × (lines : List Logged) × Answers m k at q kind begin work finish r all
+      × IsProperPrefix lines all × (s ≡ answer_sent q r lines)
+  Ends Outcome.broken begin work finish s =
+      (kind : Kind) × (r : Answer) × (all : List Logged) × (part : List ℕ) × Answers m k at q kind begin work finish r all
+      × IsProperPrefix part (sent q r) × (s ≡ only_bytes part)
+  Ends Outcome.lacking begin work finish s =
+      (((kind : Kind) × (r : Answer) × (all : List Logged) × Answers m k at q kind begin work finish r all × (makes_change kind ≡ false))
+      ⊎ (work ≡ [])) × (s ≡ nothing_sent)
+  Ends Outcome.dropped begin work finish s =
+      IsForNobody m (conf_met begin) at q × (is_halted (conf_met begin) ≡ false) × (work ≡ []) × (s ≡ nothing_sent)
+  Ends Outcome.halted begin work finish s =
+      IsForNobody m (conf_met begin) at q × (is_halted (conf_met begin) ≡ true) × (work ≡ []) × (s ≡ nothing_sent)

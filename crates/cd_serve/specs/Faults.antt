@@ -1,3 +1,4 @@
+-- Part of the main theorem.
 -- Why a change was not made: its words, and its answer.
 use Rattle.std.specs.Prelude.{ℕ, true, false, List, [], ◌∷◌, ◌++◌, codes, decimal}
 use Rattle.cd_outside.specs.declared.key.Key.{Key}

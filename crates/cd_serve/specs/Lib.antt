@@ -1,13 +1,14 @@
 pub mod Meanings
 pub mod Faults
-pub mod Blocks
+pub mod Retirements
 pub mod Changes
 pub mod Attempts
 pub mod Episodes
 pub mod Replies
 pub mod Connections
+pub mod Complete
 pub mod Lanes
-pub mod Joining
+pub mod Reports
 pub mod Serving
 pub mod Requests
 pub mod Stepping

@@ -1,7 +1,10 @@
+-- Part of the main theorem.
 -- What configurations mean to those who serve requests under them.
-use Rattle.std.specs.Prelude.{◌≡◌, ℕ, ◌<◌, ◌⊎◌, ◌||◌, Bool, List, [], length, take, map, codes, Result}
+use Rattle.std.specs.Prelude.{◌≡◌, ℕ, ◌+◌, ◌<◌, ◌⊎◌, ◌||◌, Bool, List, [], ◌++◌, length, take, map, codes, Result}
 use Rattle.std.specs.Str.{bytes_eq}
 use Rattle.cd_outside.specs.declared.address.Address.{Address}
+use Rattle.cd_outside.specs.declared.past.Connection.{Connection}
+use Rattle.cd_outside.specs.declared.past.KeepRecord.{KeepRecord}
 use Rattle.cd_outside.specs.declared.past.Logged.{Logged}
 use Rattle.cd_tree.specs.declared.tree.Tree.{Tree}
 use Rattle.cd_wire.specs.declared.answer.Answer.{Answer}
@@ -41,8 +44,49 @@ abbrev pub logged : Line → Logged
 logged l = record { key = l.key; line = l.text }
 
 -- less than all of the whole, from its beginning
-abbrev pub IsCutOff : {A : Type 0} → List A → List A → Type 0
-IsCutOff part whole = (count : ℕ) × (count < length whole) × (part ≡ take count whole)
+abbrev pub IsProperPrefix : {A : Type 0} → List A → List A → Type 0
+IsProperPrefix part whole = (count : ℕ) × (count < length whole) × (part ≡ take count whole)
+
+-- ---- what is sent on a connection
+
+-- bytes, with the lines that were logged and the configurations that were kept meanwhile; each of these counts the bytes before it
+pub record Sent : Type 0 where
+  pub put : List ℕ
+  pub lines : List Logged
+  pub keeps : List KeepRecord
+
+-- bytes alone
+abbrev pub only_bytes : List ℕ → Sent
+only_bytes bytes = record { put = bytes; lines = []; keeps = [] }
+
+abbrev pub nothing_sent : Sent
+nothing_sent = only_bytes []
+
+-- an answer to the request, and these lines of it
+abbrev pub answer_sent : Request → Answer → List Logged → Sent
+answer_sent q r lines = record { put = sent q r; lines = lines; keeps = [] }
+
+-- what was kept, after so many more bytes
+abbrev pub kept_after : ℕ → List KeepRecord → List KeepRecord
+kept_after n keeps = map {A = KeepRecord} (λ keep. record keep { put = n + keep.put }) keeps
+
+-- one after another
+abbrev pub both_sent : Sent → Sent → Sent
+both_sent s t = record {
+  put = s.put ++ t.put;
+  lines = s.lines ++ t.lines;
+  keeps = s.keeps ++ kept_after (length s.put) t.keeps;
+}
+
+-- what was sent on a connection
+abbrev pub sent_on : Connection → Sent
+sent_on c = record { put = c.put; lines = c.lines; keeps = c.keeps }
+
+-- the connection after more was sent
+abbrev pub after_sending : Sent → Connection → Connection
+after_sending s c =
+    let all = both_sent (sent_on c) s in
+    record c { put = all.put; lines = all.lines; keeps = all.keeps }
 
 -- ---- a request under a configuration
 

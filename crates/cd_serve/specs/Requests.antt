@@ -3,27 +3,28 @@ use Rattle.std.specs.Prelude.{◌≡◌, ◌++◌, ◌∷◌, ℕ, Bool, true, f
 use mathlib.Core.List.{IsPrefix}
 use Rattle.cd_text.specs.Steps.{joined}
 use Rattle.cd_outside.specs.declared.address.Address.{Address}
-use Rattle.cd_outside.specs.declared.past.Connection.{Connection}
 use Rattle.cd_outside.specs.declared.past.Logged.{Logged}
 use Rattle.cd_outside.specs.declared.past.Past.{Past}
 use Rattle.cd_outside.specs.Past.{with_connection}
 use Rattle.cd_wire.specs.declared.answer.Answer.{Answer}
 use Rattle.cd_wire.specs.declared.request.Request.{Request}
-use Rattle.cd_legal.specs.declared.entry.Entry.TheVariants.{Finish}
+use Rattle.cd_legal.specs.declared.entry.Entry.TheVariants.{Begin, Finish}
 use Rattle.cd_legal.specs.declared.entry.Signed.{Signed}
+use Rattle.cd_legal.specs.Entry.{signed, mine}
 use Rattle.cd_legal.specs.State.{Conf}
-use Rattle.cd_legal.specs.Legal.{IsLegal, state_at}
+use Rattle.cd_legal.specs.Legal.{IsLegal}
 use Rattle.cd_legal.specs.Placed.{Placed, met}
 use Rattle.cd_legal.specs.Signing.{IsHistory}
 use Rattle.cd_gate.specs.declared.view.View.{View}
 use Rattle.cd_gate.specs.Growing.{Places}
+use Rattle.cd_life.specs.Shares.{conf_in}
 use Rattle.cd_hall.specs.declared.hall.Ticket.{Ticket}
-use Rattle.cd_hall.specs.Tickets.{IsTicketOf}
+use Rattle.cd_hall.specs.Tickets.{IsTicketOf, BeganWith}
 use Rattle.cd_serve.specs.declared.how.How.{How}
 use Rattle.cd_serve.specs.declared.how.How.TheVariants as how
-use Rattle.cd_serve.specs.Meanings.{Meaning, sent, says_close, IsCutOff}
-use Rattle.cd_serve.specs.Blocks.{due, IsDue}
-use Rattle.cd_serve.specs.Episodes.{Outcome, Episode, IsAgain, Ends, conf_met}
+use Rattle.cd_serve.specs.Meanings.{Meaning, Sent, sent, says_close, IsProperPrefix, only_bytes, nothing_sent, answer_sent, after_sending}
+use Rattle.cd_serve.specs.Retirements.{due, IsRetirement}
+use Rattle.cd_serve.specs.Episodes.{Outcome, Episode, IsAgain, Ends}
 use Rattle.cd_serve.specs.Replies.{AllAgain}
 use Rattle.cd_serve.specs.Serving.{Replied, NotBegun}
 
@@ -32,9 +33,9 @@ abbrev pub outcome_of : How → Option Outcome
 outcome_of (how.Answered close) = Some (Outcome.answered close)
 outcome_of how.Unlogged = Some Outcome.unlogged
 outcome_of how.Failed = Some Outcome.broken
-outcome_of how.NoMemory = Some Outcome.broken
+outcome_of how.NoMemory = Some Outcome.lacking
 outcome_of how.Dropped = Some Outcome.dropped
-outcome_of how.Halted = Some Outcome.dropped
+outcome_of how.Halted = Some Outcome.halted
 outcome_of how.Worn = None
 outcome_of how.Unbegun = None
 
@@ -62,48 +63,47 @@ OwesNothing v = (v.ticket ≡ None) × (v.draft ≡ None) × (v.duties ≡ [])
 abbrev pub OwesTicket : {T : Type 0} → View T → ℕ → Type 0
 OwesTicket v serial = (v.ticket ≡ Some serial) × (v.draft ≡ None) × (v.duties ≡ [])
 
--- the pass has just begun with the ticket, under the current serial
-pub record IsCurrent {T A B : Type 0} {g : _} (v : View T) (t : Ticket A B g) : Type 0 where
-  pub history : IsHistory v.seen
-  pub ticket : IsTicketOf v t
-  pub current : t.serial ≡ (state_at v.seen).serial
-
 -- ---- sending
 
--- the connection after this was sent and logged
-abbrev pub after_sending : List ℕ → List Logged → Connection → Connection
-after_sending put lines c = record c { put = c.put ++ put; lines = c.lines ++ lines }
-
--- what was sent and logged of an answer with these lines
-abbrev pub Sends : How → Request → Answer → List Logged → List ℕ → List Logged → Type 0
-Sends (how.Answered close) q r all put lines = (put ≡ sent q r) × (lines ≡ all) × (close ≡ says_close q r)
-Sends how.Unlogged q r all put lines = (put ≡ sent q r) × IsCutOff lines all
-Sends how.Failed q r all put lines = IsCutOff put (sent q r) × (lines ≡ [])
-Sends how.NoMemory q r all put lines = (put ≡ []) × (lines ≡ [])
-Sends how.Dropped q r all put lines = ⊥
-Sends how.Halted q r all put lines = ⊥
-Sends how.Worn q r all put lines = ⊥
-Sends how.Unbegun q r all put lines = ⊥
+-- what was sent of an answer with these lines
+abbrev pub Sends : How → Request → Answer → List Logged → Sent → Type 0
+Sends (how.Answered close) q r all s = (s ≡ answer_sent q r all) × (close ≡ says_close q r)
+Sends how.Unlogged q r all s = (lines : List Logged) × IsProperPrefix lines all × (s ≡ answer_sent q r lines)
+Sends how.Failed q r all s = (part : List ℕ) × IsProperPrefix part (sent q r) × (s ≡ only_bytes part)
+Sends how.NoMemory q r all s = s ≡ nothing_sent
+Sends how.Dropped q r all s = ⊥
+Sends how.Halted q r all s = ⊥
+Sends how.Worn q r all s = ⊥
+Sends how.Unbegun q r all s = ⊥
 
 pub record IsSent (h : How) (q : Request) (r : Answer) (all : List Logged) (old new : Option Past) : Type 0 where
-  pub put : List ℕ
-  pub lines : List Logged
-  pub past : new ≡ option_map (with_connection (after_sending put lines)) old
-  pub is : Sends h q r all put lines
+  pub what : Sent
+  pub past : new ≡ option_map (with_connection (after_sending what)) old
+  pub is : Sends h q r all what
+
+-- lines that were logged, and nothing else
+abbrev pub only_lines : List Logged → Sent
+only_lines lines = record { put = []; lines = lines; keeps = [] }
 
 -- some of these lines were logged, from the first one on: all of them, or fewer
 pub record IsLogged (whole : Bool) (all : List Logged) (old new : Option Past) : Type 0 where
   pub lines : List Logged
-  pub past : new ≡ option_map (with_connection (after_sending [] lines)) old
+  pub past : new ≡ option_map (with_connection (after_sending (only_lines lines))) old
   pub all_are : whole ≡ true → lines ≡ all
-  pub fewer : whole ≡ false → IsCutOff lines all
+  pub fewer : whole ≡ false → IsProperPrefix lines all
 
 -- ---- under a ticket
 
--- a Begin met this configuration under this serial
-pub record BeganWith (conf : Conf) (serial : ℕ) (begin : Placed) : Type 0 where
-  pub conf_is : conf_met begin ≡ conf
-  pub serial_is : (met begin).serial ≡ serial
+-- the request of the ticket began by this entry of the pass, which met what the ticket has, and since then the pass has signed nothing
+pub record IsBegun {T A B : Type 0} {g : _} (v : View T) (t : Ticket A B g) : Type 0 where
+  pub history : IsHistory v.seen
+  pub ticket : IsTicketOf v t
+  pub begin : Placed
+  pub begins : begin.entry ≡ Begin v.number t.serial
+  pub with_ticket : BeganWith (conf_in t.share) t.serial begin
+  pub since : List Signed
+  pub stands : v.seen ≡ begin.before ++ signed v.number begin.entry ∷ since
+  pub alone : mine v.number since ≡ []
 
 -- a Finish stands in a legal history, after what was seen
 pub record FinishesAfter (seen : List Signed) (finish : Placed) : Type 0 where
@@ -111,33 +111,31 @@ pub record FinishesAfter (seen : List Signed) (finish : Placed) : Type 0 where
   pub legal : IsLegal finish.before
 
 module _ (m : Meaning) (k : ℕ) (at : Address) (q : Request) where
-  -- this work, and what was sent and logged, ends the request with the outcome, where its Begin and its Finish are these
-  abbrev pub EndsWith : Option Outcome → Placed → List Placed → Placed → List ℕ → List Logged → Type 0
-  EndsWith (Some outcome) begin work finish put lines = Ends m k at q outcome begin work finish put lines
-  EndsWith None begin work finish put lines = ⊥
+  -- this work, and what was sent, ends the request with the outcome, where its Begin and its Finish are these
+  abbrev pub EndsIn : Option Outcome → Placed → List Placed → Placed → Sent → Type 0
+  EndsIn (Some outcome) begin work finish s = Ends m k at q outcome begin work finish s
+  EndsIn None begin work finish s = ⊥
 
   -- so wherever they stand; where there is no outcome yet, it is to be decided again
-  abbrev pub ActsBetween : Conf → ℕ → List Signed → Option How → List Placed → List ℕ → List Logged → Type 0
-  ActsBetween conf serial seen (Some h) work put lines =
-      (begin finish : Placed) → BeganWith conf serial begin → FinishesAfter seen finish → EndsWith (outcome_of h) begin work finish put lines
-  ActsBetween conf serial seen None work put lines =
-      ((begin finish : Placed) → BeganWith conf serial begin → FinishesAfter seen finish → IsAgain m k at q begin work finish) × (put ≡ []) × (lines ≡ [])
+  abbrev pub ActsBetween : Conf → ℕ → List Signed → Option How → List Placed → Sent → Type 0
+  ActsBetween conf serial seen (Some h) work s =
+      (begin finish : Placed) → BeganWith conf serial begin → FinishesAfter seen finish → EndsIn (outcome_of h) begin work finish s
+  ActsBetween conf serial seen None work s =
+      ((begin finish : Placed) → BeganWith conf serial begin → FinishesAfter seen finish → IsAgain m k at q begin work finish) × (s ≡ nothing_sent)
 
 -- what was done for a request under a ticket of this configuration and serial, between two moments with these views
 pub record Acted {T : Type 0} (m : Meaning) (at : Address) (q : Request) (conf : Conf) (serial : ℕ) (result : Option How) (v w : View T) (old new : Option Past) : Type 0 where
   pub work : List Placed
-  pub put : List ℕ
-  pub lines : List Logged
+  pub what : Sent
   pub places : Places v w work
-  pub past : new ≡ option_map (with_connection (after_sending put lines)) old
-  pub is : ActsBetween m v.number at q conf serial w.seen result work put lines
+  pub past : new ≡ option_map (with_connection (after_sending what)) old
+  pub is : ActsBetween m v.number at q conf serial w.seen result work what
 
 -- the same of what makes no entry, whatever its pass and whatever that has seen
 pub record ActedQuietly (m : Meaning) (at : Address) (q : Request) (conf : Conf) (serial : ℕ) (h : How) (old new : Option Past) : Type 0 where
-  pub put : List ℕ
-  pub lines : List Logged
-  pub past : new ≡ option_map (with_connection (after_sending put lines)) old
-  pub is : (k : ℕ) (seen : List Signed) → ActsBetween m k at q conf serial seen (Some h) [] put lines
+  pub what : Sent
+  pub past : new ≡ option_map (with_connection (after_sending what)) old
+  pub is : (k : ℕ) (seen : List Signed) → ActsBetween m k at q conf serial seen (Some h) [] what
 
 -- the request was ended, and its serial was retired where that was due
 pub record Concluded {T : Type 0} (v w : View T) : Type 0 where
@@ -145,7 +143,7 @@ pub record Concluded {T : Type 0} (v w : View T) : Type 0 where
   pub block : List Placed
   pub places : Places v w (finish ∷ block)
   pub finishes : finish.entry ≡ Finish v.number
-  pub retires : IsDue (met finish) (due (met finish) v.number) block
+  pub retires : IsRetirement (met finish) (due (met finish) v.number) block
   pub stands : FinishesAfter v.seen finish
 
 -- ---- a request

@@ -5,27 +5,23 @@ use mathlib.Core.List.{IsPrefix}
 use Rattle.cd_text.specs.Steps.{joined}
 use Rattle.cd_outside.specs.declared.address.Address.{Address}
 use Rattle.cd_outside.specs.declared.past.Connection.{Connection}
-use Rattle.cd_outside.specs.declared.past.Logged.{Logged}
 use Rattle.cd_outside.specs.declared.past.Past.{Past}
 use Rattle.cd_outside.specs.Counts.{count_end, raised, Rose}
-use Rattle.cd_outside.specs.Past.{with_connection}
+use Rattle.cd_outside.specs.Past.{with_connection, fresh}
 use Rattle.cd_wire.specs.declared.request.Request.{Request}
 use Rattle.cd_wire.specs.Requests.{Splits}
 use Rattle.cd_legal.specs.declared.entry.Signed.{Signed}
 use Rattle.cd_legal.specs.Placed.{Placed, through}
 use Rattle.cd_serve.specs.declared.cause.Cause.{Cause}
 use Rattle.cd_serve.specs.declared.cause.Cause.TheVariants as cause
-use Rattle.cd_serve.specs.Meanings.{Meaning}
+use Rattle.cd_serve.specs.declared.connection_end.ConnectionEnd.{ConnectionEnd}
+use Rattle.cd_serve.specs.Meanings.{Meaning, Sent, after_sending}
 use Rattle.cd_serve.specs.Episodes.{Outcome}
-use Rattle.cd_serve.specs.Replies.{Reply, AllAgain, IsReply, AreReplies, requests, own_of, owns, puts, logs, answered_of}
-use Rattle.cd_serve.specs.Connections.{Ending, Serves}
-use Rattle.cd_serve.specs.Lanes.{is_early}
+use Rattle.cd_serve.specs.Replies.{Reply, AllAgain, IsReply, AreReplies, requests, own_of, owns, all_sent, answered_of}
+use Rattle.cd_serve.specs.Connections.{Way, Ending, Serves}
+use Rattle.cd_serve.specs.Lanes.{is_interrupted, is_faulted, finds_halt}
 
 -- ---- one request
-
--- the connection after this was sent and logged for a request
-abbrev pub after_reply : Reply → Connection → Connection
-after_reply r c = record c { put = c.put ++ r.put; lines = c.lines ++ r.lines }
 
 -- pass k replied to the request by these entries, with this outcome
 pub record Replied (m : Meaning) (k : ℕ) (at : Address) (q : Request) (outcome : Outcome) (own : List Placed) (old new : Option Past) : Type 0 where
@@ -34,7 +30,7 @@ pub record Replied (m : Meaning) (k : ℕ) (at : Address) (q : Request) (outcome
   pub ends : reply.outcome ≡ outcome
   pub is : IsReply m k at reply
   pub own_is : own ≡ own_of reply
-  pub past : new ≡ option_map (with_connection (after_reply reply)) old
+  pub past : new ≡ option_map (with_connection (after_sending reply.sent)) old
 
 -- the request was decided again by these entries, and was then not begun once more
 pub record NotBegun (m : Meaning) (k : ℕ) (at : Address) (q : Request) (own : List Placed) (old new : Option Past) : Type 0 where
@@ -45,9 +41,9 @@ pub record NotBegun (m : Meaning) (k : ℕ) (at : Address) (q : Request) (own : 
 
 -- ---- one connection
 
--- the connection after these bytes were taken, its end was seen or not, and this was sent and logged
-abbrev pub after_all : List ℕ → Bool → List ℕ → List Logged → Connection → Connection
-after_all taken ended put lines c = record c { taken = c.taken ++ taken; ended = c.ended || ended; put = c.put ++ put; lines = c.lines ++ lines }
+-- the connection after these bytes were taken, its end was seen or not, and this was sent
+abbrev pub after_all : List ℕ → Bool → Sent → Connection → Connection
+after_all taken ended s c = record (after_sending s c) { taken = c.taken ++ taken; ended = c.ended || ended }
 
 -- So far pass k replied so to requests of the connection that had just come to the address, by these entries; these bytes are left
 -- of what was taken, and its end was seen or not.
@@ -57,28 +53,28 @@ pub record ConnectionSoFar (m : Meaning) (k : ℕ) (at : Address) (replies : Lis
   pub each : AreReplies m k at replies
   pub own_is : own ≡ owns replies
   pub answers : answered ≡ min (answered_of replies) count_end
-  pub past : new ≡ option_map (with_connection (after_all taken ended (puts replies) (logs replies))) old
+  pub past : new ≡ option_map (with_connection (after_all taken ended (all_sent replies))) old
+
+-- the way has this cause: it is none that cut a connection short; the lane has failed; or memory lacked, which no fault may stand for
+abbrev pub CausedBy : Cause → Way → Type 0
+CausedBy cause.Whole way = is_interrupted way ≡ false
+CausedBy cause.Failed way = is_interrupted way ≡ true
+CausedBy cause.Lacking way = (is_interrupted way ≡ true) × (is_faulted way ≡ false)
 
 -- Pass k served the connection that had just come to the address to its end, by these entries. That holds after whatever entries
 -- of the pass: all that it needs is that they stood in what the pass had seen.
-pub record ConnectionServed (m : Meaning) (k : ℕ) (at : Address) (seen_before seen_now : List Signed) (own : List Placed) (early : Bool) (answered : ℕ) (old new : Option Past) : Type 0 where
+pub record ConnectionServed (m : Meaning) (k : ℕ) (at : Address) (seen_before seen_now : List Signed) (own : List Placed) (end : ConnectionEnd) (old new : Option Past) : Type 0 where
   pub taken : List ℕ
   pub ended : Bool
-  pub put : List ℕ
-  pub lines : List Logged
+  pub sent : Sent
   pub ending : Ending
   pub own_is : ending.own ≡ own
-  pub past : new ≡ option_map (with_connection (after_all taken ended put lines)) old
+  pub past : new ≡ option_map (with_connection (after_all taken ended sent)) old
   pub serves : (before : List Placed) → IsPrefix (through k before) seen_before
-      → Serves m k seen_now before (record { address = at; taken = taken; ended = ended; put = put; lines = lines; keeps = [] }) ending
-  pub early_is : is_early ending.way ≡ early
-  pub answers : answered ≡ min ending.answered count_end
-
--- the connection was cut short
-abbrev pub cuts_short : Cause → Bool
-cuts_short cause.Whole = false
-cuts_short cause.Failed = true
-cuts_short cause.Lacking = true
+      → Serves m k seen_now before (after_all taken ended sent (fresh at)) ending
+  pub caused : CausedBy end.cause ending.way
+  pub halted_is : finds_halt ending.way ≡ end.halted
+  pub answers : end.answered ≡ min ending.answered count_end
 
 -- a fault that is told has risen the count
 abbrev pub HasRisen : Cause → ℕ → ℕ → Type 0

@@ -5,23 +5,30 @@ use Rattle.cd_outside.specs.declared.accepted.Accepted.TheVariants as accepted
 use Rattle.cd_outside.specs.declared.address.Address.{Address}
 use Rattle.cd_outside.specs.declared.past.Past.{Past}
 use Rattle.cd_outside.specs.Telling.{TellsOn}
+use Rattle.cd_legal.specs.declared.entry.Signed.{Signed}
 use Rattle.cd_legal.specs.Placed.{Placed, placed, placed_entries, through}
+use Rattle.cd_legal.specs.Signing.{IsHistory}
 use Rattle.cd_gate.specs.declared.view.View.{View}
 use Rattle.cd_gate.specs.Growing.{all_signed}
-use Rattle.cd_serve.specs.declared.cause.Cause.{Cause}
 use Rattle.cd_serve.specs.declared.connection_end.ConnectionEnd.{ConnectionEnd}
 use Rattle.cd_serve.specs.declared.lane_end.LaneEnd.{LaneEnd}
 use Rattle.cd_serve.specs.Meanings.{Meaning}
 use Rattle.cd_serve.specs.Replies.{Reply}
 use Rattle.cd_serve.specs.Connections.{AllGoOn}
 use Rattle.cd_serve.specs.Lanes.{LaneSoFar, IsServed}
-use Rattle.cd_serve.specs.Serving.{ConnectionSoFar, ConnectionServed, cuts_short, HasRisen}
+use Rattle.cd_serve.specs.Serving.{ConnectionSoFar, ConnectionServed, HasRisen}
+
+-- a lane was served so far, and none of its accepts failed
+abbrev pub IsLaneSoFar : Meaning → ℕ → List Signed → List Placed → ℕ → ℕ → ℕ → ℕ → ℕ → Past → Past → Type 0
+IsLaneSoFar m k history own failed_before failed_now answered cut halts p q =
+    LaneSoFar m k history own failed_before failed_now answered cut halts p q × (q.accept_faults ≡ p.accept_faults)
 
 module _ {T : Type 0} where
   -- between two moments a pass made these entries, each where it stands in what the pass has then seen; perhaps none so far
   pub record HasPlaced (v w : View T) (own : List Placed) : Type 0 where
     pub number : w.number ≡ v.number
     pub seen : IsPrefix v.seen w.seen
+    pub history : IsHistory v.seen → IsHistory w.seen
     pub placed_is : placed v.number w.seen ≡ placed v.number v.seen ++ own
     pub last : IsPrefix (through v.number own) w.seen
     -- what the pass knows of its own entries has grown by these, and all else but what it owes is as it was
@@ -37,21 +44,21 @@ module _ {T : Type 0} where
     pub none_closes : AllGoOn replies
 
   -- it has ended
-  pub record IsOver (m : Meaning) (at : Address) (c : Cause) (answered : ℕ) (v w : View T) (first now : Option Past) : Type 0 where
+  pub record IsEnded (m : Meaning) (at : Address) (end : ConnectionEnd) (v w : View T) (first now : Option Past) : Type 0 where
     pub own : List Placed
     pub made : HasPlaced v w own
-    pub served : ConnectionServed m v.number at v.seen w.seen own (cuts_short c) answered first now
+    pub served : ConnectionServed m v.number at v.seen w.seen own end first now
 
   -- after one step of it
   abbrev pub Steps : Meaning → Address → Option ConnectionEnd → List ℕ → Bool → ℕ → View T → View T → Option Past → Option Past → Type 0
-  Steps m at (Some end) left ended answered v w first now = IsOver m at end.cause end.answered v w first now
+  Steps m at (Some end) left ended answered v w first now = IsEnded m at end v w first now
   Steps m at None left ended answered v w first now = GoesOn m at left ended answered v w first now
 
-  -- a lane goes on
-  pub record LaneGoesOn (m : Meaning) (failed_before failed_now answered cut : ℕ) (v w : View T) (old new : Option Past) : Type 0 where
+  -- a lane is served so far
+  pub record LaneGoesOn (m : Meaning) (failed_before failed_now answered cut halts : ℕ) (v w : View T) (old new : Option Past) : Type 0 where
     pub own : List Placed
     pub made : HasPlaced v w own
-    pub told : TellsOn (LaneSoFar m v.number w.seen own failed_before failed_now answered cut) old new
+    pub told : TellsOn (IsLaneSoFar m v.number w.seen own failed_before failed_now answered cut halts) old new
 
   -- it was served to its end
   pub record LaneServed (m : Meaning) (failed_before failed_now : ℕ) (end : LaneEnd) (v w : View T) (old new : Option Past) : Type 0 where

@@ -1,5 +1,5 @@
 //! What is done for a request that has begun, by who answers at its address.
-ghost use Rattle.std.specs.Prelude.{◌≡◌, ◌≤◌, [], Some, None, true, false};
+ghost use Rattle.std.specs.Prelude.{◌≡◌, ◌≤◌, [], Some, None, true, false, cond};
 ghost use Rattle.cd_outside.specs.Counts.{Rose};
 ghost use Rattle.cd_legal.specs.Legal.{state_at};
 ghost use Rattle.cd_legal.specs.Serials.{is_halted};
@@ -12,7 +12,7 @@ ghost use Rattle.cd_hall.specs.Calls.{IsPassOf};
 ghost use Rattle.cd_hall.specs.Tickets.{IsTicketOf};
 ghost use Rattle.cd_serve.specs.declared.how.How.TheVariants as how;
 ghost use Rattle.cd_serve.specs.Episodes.{Outcome};
-ghost use Rattle.cd_serve.specs.Requests.{Acted, ActedQuietly, is_fault, is_fault_in, outcome_of, OwesTicket, IsCurrent};
+ghost use Rattle.cd_serve.specs.Requests.{Acted, ActedQuietly, is_fault, is_fault_in, outcome_of, OwesTicket, IsBegun};
 
 use crate::changing::{halt, replace};
 use crate::how::How;
@@ -42,7 +42,7 @@ pub(crate) fn act<R: Wait, M: Administered, F: Fixtures, L: Lane>(
     request: &Request,
 ) -> Option<How>
     requires pass { IsPassOf hall.now pass.old }
-    requires ticket { IsCurrent (view pass.old) ticket.now }
+    requires ticket { IsBegun (view pass.old) ticket.now }
     requires owes { OwesTicket (view pass.old) ticket.now.serial }
     requires busy { L.busy lane.old ≡ true }
     ensures pass { IsPassOf hall.now pass.new }
@@ -62,7 +62,7 @@ pub(crate) fn act<R: Wait, M: Administered, F: Fixtures, L: Lane>(
 
 // Nobody answers, perhaps since the host has halted.
 fn unanswered<M: ModuleSet>(ticket: &Ticket<M>) -> How
-    ensures outcome { outcome_of result ≡ Some Outcome.dropped }
+    ensures outcome { outcome_of result ≡ Some (cond (is_halted (conf_in ticket.now.share)) Outcome.halted Outcome.dropped) }
     ensures fault { is_fault result ≡ false }
     ensures halted { result ≡ how.Halted → is_halted (conf_in ticket.now.share) ≡ true }
 {
@@ -112,7 +112,7 @@ fn act_by_admin<R: Wait, M: Administered, F: Fixtures, L: Lane>(
     request: &Request,
 ) -> Option<How>
     requires pass { IsPassOf hall.now pass.old }
-    requires ticket { IsCurrent (view pass.old) ticket.now }
+    requires ticket { IsBegun (view pass.old) ticket.now }
     requires owes { OwesTicket (view pass.old) ticket.now.serial }
     requires busy { L.busy lane.old ≡ true }
     requires admin { (conf_acts M.acts (conf_in ticket.now.share)).target at.now ≡ Admin }
@@ -126,10 +126,8 @@ fn act_by_admin<R: Wait, M: Administered, F: Fixtures, L: Lane>(
 {
     match decide::<M>(alloc, ticket.tree(), request) {
         Ok(Decision::Reply(answer)) => Some(reply_with(alloc, lane, request, &answer, &[])),
-        Ok(Decision::Replace(loaded, change)) => {
-            replace(
-                rt, alloc, hall, pass, ticket, lane, at, request, loaded, change,
-            )
+        Ok(Decision::Replace(loaded)) => {
+            replace(rt, alloc, hall, pass, ticket, lane, at, request, loaded)
         }
         Ok(Decision::Halt) => halt(rt, alloc, hall, pass, ticket, lane, at, request),
         Err(NoMemory) => Some(How::NoMemory),

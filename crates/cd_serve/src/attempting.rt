@@ -7,6 +7,7 @@ ghost use Rattle.cd_legal.specs.Placed.{Placed};
 ghost use Rattle.cd_legal.specs.Signing.{IsHistory};
 ghost use Rattle.cd_gate.specs.Passes.{view};
 ghost use Rattle.cd_life.specs.Fits.{Suits};
+ghost use Rattle.cd_life.specs.Origins.{change_of};
 ghost use Rattle.cd_life.specs.Shares.{conf_in};
 ghost use Rattle.cd_hall.specs.Calls.{IsPassOf};
 ghost use Rattle.cd_hall.specs.Drafts.{IsDraftOf, IsWholeDraft, held};
@@ -18,8 +19,7 @@ use crate::fault::ChangeFault;
 use crate::opening::open_draft;
 use cd_gate::Pass;
 use cd_hall::{Hall, Kept, Ticket};
-use cd_legal::Change;
-use cd_life::{Board, Draft, DraftFault};
+use cd_life::{Board, Draft, DraftFault, Origin};
 use cd_module_set::{Loaded, ModuleSet};
 use cd_outside::Fixtures;
 use cd_wire::Request;
@@ -47,17 +47,17 @@ pub fn attempt_change<R: Wait, M: ModuleSet, F: Fixtures>(
     pass: &mut Pass<Board<M, F>>,
     ticket: &Ticket<M>,
     loaded: Loaded<M>,
-    request: Request,
+    request: &Request,
 ) -> Attempt
     requires pass { IsPassOf hall.now pass.old }
     requires ticket { IsTicketOf (view pass.old) ticket.now }
     requires free { (view pass.old).draft ≡ None }
-    requires asks { Asks M.change (conf_in ticket.now.share) request loaded.tree }
+    requires asks { Asks M.change (conf_in ticket.now.share) request.now loaded.tree }
     ensures pass { IsPassOf hall.now pass.new }
     ensures ticket { IsTicketOf (view pass.new) ticket.now }
     ensures free { (view pass.new).draft ≡ None }
     ensures attempted { (work : List Placed) × Works (view pass.old) (view pass.new) work
-        × Attempted (record { acts = M.acts; plan = M.plan }) loaded.tree request (view pass.old).number ticket.now.serial (state_at (view pass.new).seen) work result }
+        × Attempted (record { acts = M.acts; plan = M.plan }) loaded.tree request.now (view pass.old).number ticket.now.serial (state_at (view pass.new).seen) work result }
 {
     match hall.draft(rt, alloc, pass, loaded) {
         Ok(draft) => open_and_publish(rt, hall, pass, ticket, draft, request),
@@ -81,24 +81,24 @@ fn open_and_publish<R: Wait, M: ModuleSet, F: Fixtures>(
     pass: &mut Pass<Board<M, F>>,
     ticket: &Ticket<M>,
     draft: Draft<M>,
-    request: Request,
+    request: &Request,
 ) -> Attempt
     requires pass { IsPassOf hall.now pass.old }
     requires history { IsHistory (view pass.old).seen }
     requires ticket { IsTicketOf (view pass.old) ticket.now }
     requires draft { IsDraftOf (view pass.old) draft }
     requires new { IsNewDraft (held draft) }
-    requires asks { Asks M.change (conf_in ticket.now.share) request (held draft).tree }
+    requires asks { Asks M.change (conf_in ticket.now.share) request.now (held draft).tree }
     ensures pass { IsPassOf hall.now pass.new }
     ensures ticket { IsTicketOf (view pass.new) ticket.now }
     ensures free { (view pass.new).draft ≡ None }
     ensures attempted { (before : _) (found : List Signed) → IsDrafted before (view pass.old) found (held draft) → M.plan (held draft).tree ≡ Ok (held draft).plan
         → (work : List Placed) × Works before (view pass.new) work
-        × Attempted (record { acts = M.acts; plan = M.plan }) (held draft).tree request before.number ticket.now.serial (state_at (view pass.new).seen) work result }
+        × Attempted (record { acts = M.acts; plan = M.plan }) (held draft).tree request.now before.number ticket.now.serial (state_at (view pass.new).seen) work result }
 {
     let mut draft = draft;
     match open_draft(rt, hall, &mut draft, pass) {
-        Ok(()) => publish_or_give_up(rt, hall, pass, ticket, draft, Change::Request(request)),
+        Ok(()) => publish_or_give_up(rt, hall, pass, ticket, draft, Origin::of(request)),
         Err(key) => {
             hall.abandon(rt, draft, pass);
             Attempt::Refused(ChangeFault::CannotOpen(key))
@@ -112,18 +112,18 @@ fn publish_or_give_up<R: Wait, M: ModuleSet, F: Fixtures>(
     pass: &mut Pass<Board<M, F>>,
     ticket: &Ticket<M>,
     draft: Draft<M>,
-    change: Change,
+    origin: Origin,
 ) -> Attempt
     requires pass { IsPassOf hall.now pass.old }
     requires ticket { IsTicketOf (view pass.old) ticket.now }
     requires draft { IsDraftOf (view pass.old) draft }
     requires whole { IsWholeDraft (held draft) }
-    requires change { Suits M.change (conf_in ticket.now.share) change (held draft).tree }
+    requires change { Suits M.change (conf_in ticket.now.share) (change_of origin) (held draft).tree }
     ensures pass { IsPassOf hall.now pass.new }
     ensures free { (view pass.new).draft ≡ None }
-    ensures concludes { Concludes (view pass.old) (view pass.new) (held draft) ticket.now.serial change result }
+    ensures concludes { Concludes (view pass.old) (view pass.new) (held draft) ticket.now.serial (change_of origin) result }
 {
-    match hall.publish(rt, draft, ticket, change, pass) {
+    match hall.publish(rt, draft, ticket, origin, pass) {
         Ok(()) => Attempt::Published,
         Err(kept) => {
             let (draft, attempt) = refused(kept);

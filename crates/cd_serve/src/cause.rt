@@ -1,4 +1,4 @@
-/// Why a connection was cut short, where it was.
+/// Why a connection was interrupted, where it was.
 #[derive(Clone, Copy, Debug, PartialEq, Eq)]
 pub enum Cause {
     /// It was not.

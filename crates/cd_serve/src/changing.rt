@@ -1,7 +1,6 @@
 //! A change that the admin API decides on is made, and answered.
 ghost use Rattle.std.specs.Prelude.{◌≡◌, ◌≤◌, [], Some, None, true};
 ghost use Rattle.cd_outside.specs.Counts.{Rose};
-ghost use Rattle.cd_legal.specs.declared.entry.Change.TheVariants as by;
 ghost use Rattle.cd_gate.specs.Passes.{view};
 ghost use Rattle.cd_admin.specs.Deciding.{replace as replaces, halt as halts};
 ghost use Rattle.cd_life.specs.Shares.{conf_in};
@@ -10,18 +9,18 @@ ghost use Rattle.cd_serve.specs.declared.how.How.TheVariants as how;
 ghost use Rattle.cd_serve.specs.Attempts.{Asks};
 ghost use Rattle.cd_serve.specs.Faults.{fault_answer};
 ghost use Rattle.cd_serve.specs.Meanings.{Decides};
-ghost use Rattle.cd_serve.specs.Requests.{Acted, IsSent, is_fault, is_fault_in, OwesTicket, IsCurrent};
+ghost use Rattle.cd_serve.specs.Requests.{Acted, IsSent, is_fault, is_fault_in, OwesTicket, IsBegun};
 
 use crate::answering::halted_answer;
 use crate::attempting::{Attempt, attempt_change};
 use crate::fault::ChangeFault;
 use crate::halting::halt_host;
 use crate::how::How;
-use crate::replying::reply_with;
+use crate::replying::{reply_with, send};
+use crate::sending::sent;
 use cd_admin::{Administered, done};
 use cd_gate::Pass;
 use cd_hall::{Hall, Ticket};
-use cd_legal::Change;
 use cd_life::Board;
 use cd_module_set::Loaded;
 use cd_outside::{Address, Fixtures, Lane};
@@ -29,7 +28,8 @@ use cd_wire::Request;
 use std::alloc::Global;
 use std::sync::Wait;
 
-/// Attempts to publish what the request asks for, and answers whether that was done. None where another change was first.
+/// Attempts to publish what the request asks for, and answers whether that was done. None where another change was first. The answer
+/// to a change that is made is written out before it is made, so that only a failed write can hide the change.
 pub(crate) fn replace<R: Wait, M: Administered, F: Fixtures, L: Lane>(
     rt: &R,
     alloc: Global,
@@ -40,13 +40,11 @@ pub(crate) fn replace<R: Wait, M: Administered, F: Fixtures, L: Lane>(
     at: &Address,
     request: &Request,
     loaded: Loaded<M>,
-    change: Change,
 ) -> Option<How>
     requires pass { IsPassOf hall.now pass.old }
-    requires ticket { IsCurrent (view pass.old) ticket.now }
+    requires ticket { IsBegun (view pass.old) ticket.now }
     requires owes { OwesTicket (view pass.old) ticket.now.serial }
     requires busy { L.busy lane.old ≡ true }
-    requires change { change ≡ by.Request request.now }
     requires asks { Asks M.change (conf_in ticket.now.share) request.now loaded.tree }
     requires decides { Decides (record { acts = M.acts; plan = M.plan }) (conf_in ticket.now.share) at.now request.now (replaces loaded.tree) }
     ensures pass { IsPassOf hall.now pass.new }
@@ -58,23 +56,15 @@ pub(crate) fn replace<R: Wait, M: Administered, F: Fixtures, L: Lane>(
     ensures running { ¬ (result ≡ Some how.Halted) }
 {
     let _ = at;
-    let asked = request_of(change);
-    match attempt_change(rt, alloc, hall, pass, ticket, loaded, asked) {
-        Attempt::Published => Some(reply_with(alloc, lane, request, &done(alloc), &[])),
+    let answer = done(alloc);
+    let Ok(bytes) = sent(alloc, request, &answer) else {
+        return Some(How::NoMemory);
+    };
+    match attempt_change(rt, alloc, hall, pass, ticket, loaded, request) {
+        Attempt::Published => Some(send(lane, request, &answer, bytes.as_slice(), &[])),
         Attempt::Superseded => None,
         Attempt::Refused(fault) => Some(refuse(alloc, lane, request, &fault)),
         Attempt::Lacking => Some(How::NoMemory),
-    }
-}
-
-// The request by which the change is.
-fn request_of(change: Change) -> Request
-    requires { ¬ (change ≡ by.First) }
-    ensures { change ≡ by.Request result }
-{
-    match change {
-        Change::Request(request) => request,
-        Change::First => unreachable!(),
     }
 }
 
@@ -92,7 +82,7 @@ fn refuse<L: Lane>(alloc: Global, lane: &mut L, request: &Request, fault: &Chang
     }
 }
 
-/// Halts the host, and answers that. None where another pass was first.
+/// Halts the host, and answers that, by bytes that are made before. None where another pass was first.
 pub(crate) fn halt<R: Wait, M: Administered, F: Fixtures, L: Lane>(
     rt: &R,
     alloc: Global,
@@ -104,7 +94,7 @@ pub(crate) fn halt<R: Wait, M: Administered, F: Fixtures, L: Lane>(
     request: &Request,
 ) -> Option<How>
     requires pass { IsPassOf hall.now pass.old }
-    requires ticket { IsCurrent (view pass.old) ticket.now }
+    requires ticket { IsBegun (view pass.old) ticket.now }
     requires owes { OwesTicket (view pass.old) ticket.now.serial }
     requires busy { L.busy lane.old ≡ true }
     requires decides { Decides (record { acts = M.acts; plan = M.plan }) (conf_in ticket.now.share) at.now request.now halts }
@@ -118,8 +108,12 @@ pub(crate) fn halt<R: Wait, M: Administered, F: Fixtures, L: Lane>(
 {
     let _ = at;
     let _ = ticket;
+    let answer = halted_answer(alloc);
+    let Ok(bytes) = sent(alloc, request, &answer) else {
+        return Some(How::NoMemory);
+    };
     if halt_host(rt, hall, pass) {
-        Some(reply_with(alloc, lane, request, &halted_answer(alloc), &[]))
+        Some(send(lane, request, &answer, bytes.as_slice(), &[]))
     } else {
         None
     }

@@ -7,7 +7,7 @@ ghost use Rattle.cd_gate.specs.Passes.{view};
 ghost use Rattle.cd_hall.specs.Calls.{IsPassOf};
 ghost use Rattle.cd_serve.specs.Requests.{OwesNothing};
 ghost use Rattle.cd_serve.specs.Serving.{HasRisen};
-ghost use Rattle.cd_serve.specs.Stepping.{GoesOn, IsOver, Steps, RisesBy, HaltedBy};
+ghost use Rattle.cd_serve.specs.Stepping.{GoesOn, IsEnded, Steps, RisesBy, HaltedBy};
 
 use crate::cause::Cause;
 use crate::connection_end::ConnectionEnd;
@@ -24,7 +24,7 @@ use std::alloc::Global;
 use std::sync::Wait;
 
 /// Serves the connection that is there, which came to this address, and ends it. The pass owes nothing, before and after.
-pub fn serve_connection<R: Wait, M: Administered, F: Fixtures, L: Lane>(
+pub(crate) fn serve_connection<R: Wait, M: Administered, F: Fixtures, L: Lane>(
     rt: &R,
     alloc: Global,
     hall: &Hall<M, F>,
@@ -38,7 +38,7 @@ pub fn serve_connection<R: Wait, M: Administered, F: Fixtures, L: Lane>(
     ensures pass { IsPassOf hall.now pass.new }
     ensures free { OwesNothing (view pass.new) }
     ensures busy { L.busy lane.new ≡ false }
-    ensures served { IsOver (record { acts = M.acts; plan = M.plan }) at.now result.cause result.answered (view pass.old) (view pass.new) (L.past lane.old) (L.past lane.new) }
+    ensures served { IsEnded (record { acts = M.acts; plan = M.plan }) at.now result (view pass.old) (view pass.new) (L.past lane.old) (L.past lane.new) }
     ensures cause { HasRisen result.cause (L.faults lane.old) (L.faults lane.new) }
     ensures halted { result.halted ≡ true → (state_at (view pass.new).seen).halted ≡ true }
 {
@@ -61,7 +61,7 @@ fn serve_requests<R: Wait, M: Administered, F: Fixtures, L: Lane>(
     ensures pass { IsPassOf hall.now pass.new }
     ensures free { OwesNothing (view pass.new) }
     ensures busy { L.busy lane.new ≡ true }
-    ensures served { IsOver (record { acts = M.acts; plan = M.plan }) at.now result.cause result.answered (view pass.old) (view pass.new) (L.past lane.old) (L.past lane.new) }
+    ensures served { IsEnded (record { acts = M.acts; plan = M.plan }) at.now result (view pass.old) (view pass.new) (L.past lane.old) (L.past lane.new) }
     ensures cause { HasRisen result.cause (L.faults lane.old) (L.faults lane.new) }
     ensures halted { result.halted ≡ true → (state_at (view pass.new).seen).halted ≡ true }
 {

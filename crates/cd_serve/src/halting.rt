@@ -5,7 +5,7 @@ ghost use Rattle.cd_legal.specs.Placed.{Placed};
 ghost use Rattle.cd_gate.specs.Passes.{view};
 ghost use Rattle.cd_hall.specs.Calls.{IsPassOf};
 ghost use Rattle.cd_serve.specs.Attempts.{Works};
-ghost use Rattle.cd_serve.specs.Changes.{IsHalted};
+ghost use Rattle.cd_serve.specs.Changes.{IsHalting};
 
 use cd_gate::Pass;
 use cd_hall::Hall;
@@ -23,7 +23,7 @@ pub fn halt_host<R: Wait, M: ModuleSet, F: Fixtures>(
     requires pass { IsPassOf hall.now pass.old }
     requires duties { (view pass.old).duties ≡ [] }
     ensures pass { IsPassOf hall.now pass.new }
-    ensures halts { result ≡ true → (work : List Placed) × Works (view pass.old) (view pass.new) work × IsHalted work }
+    ensures halts { result ≡ true → (work : List Placed) × Works (view pass.old) (view pass.new) work × IsHalting work }
     ensures halted { result ≡ false → Works (view pass.old) (view pass.new) [] × ((state_at (view pass.new).seen).halted ≡ true) }
     ensures draft { (view pass.new).draft ≡ (view pass.old).draft }
 {

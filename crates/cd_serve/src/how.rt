@@ -7,7 +7,7 @@ pub enum How {
     Unlogged,
     /// The lane failed before the whole answer was sent.
     Failed,
-    /// Out of memory for its answer, of which nothing was sent.
+    /// Out of memory for its answer, of which nothing was sent. No change was made for it.
     NoMemory,
     /// Nobody answers at the address.
     Dropped,

@@ -15,6 +15,6 @@ pub struct LaneEnd {
     pub how: LaneHow,
     /// How many requests were answered in whole.
     pub answered: u64,
-    /// How many connections were cut short for want of memory.
+    /// How many connections were interrupted for want of memory.
     pub cut: u64,
 }

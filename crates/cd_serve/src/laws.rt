@@ -17,13 +17,15 @@ ghost use Rattle.cd_legal.specs.Legal.{IsLegal, state_at};
 ghost use Rattle.cd_legal.specs.Placed.{Placed, placed, through};
 ghost use Rattle.cd_legal.specs.Fresh.{Fresh};
 ghost use Rattle.cd_serve.specs.declared.cause.Cause.{Cause};
+ghost use Rattle.cd_serve.specs.declared.connection_end.ConnectionEnd.{ConnectionEnd};
 ghost use Rattle.cd_serve.specs.Meanings.{Meaning};
 ghost use Rattle.cd_serve.specs.Episodes.{Outcome, is_halt, another_halted};
 ghost use Rattle.cd_serve.specs.Replies.{Reply, is_whole};
-ghost use Rattle.cd_serve.specs.Connections.{Way, Ending, AllGoOn, EndsBy};
-ghost use Rattle.cd_serve.specs.Lanes.{IsTold, Told, is_early, early_in, answered_in, LaneSoFar};
-ghost use Rattle.cd_serve.specs.Joining.{Slot, SlotsFrom, LanesTold, lanes_of};
-ghost use Rattle.cd_serve.specs.Serving.{Replied, ConnectionSoFar, ConnectionServed, cuts_short, HasRisen, cut_by};
+ghost use Rattle.cd_serve.specs.Connections.{Way, Ending, AllGoOn, EndsBy, Serves};
+ghost use Rattle.cd_serve.specs.Complete.{IsComplete};
+ghost use Rattle.cd_serve.specs.Lanes.{IsTold, Told, is_interrupted, finds_halt, interrupted_in, faulted_in, halted_in, answered_in, LaneSoFar};
+ghost use Rattle.cd_serve.specs.Reports.{Span, LaneReport, EachCovered, NoneRose, AllWhole, ServedLane, ServedLanesFrom, LanesTold, lanes_of};
+ghost use Rattle.cd_serve.specs.Serving.{Replied, ConnectionSoFar, ConnectionServed, CausedBy, HasRisen, cut_by};
 
 /// What a lane tells of a history stays so in a longer one, whose further entries others have signed.
 pub fn later_entries_of_others_change_nothing()
@@ -43,6 +45,18 @@ pub fn what_is_told_stays()
         → IsTold m k (history ++ more) before own connections endings }
 {}
 
+/// A connection that was not interrupted has all its answers: each request of its bytes was answered, unless an answer closed it before,
+/// or nobody answered, or too many requests had begun; and what was sent is these answers, and a fixed one where one is due.
+pub fn connections_are_complete()
+    ensures { (m : Meaning) (k : ℕ) (history : List Signed) (before : List Placed) (c : Connection) (e : Ending)
+        → Serves m k history before c e → is_interrupted e.way ≡ false → IsComplete m k history (before ++ e.own) c }
+{}
+
+/// Where no fault of lanes rose, and no connection lacked memory, none of them was interrupted, and no accept failed.
+pub fn lanes_without_faults_are_whole()
+    ensures { (lanes : List Span) (tales : List (Option LaneReport)) → EachCovered lanes tales 0 → NoneRose lanes → AllWhole lanes tales }
+{}
+
 /// Connections that are told one after another are told together.
 pub fn connections_are_told_together()
     ensures { (m : Meaning) (k : ℕ) (history : List Signed) (before own more : List Placed) (first then : List Connection) (ended next : List Ending)
@@ -54,7 +68,9 @@ pub fn connections_are_told_together()
 /// Counts of connections that are told together add up.
 pub fn counts_add_up()
     ensures answered { (first then : List Ending) → answered_in (first ++ then) ≡ answered_in first + answered_in then }
-    ensures early { (first then : List Ending) → early_in (first ++ then) ≡ early_in first + early_in then }
+    ensures early { (first then : List Ending) → interrupted_in (first ++ then) ≡ interrupted_in first + interrupted_in then }
+    ensures faulted { (first then : List Ending) → faulted_in (first ++ then) ≡ faulted_in first + faulted_in then }
+    ensures halted { (first then : List Ending) → halted_in (first ++ then) ≡ halted_in first + halted_in then }
 {}
 
 /// Where the host had not halted, and has since, and the pass made no Halt since, another pass has halted.
@@ -86,42 +102,42 @@ pub fn connections_go_on()
 
 /// A connection has been served where it ends in one of the ways, whatever the pass did before it.
 pub fn connections_end()
-    ensures answered { (m : Meaning) (k : ℕ) (at : Address) (seen longer : List Signed) (replies : List Reply) (own : List Placed) (left : List ℕ) (ended : Bool) (answered : ℕ) (again : List (List Placed)) (fixed : List ℕ) (way : Way) (first old now : Option Past)
-        → ConnectionSoFar m k at replies own left ended answered first old
+    ensures answered { (m : Meaning) (k : ℕ) (at : Address) (seen longer : List Signed) (replies : List Reply) (own : List Placed) (left : List ℕ) (ended : Bool) (answered : ℕ) (again : List (List Placed)) (fixed : List ℕ) (way : Way) (cause : Cause) (first old now : Option Past)
+        → ConnectionSoFar m k at replies own left ended answered first old → CausedBy cause way
         → now ≡ option_map (after_put fixed) old
         → ((before : List Placed) → IsPrefix (through k before) seen
         → EndsBy m k longer (before ++ (own ++ joined again)) at ended replies left again fixed way)
-        → ConnectionServed m k at seen longer (own ++ joined again) (is_early way) answered first now }
-    ensures quiet { (m : Meaning) (k : ℕ) (at : Address) (seen longer : List Signed) (replies : List Reply) (own : List Placed) (left : List ℕ) (ended : Bool) (answered : ℕ) (again : List (List Placed)) (way : Way) (first now : Option Past)
-        → ConnectionSoFar m k at replies own left ended answered first now
+        → ConnectionServed m k at seen longer (own ++ joined again) (record { cause = cause; answered = answered; halted = finds_halt way }) first now }
+    ensures quiet { (m : Meaning) (k : ℕ) (at : Address) (seen longer : List Signed) (replies : List Reply) (own : List Placed) (left : List ℕ) (ended : Bool) (answered : ℕ) (again : List (List Placed)) (way : Way) (cause : Cause) (first now : Option Past)
+        → ConnectionSoFar m k at replies own left ended answered first now → CausedBy cause way
         → ((before : List Placed) → IsPrefix (through k before) seen
         → EndsBy m k longer (before ++ (own ++ joined again)) at ended replies left again [] way)
-        → ConnectionServed m k at seen longer (own ++ joined again) (is_early way) answered first now }
+        → ConnectionServed m k at seen longer (own ++ joined again) (record { cause = cause; answered = answered; halted = finds_halt way }) first now }
 {}
 
 /// What is told of a lane goes on from nothing, with each connection that is accepted and served, to its last accept, which says
 /// that no more comes or fails.
 pub fn lanes_go_on()
     ensures starts { (m : Meaning) (k : ℕ) (history : List Signed) (faults : ℕ) (p : Past)
-        → LaneSoFar m k history [] faults faults 0 0 p p }
-    ensures goes { (m : Meaning) (k : ℕ) (at : Address) (seen longer : List Signed) (own more : List Placed) (p q now : Past) (first faults accepted_at served_at answered cut count : ℕ) (cause : Cause)
-        → LaneSoFar m k seen own first faults answered cut p q
+        → LaneSoFar m k history [] faults faults 0 0 0 p p }
+    ensures goes { (m : Meaning) (k : ℕ) (at : Address) (seen longer : List Signed) (own more : List Placed) (p q now : Past) (first faults accepted_at served_at answered cut halts : ℕ) (end : ConnectionEnd)
+        → LaneSoFar m k seen own first faults answered cut halts p q
         → IsPrefix seen longer → IsPrefix (through k own) seen
-        → faults ≤ accepted_at → HasRisen cause accepted_at served_at
-        → ConnectionServed m k at seen longer more (cuts_short cause) count (Some (after_accept (accepted.Connection at) q)) (Some now)
-        → LaneSoFar m k longer (own ++ more) first served_at (min (answered + count) count_end) (cut_by cause cut) p now }
-    ensures ends { (m : Meaning) (k : ℕ) (history : List Signed) (own : List Placed) (p q : Past) (first faults later answered cut : ℕ)
-        → LaneSoFar m k history own first faults answered cut p q → faults ≤ later
-        → LaneSoFar m k history own first later answered cut p (after_accept accepted.Ended q) }
-    ensures fails { (m : Meaning) (k : ℕ) (history : List Signed) (own : List Placed) (p q : Past) (first faults later answered cut : ℕ)
-        → LaneSoFar m k history own first faults answered cut p q → faults ≤ later → Rose faults later
-        → LaneSoFar m k history own first later answered cut p (after_accept accepted.Failed q) }
+        → faults ≤ accepted_at → HasRisen end.cause accepted_at served_at
+        → ConnectionServed m k at seen longer more end (Some (after_accept (accepted.Connection at) q)) (Some now)
+        → LaneSoFar m k longer (own ++ more) first served_at (min (answered + end.answered) count_end) (cut_by end.cause cut) (halts + cond end.halted 1 0) p now }
+    ensures ends { (m : Meaning) (k : ℕ) (history : List Signed) (own : List Placed) (p q : Past) (first faults later answered cut halts : ℕ)
+        → LaneSoFar m k history own first faults answered cut halts p q → faults ≤ later
+        → LaneSoFar m k history own first later answered cut halts p (after_accept accepted.Ended q) }
+    ensures fails { (m : Meaning) (k : ℕ) (history : List Signed) (own : List Placed) (p q : Past) (first faults later answered cut halts : ℕ)
+        → LaneSoFar m k history own first faults answered cut halts p q → faults ≤ later → Rose faults later
+        → LaneSoFar m k history own first later answered cut halts p (after_accept accepted.Failed q) }
 {}
 
 /// Lanes that were served by passes of their own, of one legal history, tell of it together: each of its own pass, and all of
 /// them in their counts.
 pub fn lanes_tell_together()
-    ensures { (m : Meaning) (history : List Signed) (slots : List Slot)
-        → IsLegal history → SlotsFrom m history 1 slots
+    ensures { (m : Meaning) (history : List Signed) (slots : List ServedLane)
+        → IsLegal history → ServedLanesFrom m history 1 slots
         → LanesTold m history (lanes_of slots) (min (sum_by (λ s. s.end.answered) slots) count_end) (min (sum_by (λ s. s.end.cut) slots) count_end) }
 {}

@@ -3,9 +3,10 @@
 //! A pass serves a lane: for each request it begins in the history, answers under the configuration that is current there, and
 //! finishes. specs/Episodes.antt says which entries that may be and which answer they stand for, specs/Replies.antt what is done
 //! for one request, specs/Connections.antt how a connection goes and in which ways it ends, and specs/Lanes.antt what a lane tells
-//! of all its connections (`Told`), with the counts that tie each one that was cut short to a fault or to memory that lacked.
-//! specs/Joining.antt has what several lanes tell together. All of it is said of the entries of one pass, each with the history
-//! before it (`Placed` of `cd_legal`), and of what a set of modules means (`Meaning`).
+//! of all its connections (`Told`), with the counts that tie each one that was interrupted to a fault or to memory that lacked, and
+//! what ended it. specs/Complete.antt says what a connection has that was not interrupted: all its answers. specs/Reports.antt has
+//! what several lanes tell together. All of it is said of the entries of one pass, each with the history before it (`Placed` of
+//! `cd_legal`), and of what a set of modules means (`Meaning`). What is sent on a connection is one record (`Sent`).
 //!
 //! The functions of `laws` do nothing: their contracts are laws of these definitions, so that the layers above need not look
 //! into them. That no request is answered under an older configuration than its pass has seen is a law of `cd_legal`.
@@ -44,7 +45,6 @@ mod session;
 pub use answering::{halted_answer, key_words};
 pub use attempting::{Attempt, attempt_change};
 pub use cause::Cause;
-pub use connection::serve_connection;
 pub use connection_end::ConnectionEnd;
 pub use fault::ChangeFault;
 pub use halting::halt_host;
@@ -52,10 +52,9 @@ pub use how::How;
 pub use lane::serve_lane;
 pub use lane_end::{LaneEnd, LaneHow};
 pub use laws::{
-    a_halt_since_then_is_of_another, connections_are_told_together, connections_end,
-    connections_go_on, counts_add_up, lanes_go_on, lanes_tell_together,
-    later_entries_of_others_change_nothing, what_is_told_stays,
+    a_halt_since_then_is_of_another, connections_are_complete, connections_are_told_together,
+    connections_end, connections_go_on, counts_add_up, lanes_go_on, lanes_tell_together,
+    lanes_without_faults_are_whole, later_entries_of_others_change_nothing, what_is_told_stays,
 };
 pub use opening::open_draft;
-pub use request::serve_request;
 pub use sending::{says_close, sent};

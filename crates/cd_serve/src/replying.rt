@@ -4,7 +4,8 @@ ghost use Rattle.cd_outside.specs.declared.given.Given.TheVariants as given;
 ghost use Rattle.cd_outside.specs.Counts.{Rose};
 ghost use Rattle.cd_outside.specs.Given.{IsGivenOf};
 ghost use Rattle.cd_outside.specs.Past.{after_put};
-ghost use Rattle.cd_serve.specs.Meanings.{logged};
+ghost use Rattle.cd_serve.specs.declared.how.How.TheVariants as how;
+ghost use Rattle.cd_serve.specs.Meanings.{logged, sent};
 ghost use Rattle.cd_serve.specs.Requests.{is_fault, IsSent, IsLogged};
 
 use crate::how::How;
@@ -31,7 +32,26 @@ pub(crate) fn reply_with<L: Lane>(
     let Ok(bytes) = sent(alloc, request, answer) else {
         return How::NoMemory;
     };
-    match put(lane, bytes.as_slice()) {
+    send(lane, request, answer, bytes.as_slice(), lines)
+}
+
+/// Sends these bytes of an answer to the request, and logs these lines. That takes no memory.
+pub(crate) fn send<L: Lane>(
+    lane: &mut L,
+    request: &Request,
+    answer: &Answer<'_>,
+    bytes: &[u8],
+    lines: &[Line],
+) -> How
+    requires busy { L.busy lane.old ≡ true }
+    requires bytes { bytes.now ≡ sent request.now answer.now }
+    ensures busy { L.busy lane.new ≡ true }
+    ensures sent { IsSent result request.now answer.now (map logged lines.now) (L.past lane.old) (L.past lane.new) }
+    ensures made { ¬ (result ≡ how.NoMemory) }
+    ensures later { L.faults lane.old ≤ L.faults lane.new }
+    ensures failed { is_fault result ≡ true → Rose (L.faults lane.old) (L.faults lane.new) }
+{
+    match put(lane, bytes) {
         Given::Failed => return How::Failed,
         Given::All => {}
     }

@@ -26,7 +26,7 @@ use std::sync::Wait;
 ///
 /// It begins, is answered under the configuration that is current then, and finishes; where another pass was first with a change,
 /// it does so again. What it made in the history, what was sent and what was logged belong together.
-pub fn serve_request<R: Wait, M: Administered, F: Fixtures, L: Lane>(
+pub(crate) fn serve_request<R: Wait, M: Administered, F: Fixtures, L: Lane>(
     rt: &R,
     alloc: Global,
     hall: &Hall<M, F>,

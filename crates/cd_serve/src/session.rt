@@ -24,7 +24,7 @@ use cd_text::NoMemory;
 use cd_wire::{Intake, WireFault, refusal};
 
 /// How many bytes are read at once, at most.
-pub(crate) const READ_BYTES: usize = 4_096;
+pub(crate) const READ_BYTES: usize = 16_384;
 
 /// What is known of a connection while it is served.
 #[derive(Drop)]

@@ -15,7 +15,7 @@ use Rattle.cd_legal.proofs.Placed.{placed-entries}
 use Rattle.cd_gate.specs.declared.view.View.{View}
 use Rattle.cd_gate.specs.Growing.{Places}
 use Rattle.cd_serve.specs.Attempts.{Works}
-use Rattle.cd_serve.specs.Changes.{IsHalted}
+use Rattle.cd_serve.specs.Changes.{IsHalting}
 use Rattle.cd_serve.specs.Episodes.{is_halt}
 
 halted-after : (s : State) (e : Entry) → s.halted ≡ true → (after s e).halted ≡ true
@@ -52,7 +52,7 @@ own-halt k s (x ∷ xs) is = either-way (is_halt x.entry) (list_any is_halt (ent
     (own-is-any (x.by == k) x (mine k xs) is)
 
 -- a pass that has halted has seen the halt
-halt-shows : {T : Type 0} (v w : View T) (work : List Placed) → Places v w work → IsHalted work → (state_at w.seen).halted ≡ true
+halt-shows : {T : Type 0} (v w : View T) (work : List Placed) → Places v w work → IsHalting work → (state_at w.seen).halted ≡ true
 halt-shows v w work p h =
     let k : ℕ = v.number in
     let all : entries (mine k w.seen) ≡ entries (mine k v.seen) ++ placed_entries work =
@@ -63,7 +63,7 @@ halt-shows v w work p h =
     (ap (list_any is_halt) all ∙ list_any-append is_halt (entries (mine k v.seen)) (placed_entries work) ∙ ap (λ (b : Bool). list_any is_halt (entries (mine k v.seen)) || b) here ∙ or-true (list_any is_halt (entries (mine k v.seen))))
 
 -- what the pass has done, and that the host is halted then, whether by its call or before
-pub halted-either : {T : Type 0} (v w : View T) (own : Bool) → (own ≡ true → (work : List Placed) × Works v w work × IsHalted work) → (own ≡ false → Works v w [] × ((state_at w.seen).halted ≡ true))
+pub halted-either : {T : Type 0} (v w : View T) (own : Bool) → (own ≡ true → (work : List Placed) × Works v w work × IsHalting work) → (own ≡ false → Works v w [] × ((state_at w.seen).halted ≡ true))
     → ((work : List Placed) × Works v w work) × ((state_at w.seen).halted ≡ true)
 halted-either v w true by-call before = let h = by-call refl in ((h.0, h.1), halt-shows v w h.0 h.1.places h.2)
 halted-either v w false by-call before = let h = before refl in (([], h.0), h.1)

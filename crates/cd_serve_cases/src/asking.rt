@@ -3,6 +3,7 @@ ghost use Rattle.std.specs.Prelude.{◌≡◌, [], Some, None, IfOk, true};
 ghost use Rattle.cd_tree.specs.declared.tree.Tree.TheVariants.{Bool};
 ghost use Rattle.cd_gate.specs.Passes.{view};
 ghost use Rattle.cd_life.specs.Fits.{Suits};
+ghost use Rattle.cd_life.specs.Origins.{change_of};
 ghost use Rattle.cd_life.specs.Shares.{conf_in};
 ghost use Rattle.cd_hall.specs.Tickets.{IsTicketOf};
 ghost use Rattle.cd_serve_cases.specs.Fixed.{fixed_change, runs};
@@ -12,8 +13,7 @@ use crate::fixed::{Fixed, load_fixed};
 use crate::requests::{NotPlayed, begin, end};
 use cd_gate::Pass;
 use cd_hall::{Hall, Ticket};
-use cd_legal::Change;
-use cd_life::Board;
+use cd_life::{Board, Origin};
 use cd_outside::MemoryFixtures;
 use cd_serve::{Attempt, attempt_change};
 use cd_text::NoMemory;
@@ -126,7 +126,7 @@ fn attempt<R: Wait>(
     let Ok(loaded) = load_fixed(alloc, other) else {
         return Attempt::Lacking;
     };
-    attempt_change(rt, alloc, hall, pass, ticket, loaded, request)
+    attempt_change(rt, alloc, hall, pass, ticket, loaded, &request)
 }
 
 // A request for the other configuration, or for the first one.
@@ -138,18 +138,18 @@ fn request(alloc: Global, other: bool) -> Result<Request, NoMemory>
     Ok(Request::plain(alloc, b"POST", b"/load", minor)?)
 }
 
-/// By which change the other configuration follows that of the ticket, or the first one: by none after the halt.
-pub fn change_after(alloc: Global, ticket: &Ticket<Fixed>, other: bool) -> Result<Change, NotPlayed>
-    ensures { IfOk result (λ change. Suits fixed_change (conf_in ticket.now.share) change (Bool other)) }
+/// Where the other configuration comes from, or the first one, that follows that of the ticket: none may after the halt.
+pub fn origin_after(alloc: Global, ticket: &Ticket<Fixed>, other: bool) -> Result<Origin, NotPlayed>
+    ensures { IfOk result (λ origin. Suits fixed_change (conf_in ticket.now.share) (change_of origin) (Bool other)) }
 {
     if runs(ticket) {
         let Ok(request) = request(alloc, other) else {
             return Err(NotPlayed);
         };
-        return Ok(Change::Request(request));
+        return Ok(Origin::of(&request));
     }
     if ticket.halted() {
         return Err(NotPlayed);
     }
-    Ok(Change::First)
+    Ok(Origin::First)
 }

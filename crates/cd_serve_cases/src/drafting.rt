@@ -7,18 +7,18 @@ ghost use Rattle.cd_hall.specs.Drafts.{IsDraftOf, IsWholeDraft, held};
 ghost use Rattle.cd_hall.specs.Publishing.{draft_in};
 ghost use Rattle.cd_hall.specs.Tickets.{IsTicketOf};
 ghost use Rattle.cd_life.specs.Fits.{Suits};
+ghost use Rattle.cd_life.specs.Origins.{change_of};
 ghost use Rattle.cd_life.specs.Shares.{conf_in};
 ghost use Rattle.cd_serve.specs.Attempts.{IsNewDraft};
 ghost use Rattle.cd_serve_cases.specs.Fixed.{fixed_change};
 ghost use Rattle.cd_serve_cases.specs.Passes.{Has};
 
-use crate::asking::change_after;
+use crate::asking::origin_after;
 use crate::fixed::{Fixed, load_fixed};
 use crate::requests::{NotPlayed, begin, end};
 use cd_gate::Pass;
 use cd_hall::{Hall, Kept, Ticket, tickets_keep_their_configurations};
-use cd_legal::Change;
-use cd_life::{Board, Draft};
+use cd_life::{Board, Draft, Origin};
 use cd_outside::MemoryFixtures;
 use cd_serve::{Attempt, ChangeFault, open_draft};
 use std::alloc::Global;
@@ -53,9 +53,9 @@ fn publish_first<R: Wait>(
     requires ticket { IsTicketOf (view pass.old) ticket.now }
     ensures { Has hall.now pass.new number (Some ticket.now.serial) None [] }
 {
-    let change = change_after(alloc, ticket, false)?;
+    let origin = origin_after(alloc, ticket, false)?;
     let draft = make_and_open(rt, alloc, hall, pass, ticket, false, number)?;
-    match publish(rt, hall, pass, ticket, draft, change, number) {
+    match publish(rt, hall, pass, ticket, draft, origin, number) {
         Attempt::Published => Ok(()),
         _ => Err(NotPlayed),
     }
@@ -153,18 +153,18 @@ pub fn publish<R: Wait>(
     pass: &mut Pass<Board<Fixed, MemoryFixtures>>,
     ticket: &Ticket<Fixed>,
     draft: Draft<Fixed>,
-    change: Change,
+    origin: Origin,
     number: u32,
 ) -> Attempt
     requires has { Has hall.now pass.old number (Some ticket.now.serial) (Some draft.left.number) [] }
     requires ticket { IsTicketOf (view pass.old) ticket.now }
     requires draft { IsDraftOf (view pass.old) draft }
     requires whole { IsWholeDraft (held draft) }
-    requires change { Suits fixed_change (conf_in ticket.now.share) change (held draft).tree }
+    requires change { Suits fixed_change (conf_in ticket.now.share) (change_of origin) (held draft).tree }
     ensures has { Has hall.now pass.new number (Some ticket.now.serial) None [] }
     ensures ticket { IsTicketOf (view pass.new) ticket.now }
 {
-    match hall.publish(rt, draft, ticket, change, pass) {
+    match hall.publish(rt, draft, ticket, origin, pass) {
         Ok(()) => Attempt::Published,
         Err(kept) => {
             let (draft, attempt) = taken_back(kept);

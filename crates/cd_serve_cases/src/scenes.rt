@@ -4,7 +4,7 @@ ghost use Rattle.cd_gate.specs.Passes.{view};
 ghost use Rattle.cd_hall.specs.Tickets.{IsTicketOf};
 ghost use Rattle.cd_serve_cases.specs.Passes.{Has};
 
-use crate::asking::{Asked, ask, change, change_after, change_times};
+use crate::asking::{Asked, ask, change, change_times, origin_after};
 use crate::drafting::{begin_with_first, make_and_open, publish};
 use crate::fixed::Fixed;
 use crate::halting::halt;
@@ -161,10 +161,10 @@ fn halted_before_publishing<R: Wait>(
     ensures ticket { IsTicketOf (view two.new) ticket.now }
 {
     let serial = ticket.serial();
-    let change = change_after(alloc, ticket, true)?;
+    let origin = origin_after(alloc, ticket, true)?;
     let draft = make_and_open(rt, alloc, hall, two, ticket, true, 1)?;
     let halted = halt(rt, hall, one, 0);
-    let attempt = publish(rt, hall, two, ticket, draft, change, 1);
+    let attempt = publish(rt, hall, two, ticket, draft, origin, 1);
     if !halted {
         return Err(NotPlayed);
     }

@@ -1,3 +1,4 @@
+-- Part of the main theorem.
 -- The values of a storm: a linear congruential generator.
 use Rattle.std.specs.Prelude.{ℕ, zero, suc, ◌+◌, ◌*◌, ◌%◌, ◌^◌}
 use Rattle.cd_storm.specs.declared.draws.TheConstants.{MULTIPLIER, INCREMENT}

@@ -1,3 +1,4 @@
+-- Part of the main theorem.
 -- The configuration that a storm begins with.
 use Rattle.std.specs.Prelude.{ℕ, ◌%◌, List, [], ◌∷◌, ◌++◌, codes, decimal, map}
 use Rattle.std.specs.List.{range_with_len}

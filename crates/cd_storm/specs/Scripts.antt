@@ -1,3 +1,4 @@
+-- Part of the main theorem.
 -- The connections that come to the lanes of a storm.
 use Rattle.std.specs.Prelude.{◌≡◌, ℕ, ◌%◌, List, [], ◌∷◌, ◌++◌, length, codes, decimal, map, None}
 use Rattle.std.specs.List.{flat_map, range_with_len}

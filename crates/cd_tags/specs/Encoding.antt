@@ -1,3 +1,4 @@
+-- Part of the main theorem.
 -- How the parts of a path are written in a tag.
 use Rattle.std.specs.Prelude.{ℕ, ◌==◌, ◌||◌, Bool, if◌then◌else◌, List, [], ◌∷◌, ◌++◌, map, codes}
 use Rattle.std.specs.Char.{is_ascii_alphanumeric}

@@ -1,3 +1,4 @@
+-- Part of the main theorem.
 -- A value taken apart at its places, for the clauses of private functions.
 use Rattle.std.specs.Prelude.{ℕ, ◌+◌, ◌-◌, ◌==◌, ◌&&◌, Bool, nat_le, nat_eq, if◌then◌else◌, List, length, slice_index, codes, Result, Ok, Err}
 use Rattle.std.specs.List.{list_all, slice_range, starts_with}

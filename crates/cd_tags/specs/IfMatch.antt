@@ -1,3 +1,4 @@
+-- Part of the main theorem.
 -- The form of an If-Match value, and the tag that it gives.
 use Rattle.std.specs.Prelude.{◌≡◌, ℕ, ◌==◌, ◌&&◌, ◌||◌, Bool, nat_le, if◌then◌else◌, List, [], ◌∷◌, length, Result, Ok, Err, IsTrue}
 use Rattle.std.specs.List.{list_all, slice_split}

@@ -1,3 +1,4 @@
+-- Part of the main theorem.
 -- The tag of what stands at a path of a tree.
 use Rattle.std.specs.Prelude.{ℕ, Bool, false, List, Option, Result, Ok, Err}
 use Rattle.std.specs.Str.{bytes_eq}

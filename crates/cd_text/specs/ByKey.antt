@@ -1,3 +1,4 @@
+-- Part of the main theorem.
 -- Elements by rising keys, which compare by their bytes.
 use Rattle.std.specs.Prelude.{ℕ, Bool, List, [], ◌∷◌, if◌then◌else◌}
 use Rattle.std.specs.Ordering.{nat_cmp, is_le}

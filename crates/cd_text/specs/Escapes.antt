@@ -1,3 +1,4 @@
+-- Part of the main theorem.
 -- Escapes in a path (RFC 3986, section 2.1).
 use Rattle.std.specs.Prelude.{ℕ, Bool, true, false, ◌&&◌, ◌||◌, not, List, [], ◌∷◌, ◌==◌}
 use Rattle.std.specs.Char.{is_ascii_hexdigit}

@@ -1,3 +1,4 @@
+-- Part of the main theorem.
 -- A result that is exactly the one that a definition gives, unless memory ran out.
 use Rattle.std.specs.Prelude.{◌≡◌, ◌≢◌, Result, Ok, Err, MatchResult}
 

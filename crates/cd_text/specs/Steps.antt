@@ -1,3 +1,4 @@
+-- Part of the main theorem.
 -- Steps that may fail, one after another, and the tests and choices among them.
 use Rattle.std.specs.Prelude.{Bool, true, false, List, [], ◌∷◌, ◌++◌, Option, Some, None, Result, Ok, Err, ⊤}
 

@@ -1,3 +1,4 @@
+-- Part of the main theorem.
 -- Paths: how they grow, and how they are written.
 use Rattle.std.specs.Prelude.{ℕ, List, [], ◌∷◌, ◌++◌}
 use Rattle.std.specs.List.{join_with_byte}

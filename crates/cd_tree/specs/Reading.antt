@@ -1,3 +1,4 @@
+-- Part of the main theorem.
 -- Which tree a text is, or why it is none.
 use Rattle.std.specs.Prelude.{ℕ, suc, ℤ, pos, negsuc, List, [], ◌∷◌, length, true, false, not, nat_lt, Result, Ok, Err}
 use Rattle.std.specs.Str.{is_utf8}

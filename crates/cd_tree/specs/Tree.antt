@@ -1,3 +1,4 @@
+-- Part of the main theorem.
 -- Trees: how deep they nest, their text, and which are sound.
 use Rattle.std.specs.Prelude.{ℕ, suc, max, Bool, true, ◌&&◌, List, [], ◌∷◌, ◌++◌, length, decimal, nat_le, nat_lt, if◌then◌else◌, IsTrue, ◌^◌}
 use Rattle.std.specs.Ordering.{nat_cmp, is_lt}

@@ -1,3 +1,4 @@
+-- Part of the main theorem.
 -- The path to which a way leads.
 use Rattle.std.specs.Prelude.{[], decimal}
 use Rattle.cd_tree.specs.Path.{◌▸◌}

@@ -1,3 +1,4 @@
+-- Part of the main theorem.
 -- Bodies of messages (RFC 9112, sections 6 and 7.1): when a text begins with one, and when it is refused.
 use Rattle.std.specs.Prelude.{◌≡◌, ℕ, ◌≤◌, ◌+◌, ◌<◌, ◌⊎◌, List, [], ◌∷◌, ◌++◌, length, take, drop}
 use Rattle.httparse.specs.Grammar.{ChunkLine, print_chunk_line, ReadsChunkLine, HasNoChunkLine, NeverHasChunkLine, chunk_size}

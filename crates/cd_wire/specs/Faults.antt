@@ -1,3 +1,4 @@
+-- Part of the main theorem.
 -- What refused bytes are answered.
 use Rattle.std.specs.Prelude.{ℕ}
 use Rattle.cd_wire.specs.declared.fault.WireFault.{WireFault}

@@ -1,3 +1,4 @@
+-- Part of the main theorem.
 -- Fields by their names.
 use Rattle.std.specs.Prelude.{◌≡◌, ℕ, Bool, List, [], ◌∷◌, map, filter}
 use Rattle.std.specs.Str.{bytes_eq}

@@ -1,3 +1,4 @@
+-- Part of the main theorem.
 -- What a head says of its request: why it is refused, how its body is delimited, and what the request is.
 use Rattle.std.specs.Prelude.{ℕ, Bool, false, ◌&&◌, ◌||◌, not, List, [], ◌∷◌, length, codes, ◌==◌, nat_lt, nat_le, if◌then◌else◌, Result, Ok, Err}
 use Rattle.std.specs.List.{list_all, list_any, slice_split}

@@ -1,3 +1,4 @@
+-- Part of the main theorem.
 -- When an input begins with the head of a request, and what is kept of it (RFC 9112, sections 2 to 5). The grammar is that of
 -- `httparse`, which also takes a line that ends in LF alone, and empty lines before the first: these belong to the head.
 use Rattle.std.specs.Prelude.{◌≡◌, ℕ, ◌+◌, ◌≤◌, List, ◌++◌, length, map, take}

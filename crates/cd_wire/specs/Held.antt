@@ -1,3 +1,4 @@
+-- Part of the main theorem.
 -- For the model of `RequestFields`: the fields that a request is held to have.
 use Rattle.std.specs.Prelude.{List}
 use Rattle.cd_wire.specs.declared.fields.Field.{Field}

@@ -1,3 +1,4 @@
+-- Part of the main theorem.
 -- For the model of a request: what is kept of its path.
 use Rattle.std.specs.Prelude.{◌≡◌, ◌==◌, ℕ, Bool, not, List, Option, Some, None}
 use Rattle.percent_encoding.specs.Percent.{percent_decode}

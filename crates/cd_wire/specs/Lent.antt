@@ -1,3 +1,4 @@
+-- Part of the main theorem.
 -- Lists that are lent until they become others.
 use Rattle.std.specs.Prelude.{List}
 use Rattle.cd_wire.specs.declared.lent.Kept.{Kept}

@@ -1,3 +1,4 @@
+-- Part of the main theorem.
 -- What contracts see of a head and of a request.
 use Rattle.std.specs.Prelude.{ℕ, Bool, List, Option}
 use Rattle.cd_wire.specs.declared.fields.Field.{Field}

@@ -1,3 +1,4 @@
+-- Part of the main theorem.
 -- For the models of types and the clauses of private functions: fields that lie in bytes, each at its place.
 use Rattle.std.specs.Prelude.{⊤, ◌≡◌, ℕ, ◌+◌, ◌≤◌, List, [], ◌∷◌, ◌++◌, length, map, slice_range}
 use Rattle.cd_wire.specs.declared.place.Place.{Place}

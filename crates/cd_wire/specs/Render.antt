@@ -1,3 +1,4 @@
+-- Part of the main theorem.
 -- The bytes of an answer (RFC 9112, sections 4 to 6).
 use Rattle.std.specs.Prelude.{◌≡◌, ℕ, ◌⊎◌, Bool, true, false, ◌&&◌, ◌||◌, not, List, [], ◌∷◌, ◌++◌, length, codes, ◌==◌, nat_lt, nat_le, if◌then◌else◌, unwrap_or, map, filter, decimal}
 use Rattle.std.specs.List.{flat_map}

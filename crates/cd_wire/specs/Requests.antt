@@ -1,3 +1,4 @@
+-- Part of the main theorem.
 -- The requests of an input, and why there is no further one. This speaks of all the bytes at once, however they come.
 use Rattle.std.specs.Prelude.{◌≡◌, ℕ, ◌<◌, ◌⊎◌, Bool, List, [], ◌∷◌, length, Ok, Err, IsTrue, IsFalse}
 use Rattle.cd_wire.specs.declared.head.Head.{Head}

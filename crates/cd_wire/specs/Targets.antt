@@ -1,3 +1,4 @@
+-- Part of the main theorem.
 -- The target of a request, and its parts (RFC 9112, section 3.2; RFC 3986, sections 2.1 and 3).
 use Rattle.std.specs.Prelude.{ℕ, ◌+◌, Bool, ◌&&◌, ◌||◌, not, List, [], ◌∷◌, length, drop, take, codes, ◌==◌, nat_eq, nat_lt, if◌then◌else◌, Option, Some, None}
 use Rattle.std.specs.List.{list_all, starts_with, before_first, after_first, position_or_len}

@@ -9,6 +9,7 @@ use Rattle.cd_pool.specs.Pairs.{leases_of}
 use Rattle.cd_desk.specs.declared.row.Row.{Row}
 use Rattle.cd_desk.proofs.Lists.{same_at, still_numbered}
 use Rattle.cd_desk.proofs.Parts.{held_by, part_leases, part_room_kept}
+use Rattle.cd_desk.proofs.Wholes.{ended_whole}
 use Rattle.cd_desk.proofs.rows.clean_in.Goals as goal
 
 pub end_last-requires-clause-left : goal.end_last-requires-clause-left
@@ -31,7 +32,7 @@ pub invariant_of-index_mut : goal.invariant_of-index_mut
 invariant_of-index_mut g c =
     let r = c.index_mut.result.now in
     let o = c.end_last.ensures.ends in
-    record { instances = o.part ∙ r.instances; started = r.started; modules_plan = ap (λ z. z.value) o.plan ∙ r.modules_plan; apps_plan = r.apps_plan }
+    record { instances = o.part ∙ r.instances; started = r.started; modules_plan = ap (λ z. z.value) o.plan ∙ r.modules_plan; apps_plan = r.apps_plan; whole = λ live. (ended_whole _ r.modules _ _ _ _ _ o (r.whole live).0, (r.whole live).1) }
 
 pub invariant_of-books : goal.invariant_of-books
 invariant_of-books g c =

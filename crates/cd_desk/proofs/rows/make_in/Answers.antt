@@ -9,6 +9,7 @@ use Rattle.cd_pool.specs.Pairs.{leases_of}
 use Rattle.cd_desk.specs.declared.row.Row.{Row}
 use Rattle.cd_desk.proofs.Lists.{same_at, still_numbered}
 use Rattle.cd_desk.proofs.Parts.{room_for, line_free, part_leases, part_room_kept}
+use Rattle.cd_desk.proofs.Wholes.{opened_whole}
 use Rattle.cd_desk.proofs.rows.make_in.Goals as goal
 
 pub open_next-opened-requires-clause-left : goal.open_next-opened-requires-clause-left
@@ -48,7 +49,7 @@ pub invariant_of-row : goal.invariant_of-row
 invariant_of-row g c =
     let r = c.index_mut-row.result.now in
     let o = c.open_next-opened.ensures.opens in
-    record { instances = o.part ∙ r.instances; started = r.started; modules_plan = ap (λ z. z.value) o.plan ∙ r.modules_plan; apps_plan = r.apps_plan }
+    record { instances = o.part ∙ r.instances; started = r.started; modules_plan = ap (λ z. z.value) o.plan ∙ r.modules_plan; apps_plan = r.apps_plan; whole = λ live. (opened_whole _ r.modules _ _ _ _ _ _ o (r.whole live).0, (r.whole live).1) }
 
 pub invariant_of-books : goal.invariant_of-books
 invariant_of-books g c =

@@ -21,3 +21,8 @@ returns c =
     let r = c.index_mut.result.now in
     let there = slice_get_read rows _ c.args.place r refl c.requires.there (search rules) in
     record { lives = record { changes = record { was = r; is = _; there = there; rows = refl; first = refl; tree = refl; plan = refl }; pool = refl; modules = refl; apps = refl; failed = refl; life = refl; retired = refl }; capacity = search rules }
+
+pub invariant_of-index_mut : goal.invariant_of-index_mut
+invariant_of-index_mut c =
+    let r = c.index_mut.result.now in
+    record { instances = r.instances; started = r.started; modules_plan = r.modules_plan; apps_plan = r.apps_plan; whole = λ live. absurd (c.requires.over live) }

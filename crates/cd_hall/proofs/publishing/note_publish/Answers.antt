@@ -6,6 +6,7 @@ use Rattle.cd_legal.specs.Entry.{signed}
 use Rattle.cd_gate.specs.Passes.{view, opening_of}
 use Rattle.cd_gate.specs.Steps.{may_note, noted}
 use Rattle.cd_life.specs.Standing.{Stood}
+use Rattle.cd_life.specs.Origins.{change_of}
 use Rattle.cd_hall.proofs.InHand.{serial_here, running_here, suits_here, below_last}
 use Rattle.cd_hall.proofs.Noted.{may_publish}
 use Rattle.cd_hall.proofs.Drafted.{left_here}
@@ -39,23 +40,23 @@ publish-requires-clause-bound g c κs within = below_last c.args.serial (view c.
 
 pub publish-requires-clause-change : goal.publish-requires-clause-change
 publish-requires-clause-change g c κs within =
-    suits_here g.F.Fixtures.calls g.F.Fixtures.faults g.M.ModuleSet.plan g.M.ModuleSet.change c.args.gate.now c.args.turn.now c.args.pass.now c.requires.turn c.args.serial c.args.change (arc_value c.args.draft.loaded).tree c.requires.current c.requires.change
+    suits_here g.F.Fixtures.calls g.F.Fixtures.faults g.M.ModuleSet.plan g.M.ModuleSet.change c.args.gate.now c.args.turn.now c.args.pass.now c.requires.turn c.args.serial (change_of c.args.origin) (arc_value c.args.draft.loaded).tree c.requires.current c.requires.change
 
 pub add-requires-clause-board : goal.add-requires-clause-board
 add-requires-clause-board g c =
     said (λ d way. Stood g.F.Fixtures.calls g.F.Fixtures.faults g.M.ModuleSet.plan g.M.ModuleSet.change (opening_of c.args.gate.now) c.publish.new.self ((view c.args.pass.now).seen ++ signed (view c.args.pass.now).number (Publish d (c.args.serial + 1) c.args.serial way) ∷ []))
-    c.args.draft.left.number c.number-drafted.result c.args.change c.of-asked.result.value c.number-drafted.ensures c.of-asked.ensures
-    (stands_on g.F.Fixtures.calls g.F.Fixtures.faults g.M.ModuleSet.plan g.M.ModuleSet.change c.args.gate.now c.args.turn.now c.args.pass.now c.requires.turn c.publish.new.self (Publish c.args.draft.left.number (c.args.serial + 1) c.args.serial c.args.change) c.publish.ensures.entry)
+    c.args.draft.left.number c.number-drafted.result (change_of c.args.origin) (change_of c.of-asked.result.value) c.number-drafted.ensures (ap change_of c.of-asked.ensures)
+    (stands_on g.F.Fixtures.calls g.F.Fixtures.faults g.M.ModuleSet.plan g.M.ModuleSet.change c.args.gate.now c.args.turn.now c.args.pass.now c.requires.turn c.publish.new.self (Publish c.args.draft.left.number (c.args.serial + 1) c.args.serial (change_of c.args.origin)) c.publish.ensures.entry)
 
 pub add-requires-clause-may : goal.add-requires-clause-may
 add-requires-clause-may g c =
     said (λ d way. may_note (view c.args.pass.now) (Publish d (c.args.serial + 1) c.args.serial way) ≡ true)
-    c.args.draft.left.number c.number-drafted.result c.args.change c.of-asked.result.value c.number-drafted.ensures c.of-asked.ensures
-    (may_publish (view c.args.pass.now) c.args.draft.left.number (c.args.serial + 1) c.args.serial c.args.change
-    (allows g.F.Fixtures.calls g.F.Fixtures.faults g.M.ModuleSet.plan g.M.ModuleSet.change c.args.gate.now c.args.turn.now c.args.pass.now c.requires.turn c.publish.new.self (Publish c.args.draft.left.number (c.args.serial + 1) c.args.serial c.args.change) c.publish.ensures.entry)
+    c.args.draft.left.number c.number-drafted.result (change_of c.args.origin) (change_of c.of-asked.result.value) c.number-drafted.ensures (ap change_of c.of-asked.ensures)
+    (may_publish (view c.args.pass.now) c.args.draft.left.number (c.args.serial + 1) c.args.serial (change_of c.args.origin)
+    (allows g.F.Fixtures.calls g.F.Fixtures.faults g.M.ModuleSet.plan g.M.ModuleSet.change c.args.gate.now c.args.turn.now c.args.pass.now c.requires.turn c.publish.new.self (Publish c.args.draft.left.number (c.args.serial + 1) c.args.serial (change_of c.args.origin)) c.publish.ensures.entry)
     c.requires.draft.own c.requires.room)
 
 pub returns-clause-seen : goal.returns-clause-seen
 returns-clause-seen g c =
     said (λ d way. view c.add.new.pass ≡ noted (view c.args.pass.now) (Publish d (c.args.serial + 1) c.args.serial way))
-    c.number-drafted.result c.args.draft.left.number c.of-asked.result.value c.args.change (sym c.number-drafted.ensures) (sym c.of-asked.ensures) c.add.ensures.seen
+    c.number-drafted.result c.args.draft.left.number (change_of c.of-asked.result.value) (change_of c.args.origin) (sym c.number-drafted.ensures) (sym (ap change_of c.of-asked.ensures)) c.add.ensures.seen

@@ -11,9 +11,9 @@ retire-requires g c =
     (search rules, (search rules, retires_here g.F.Fixtures.calls g.F.Fixtures.faults g.M.ModuleSet.plan g.M.ModuleSet.change c.args.gate.now c.args.turn.now c.args.pass.now c.requires.turn c.args.serial c.requires.duty))
 
 pub add-requires-clause-board : goal.add-requires-clause-board
-add-requires-clause-board g c = stands_on g.F.Fixtures.calls g.F.Fixtures.faults g.M.ModuleSet.plan g.M.ModuleSet.change c.args.gate.now c.args.turn.now c.args.pass.now c.requires.turn c.retire.new.self (Retire c.args.serial) c.retire.ensures
+add-requires-clause-board g c = stands_on g.F.Fixtures.calls g.F.Fixtures.faults g.M.ModuleSet.plan g.M.ModuleSet.change c.args.gate.now c.args.turn.now c.args.pass.now c.requires.turn c.retire.new.self (Retire c.args.serial) c.retire.ensures.entry
 
 pub add-requires-clause-may : goal.add-requires-clause-may
 add-requires-clause-may g c =
     may_retire_it (view c.args.pass.now) c.args.serial
-    (allows g.F.Fixtures.calls g.F.Fixtures.faults g.M.ModuleSet.plan g.M.ModuleSet.change c.args.gate.now c.args.turn.now c.args.pass.now c.requires.turn c.retire.new.self (Retire c.args.serial) c.retire.ensures) c.requires.duty
+    (allows g.F.Fixtures.calls g.F.Fixtures.faults g.M.ModuleSet.plan g.M.ModuleSet.change c.args.gate.now c.args.turn.now c.args.pass.now c.requires.turn c.retire.new.self (Retire c.args.serial) c.retire.ensures.entry) c.requires.duty

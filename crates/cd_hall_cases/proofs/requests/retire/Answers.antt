@@ -9,13 +9,13 @@ use Rattle.cd_hall_cases.proofs.requests.retire.Goals as goal
 
 pub returns-in-Some-clause-has : goal.returns-in-Some-clause-has
 returns-in-Some-clause-has g c =
-    let r = c.retire.ensures.retires in
+    let r = c.retire.ensures.spreads in
     let n = c.in-Some.duty.serial in
-    goes c.args.hall.now c.args.pass.now c.retire.new.pass c.args.number None None None None (duties_in c.args.duty) [] r.0 _ c.requires c.retire.ensures.pass r.1
+    goes c.args.hall.now c.args.pass.now c.retire.new.pass c.args.number None None None None (duties_in c.args.duty) [] _ c.requires c.retire.ensures.pass r.1.grows
     (block-owes (owes None None) (state_at r.0) n)
     (c.retire.ensures.duties ∙ (ap (λ (l : List ℕ). without_number n l) (c.requires.duties ∙ ap (λ (d : Option Duty). duties_in d) c.in-Some.is) ∙ without-own n))
 
 pub returns-in-Some-clause-halted : goal.returns-in-Some-clause-halted
 returns-in-Some-clause-halted g c =
-    let r = c.retire.ensures.retires in
+    let r = c.retire.ensures.spreads in
     λ had. halted-stays (view c.args.pass.now).seen (view c.retire.new.pass).seen r.1.grows.seen had

@@ -2,7 +2,7 @@ use Rattle.std.proofs.Common.{◌+◌, Some, ap, sym, ◌∙◌}
 use Rattle.cd_legal.specs.Entry.{entries}
 use Rattle.cd_gate.specs.Passes.{view, opening_of}
 use Rattle.cd_life.specs.Shares.{conf_in}
-use Rattle.cd_host.specs.Hosting.{given_of, is_served}
+use Rattle.cd_host.specs.Hosting.{observed_of, is_served}
 use Rattle.cd_host.proofs.FirstPass.{number-kept, made-kept, joined-kept, free-first}
 use Rattle.cd_host.proofs.Promised.{decided-fit, Known, ran, come-together, goes-with, promised}
 use Rattle.cd_host.proofs.hosting.run_hall.Goals as goal
@@ -19,7 +19,7 @@ pub end_run-fixtures-requires-clause-made : goal.end_run-fixtures-requires-claus
 end_run-fixtures-requires-clause-made g c κs within =
     let s = c.start_first-start.ensures.started in
     made-kept (view c.take_root-root.result) (view c.start_first-start.new.pass) (view c.serve_or_leave-counts.new.root) s.made s.signed c.serve_or_leave-counts.ensures.same
-    ∙ c.take_root-root.ensures.new.1 ∙ sym (ap (λ n. n + 1) c.serve_or_leave-counts.ensures.count)
+    ∙ c.take_root-root.ensures.new.1 ∙ sym (ap (λ n. n + 1) c.serve_or_leave-counts.ensures.count.0)
 
 pub end_run-fixtures-requires-clause-joined : goal.end_run-fixtures-requires-clause-joined
 end_run-fixtures-requires-clause-joined g c κs within =
@@ -32,7 +32,7 @@ returns-clause-promises g c =
     let s = c.start_first-start.ensures.started in
     let end = c.end_run-fixtures.ensures in
     let known : Known (record { acts = g.M.ModuleSet.acts; plan = g.M.ModuleSet.plan }) c.args.first.tree c.args.first.plan (is_served c.announce-how.result)
-    (given_of g.F.Fixtures.calls g.F.Fixtures.faults g.L.Lane.faults g.L.Lane.past (opening_of c.args.hall.gate).desk.fixtures c.end_run-fixtures.result.fixtures c.args.lanes.items c.serve_or_leave-counts.new.lanes.items
+    (observed_of g.F.Fixtures.calls g.F.Fixtures.faults g.L.Lane.faults g.L.Lane.past (opening_of c.args.hall.gate).desk.fixtures c.end_run-fixtures.result.fixtures c.args.lanes.items c.serve_or_leave-counts.new.lanes.items
     c.serve_or_leave-counts.result.answered c.end_run-fixtures.result.published c.serve_or_leave-counts.result.cut (Some (conf_in c.end_run-fixtures.result.last)))
     (view c.take_root-root.result) (view c.start_first-start.new.pass) (view c.serve_or_leave-counts.new.root) c.serve_or_leave-counts.new.passes.items end.0 = record {
       number = c.take_root-root.ensures.root.idle.number;

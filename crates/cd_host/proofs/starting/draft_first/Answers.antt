@@ -28,13 +28,13 @@ pub returns-in-Err-open_draft-clause-drafted : goal.returns-in-Err-open_draft-cl
 returns-in-Err-open_draft-clause-drafted g c =
     let o = c.in-Err-open_draft.ensures.opens in
     has-refused c.args.first.tree c.args.first.plan c.args.ticket.now.serial c.in-Ok.draft.left.number (view c.args.pass.now) (view c.draft.new.pass) (view c.open_draft.new.pass) (view c.abandon.new.pass)
-    (held c.in-Ok.draft) (held c.open_draft.new.draft) c.in-Ok.ensures.made c.in-Ok.ensures.new c.in-Err-open_draft.key o.0 o.1 o.2 c.abandon.ensures.abandons
+    (held c.in-Ok.draft) (held c.open_draft.new.draft) c.in-Ok.ensures.made c.in-Ok.ensures.new c.in-Err-open_draft.key o.0 o.1 o.2 c.abandon.ensures.spreads
 
 pub returns-in-Err-open_draft-clause-ticket : goal.returns-in-Err-open_draft-clause-ticket
 returns-in-Err-open_draft-clause-ticket g c =
     let f = c.in-Ok.ensures.made in
-    let a = c.abandon.ensures.abandons in
+    let a = c.abandon.ensures.spreads in
     (abandoned-owes (view c.open_draft.new.pass) (view c.abandon.new.pass) a.0 _ _ _ a.1).0 ∙ c.in-Err-open_draft.ensures.opens.1.works.ticket ∙ drafted-owes (view c.args.pass.now) (view c.draft.new.pass) f.0 _ _ _ f.1
 
 pub returns-in-Err-open_draft-clause-none : goal.returns-in-Err-open_draft-clause-none
-returns-in-Err-open_draft-clause-none g c = let a = c.abandon.ensures.abandons in (abandoned-owes (view c.open_draft.new.pass) (view c.abandon.new.pass) a.0 _ _ _ a.1).1
+returns-in-Err-open_draft-clause-none g c = let a = c.abandon.ensures.spreads in (abandoned-owes (view c.open_draft.new.pass) (view c.abandon.new.pass) a.0 _ _ _ a.1).1

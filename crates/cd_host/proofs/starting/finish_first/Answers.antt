@@ -12,13 +12,13 @@ retire-requires-clause-duty g c κs within = only-duty (view c.finish.new.pass).
 pub returns-in-Some-clause-finished : goal.returns-in-Some-clause-finished
 returns-in-Some-clause-finished g c =
     let f = c.in-Some.ensures.finishes in
-    let u = c.retire.ensures.retires in
-    finished-and-retired c.args.ticket.serial (view c.args.pass.now) (view c.finish.new.pass) f.0 f.1 c.in-Some.duty.serial (view c.retire.new.pass) u.0 c.in-Some.ensures.duty u.1
+    let u = c.retire.ensures.spreads in
+    finished-and-retired c.args.ticket.serial (view c.args.pass.now) (view c.finish.new.pass) f.0 f.1 c.in-Some.duty.serial (view c.retire.new.pass) u.0 (c.in-Some.ensures.due f.0 f.1) u.1
 
 pub returns-in-Some-clause-free : goal.returns-in-Some-clause-free
 returns-in-Some-clause-free g c =
     let f = c.in-Some.ensures.finishes in
-    let u = c.retire.ensures.retires in
+    let u = c.retire.ensures.spreads in
     let one = finished-owes (view c.args.pass.now) (view c.finish.new.pass) f.0 _ f.1 in
     let two = retired-owes (view c.finish.new.pass) (view c.retire.new.pass) u.0 (state_at u.0) c.in-Some.duty.serial u.1 in (
       two.0 ∙ one.0,
@@ -29,7 +29,7 @@ returns-in-Some-clause-free g c =
 pub returns-in-None-clause-finished : goal.returns-in-None-clause-finished
 returns-in-None-clause-finished g c =
     let f = c.in-None.ensures.finishes in
-    finished-only c.args.ticket.serial (view c.args.pass.now) (view c.finish.new.pass) f.0 f.1 c.in-None.ensures.duty
+    finished-only c.args.ticket.serial (view c.args.pass.now) (view c.finish.new.pass) f.0 f.1 (c.in-None.ensures.due f.0 f.1)
 
 pub returns-in-None-clause-free : goal.returns-in-None-clause-free
 returns-in-None-clause-free g c =

@@ -1,6 +1,6 @@
-use Rattle.std.proofs.Common.{◌∙◌, ap, subst, Some}
+use Rattle.std.proofs.Common.{◌≡◌, ◌∙◌, ap, subst, sym, Some, false, true}
 use Rattle.cd_life.specs.Changes.{tree_at, IsPlaceOf}
-use Rattle.cd_life.proofs.Shelving.{tree_at_removed}
+use Rattle.cd_life.proofs.Shelving.{tree_at_removed, some_none}
 use Rattle.cd_life.proofs.kept.forget.Goals as goal
 
 pub returns-in-Some-clause-others : goal.returns-in-Some-clause-others

@@ -2,7 +2,7 @@ use Rattle.std.proofs.Common.{◌∙◌, sym}
 use Rattle.cd_gate.specs.Passes.{view}
 use Rattle.cd_life.specs.Shares.{conf_in}
 use Rattle.cd_serve.specs.Meanings.{Meaning}
-use Rattle.cd_serve.proofs.Acts.{quiet-dropped}
+use Rattle.cd_serve.proofs.Acts.{quiet-unanswered}
 use Rattle.cd_serve.proofs.Begun.{acted-quietly}
 use Rattle.cd_serve.proofs.acting.act.Goals as goal
 
@@ -10,7 +10,7 @@ pub returns-in-Nobody-clause-acted : goal.returns-in-Nobody-clause-acted
 returns-in-Nobody-clause-acted g c =
     let m : Meaning = record { acts = g.M.ModuleSet.acts; plan = g.M.ModuleSet.plan } in
     acted-quietly m c.args.at.now c.args.request.now (conf_in c.args.ticket.now.share) c.args.ticket.now.serial c.unanswered.result (view c.args.pass.now) (g.L.Lane.past c.args.lane.now) (g.L.Lane.past c.args.lane.now) c.requires.ticket.history
-    (quiet-dropped m c.args.at.now c.args.request.now (conf_in c.args.ticket.now.share) c.args.ticket.now.serial c.unanswered.result (g.L.Lane.past c.args.lane.now) (sym (c.compiled.ensures.acts.targets c.args.at.now) ∙ (sym c.target.ensures ∙ c.in-Nobody.is)) c.unanswered.ensures.outcome)
+    (quiet-unanswered m c.args.at.now c.args.request.now (conf_in c.args.ticket.now.share) c.args.ticket.now.serial c.unanswered.result (g.L.Lane.past c.args.lane.now) (sym (c.compiled.ensures.acts.targets c.args.at.now) ∙ (sym c.target.ensures ∙ c.in-Nobody.is)) c.unanswered.ensures.outcome)
 
 pub returns-in-App-clause-acted : goal.returns-in-App-clause-acted
 returns-in-App-clause-acted g c =

@@ -27,7 +27,7 @@ returns-in-Ok-clause-attempted g c =
     let h = held c.in-Ok.draft in
     let l = c.args.loaded in
     let m : Meaning = record { acts = g.M.ModuleSet.acts; plan = g.M.ModuleSet.plan } in
-    subst (λ (tree : Tree). (work : List Placed) × Works v z work × Attempted m tree c.args.request v.number c.args.ticket.now.serial (state_at z.seen) work c.open_and_publish.result)
+    subst (λ (tree : Tree). (work : List Placed) × Works v z work × Attempted m tree c.args.request.now v.number c.args.ticket.now.serial (state_at z.seen) work c.open_and_publish.result)
     (ap (λ (x : Held). x.tree) c.in-Ok.ensures.new)
     (c.open_and_publish.ensures.attempted v t.0 (drafted-as v w t.0 h c.in-Ok.draft.left.number l.tree l.plan c.in-Ok.ensures.new t.1 c.in-Ok.ensures.duties) (planned-as g.M.ModuleSet.plan h c.in-Ok.draft.left.number l.tree l.plan c.in-Ok.ensures.new l.planned))
 
@@ -44,6 +44,6 @@ returns-in-Err-clause-attempted g c =
     let v = view c.args.pass.now in
     let w = view c.draft.new.pass in
     let m : Meaning = record { acts = g.M.ModuleSet.acts; plan = g.M.ModuleSet.plan } in
-    subst (λ (a : Attempt). (work : List Placed) × Works v w work × Attempted m c.args.loaded.tree c.args.request v.number c.args.ticket.now.serial (state_at w.seen) work a)
+    subst (λ (a : Attempt). (work : List Placed) × Works v w work × Attempted m c.args.loaded.tree c.args.request.now v.number c.args.ticket.now.serial (state_at w.seen) work a)
     (sym c.undrafted.ensures)
-    (undrafted-as m c.args.loaded.tree c.args.request c.args.ticket.now.serial v w t.0 c.in-Err.fault t.1 c.in-Err.ensures.duties (λ e. c.in-Err.ensures.spent (ap (λ x. Err x) e)))
+    (undrafted-as m c.args.loaded.tree c.args.request.now c.args.ticket.now.serial v w t.0 c.in-Err.fault t.1 c.in-Err.ensures.duties (λ e. c.in-Err.ensures.spent (ap (λ x. Err x) e)))

@@ -13,16 +13,15 @@ returns-in-Some-clause-concluded g c =
     let w = view c.finish.new.pass in
     let x = view c.retire.new.pass in
     let f = c.in-Some.ensures.finishes in
-    let u = c.retire.ensures.retires in
-    concluded_duty v w c.args.ticket.serial f.0 x c.in-Some.duty.serial u.0 f.1 f.2 c.in-Some.ensures.left (c.turns_place_their_entries.ensures.places v w f.0 _ f.1) c.in-Some.ensures.duty
-    u.1 (c.turns_place_their_entries.ensures.places w x u.0 _ u.1) (c.turns_place_their_entries.ensures.entries w.number u.0 _)
+    let u = c.retire.ensures.spreads in
+    concluded_duty v w c.args.ticket.serial f.0 x c.in-Some.duty.serial u.0 f.1 f.2 (c.turns_place_their_entries.ensures.places v w f.0 _ f.1) (c.in-Some.ensures.due f.0 f.1) u.1
 
 pub returns-in-Some-clause-ticket : goal.returns-in-Some-clause-ticket
 returns-in-Some-clause-ticket g c =
     let v = view c.args.pass.now in
     let w = view c.finish.new.pass in
     let x = view c.retire.new.pass in
-    let u = c.retire.ensures.retires in
+    let u = c.retire.ensures.spreads in
     retired_ticket w x (state_at u.0) c.in-Some.duty.serial u.1.grows.owes ∙ ended_ticket v w c.in-Some.ensures.finishes.1.grows.owes
 
 pub returns-in-Some-clause-draft : goal.returns-in-Some-clause-draft
@@ -30,7 +29,7 @@ returns-in-Some-clause-draft g c =
     let v = view c.args.pass.now in
     let w = view c.finish.new.pass in
     let x = view c.retire.new.pass in
-    let u = c.retire.ensures.retires in
+    let u = c.retire.ensures.spreads in
     retired_draft w x (state_at u.0) c.in-Some.duty.serial u.1.grows.owes ∙ ended_draft v w c.in-Some.ensures.finishes.1.grows.owes
 
 pub returns-in-Some-clause-duties : goal.returns-in-Some-clause-duties
@@ -42,7 +41,7 @@ returns-in-None-clause-concluded g c =
     let v = view c.args.pass.now in
     let w = view c.finish.new.pass in
     let f = c.in-None.ensures.finishes in
-    concluded_none v w c.args.ticket.serial f.0 f.1 f.2 c.in-None.ensures.left (c.turns_place_their_entries.ensures.places v w f.0 _ f.1) c.in-None.ensures.duty
+    concluded_none v w c.args.ticket.serial f.0 f.1 f.2 (c.turns_place_their_entries.ensures.places v w f.0 _ f.1) (c.in-None.ensures.due f.0 f.1)
 
 pub returns-in-None-clause-ticket : goal.returns-in-None-clause-ticket
 returns-in-None-clause-ticket g c = ended_ticket (view c.args.pass.now) (view c.finish.new.pass) c.in-None.ensures.finishes.1.grows.owes

@@ -53,4 +53,4 @@ returns-in-Err-clause-steps g c v first going =
     let session = c.args.session.now in
     let past = g.L.Lane.past c.args.lane.now in
     ends-as m c.args.at.now cause.Lacking session.answered v (view c.args.pass.now) first past c.end-in-Err.result c.end-in-Err.ensures
-    (over-reading m c.args.at.now session.intake session.ended session.answered v (view c.args.pass.now) first past going cause.Lacking refl)
+    (over-reading m c.args.at.now session.intake session.ended session.answered v (view c.args.pass.now) first past going cause.Lacking (refl, refl))

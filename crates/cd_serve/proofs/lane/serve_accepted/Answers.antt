@@ -1,20 +1,27 @@
-use Rattle.std.proofs.Common.{◌≡◌, ◌+◌, ℕ, min, sym, subst, arith}
+use Rattle.std.proofs.Common.{◌≡◌, ◌+◌, ℕ, cond, min, sym, subst, arith}
 use Rattle.cd_outside.specs.Counts.{count_end}
 use Rattle.cd_gate.specs.Passes.{view}
+use Rattle.cd_serve.specs.Meanings.{Meaning}
+use Rattle.cd_serve.specs.Serving.{cut_by}
 use Rattle.cd_serve.specs.Stepping.{LaneGoesOn}
 use Rattle.cd_serve.proofs.LaneStepping.{lane-more, connection-last}
 use Rattle.cd_serve.proofs.lane.serve_accepted.Goals as goal
 
 pub returns-clause-goes : goal.returns-clause-goes
 returns-clause-goes g c v old then first faults so_far le came =
+    let m : Meaning = record { acts = g.M.ModuleSet.acts; plan = g.M.ModuleSet.plan } in
     let n : ℕ = c.args.counts.now.answered in
     let e = c.serve_connection-end.result in
+    let failed = g.L.Lane.faults c.serve_connection-end.new.lane in
+    let x = view c.serve_connection-end.new.pass in
+    let past = g.L.Lane.past c.serve_connection-end.new.lane in
     let more : c.saturating_add-counts.result ≡ min (n + e.answered) count_end = omega (arith, c.saturating_add-counts.ensures) in
-    subst (λ (a : ℕ). LaneGoesOn (record { acts = g.M.ModuleSet.acts; plan = g.M.ModuleSet.plan }) first (g.L.Lane.faults c.serve_connection-end.new.lane) a c.cut_after-counts.result v (view c.serve_connection-end.new.pass) old (g.L.Lane.past c.serve_connection-end.new.lane)) (sym more)
-    (subst (λ (a : ℕ). LaneGoesOn (record { acts = g.M.ModuleSet.acts; plan = g.M.ModuleSet.plan }) first (g.L.Lane.faults c.serve_connection-end.new.lane) (min (n + e.answered) count_end) a v (view c.serve_connection-end.new.pass) old (g.L.Lane.past c.serve_connection-end.new.lane)) (sym c.cut_after-counts.ensures)
-    (lane-more (record { acts = g.M.ModuleSet.acts; plan = g.M.ModuleSet.plan }) c.args.at.now first faults (g.L.Lane.faults c.args.lane.now) (g.L.Lane.faults c.serve_connection-end.new.lane) n c.args.counts.now.cut e.answered e.cause v (view c.args.pass.now) (view c.serve_connection-end.new.pass) old then (g.L.Lane.past c.args.lane.now) (g.L.Lane.past c.serve_connection-end.new.lane)
-    so_far le came c.serve_connection-end.ensures.cause c.serve_connection-end.ensures.served))
+    let none : 0 + cond {A = ℕ} e.halted 1 0 ≡ cond {A = ℕ} e.halted 1 0 = omega arith in
+    subst (λ (a : ℕ). LaneGoesOn m first failed a c.cut_after-counts.result (cond e.halted 1 0) v x old past) (sym more)
+    (subst (λ (a : ℕ). LaneGoesOn m first failed (min (n + e.answered) count_end) a (cond e.halted 1 0) v x old past) (sym c.cut_after-counts.ensures)
+    (subst (λ (h : ℕ). LaneGoesOn m first failed (min (n + e.answered) count_end) (cut_by e.cause c.args.counts.now.cut) h v x old past) none
+    (lane-more m c.args.at.now first faults (g.L.Lane.faults c.args.lane.now) failed n c.args.counts.now.cut 0 e v (view c.args.pass.now) x old then (g.L.Lane.past c.args.lane.now) past so_far le came c.serve_connection-end.ensures.cause c.serve_connection-end.ensures.served)))
 
 pub returns-clause-last : goal.returns-clause-last
 returns-clause-last g c then came =
-    connection-last (record { acts = g.M.ModuleSet.acts; plan = g.M.ModuleSet.plan }) c.args.at.now c.serve_connection-end.result.cause c.serve_connection-end.result.answered (view c.args.pass.now) (view c.serve_connection-end.new.pass) then (g.L.Lane.past c.args.lane.now) (g.L.Lane.past c.serve_connection-end.new.lane) came c.serve_connection-end.ensures.served
+    connection-last (record { acts = g.M.ModuleSet.acts; plan = g.M.ModuleSet.plan }) c.args.at.now c.serve_connection-end.result (view c.args.pass.now) (view c.serve_connection-end.new.pass) then (g.L.Lane.past c.args.lane.now) (g.L.Lane.past c.serve_connection-end.new.lane) came c.serve_connection-end.ensures.served

@@ -1,6 +1,8 @@
-use Rattle.std.proofs.Common.{arith}
+use Rattle.std.proofs.Common.{ℕ, Bool, cond, subst, arith}
 use Rattle.cd_gate.specs.Passes.{view}
-use Rattle.cd_serve.proofs.LaneStepping.{lane-new, lane-halted}
+use Rattle.cd_serve.specs.Meanings.{Meaning}
+use Rattle.cd_serve.specs.Stepping.{LaneGoesOn}
+use Rattle.cd_serve.proofs.LaneStepping.{lane-new, lane-halted, placed-fresh}
 use Rattle.cd_serve.proofs.lane.serve_lane.Goals as goal
 
 pub loop-init : goal.loop-init
@@ -15,6 +17,33 @@ loop-init g c = record {
 
 pub returns-then-serve_accepted-clause-served : goal.returns-then-serve_accepted-clause-served
 returns-then-serve_accepted-clause-served g c =
-    lane-halted (record { acts = g.M.ModuleSet.acts; plan = g.M.ModuleSet.plan }) (g.L.Lane.faults c.args.lane.now) (g.L.Lane.faults c.serve_accepted.new.lane) c.serve_accepted.new.counts.answered c.serve_accepted.new.counts.cut c.end_of.result c.in-Connection.at (view c.args.pass.now) (view c.serve_accepted.new.pass) (g.L.Lane.past c.args.lane.now) (g.L.Lane.past c.serve_accepted.new.lane)
-    c.end_of.ensures (c.serve_accepted.ensures.last (g.L.Lane.past c.loop.lane) c.in-Connection.ensures.past)
-    (c.serve_accepted.ensures.goes (view c.args.pass.now) (g.L.Lane.past c.args.lane.now) (g.L.Lane.past c.loop.lane) (g.L.Lane.faults c.args.lane.now) (g.L.Lane.faults c.loop.lane) c.loop.invariant.goes c.in-Connection.ensures.cause.later c.in-Connection.ensures.past)
+    let m : Meaning = record { acts = g.M.ModuleSet.acts; plan = g.M.ModuleSet.plan } in
+    let v = view c.args.pass.now in
+    let x = view c.serve_accepted.new.pass in
+    let old = g.L.Lane.past c.args.lane.now in
+    let then = g.L.Lane.past c.loop.lane in
+    let now = g.L.Lane.past c.serve_accepted.new.lane in
+    let first : ℕ = g.L.Lane.faults c.args.lane.now in
+    let failed : ℕ = g.L.Lane.faults c.serve_accepted.new.lane in
+    let counts = c.serve_accepted.new.counts in
+    let going : LaneGoesOn m first failed counts.answered counts.cut (cond c.serve_accepted.result 1 0) v x old now =
+    c.serve_accepted.ensures.goes v old then first (g.L.Lane.faults c.loop.lane) c.loop.invariant.goes c.in-Connection.ensures.cause.later c.in-Connection.ensures.past in
+    lane-halted m first failed counts.answered counts.cut c.end_of.result c.in-Connection.at v x old now c.end_of.ensures (c.serve_accepted.ensures.last then c.in-Connection.ensures.past)
+    (subst (λ (b : Bool). LaneGoesOn m first failed counts.answered counts.cut (cond b 1 0) v x old now) c.if-serve_accepted.true going)
+
+pub returns-then-serve_accepted-clause-fresh : goal.returns-then-serve_accepted-clause-fresh
+returns-then-serve_accepted-clause-fresh g c =
+    let v = view c.args.pass.now in
+    let x = view c.serve_accepted.new.pass in
+    let going = c.serve_accepted.ensures.goes v (g.L.Lane.past c.args.lane.now) (g.L.Lane.past c.loop.lane) (g.L.Lane.faults c.args.lane.now) (g.L.Lane.faults c.loop.lane) c.loop.invariant.goes c.in-Connection.ensures.cause.later c.in-Connection.ensures.past in
+    placed-fresh (record { acts = g.M.ModuleSet.acts; plan = g.M.ModuleSet.plan }) v x going.own going.made
+
+pub returns-in-Ended-clause-fresh : goal.returns-in-Ended-clause-fresh
+returns-in-Ended-clause-fresh g c =
+    let going = c.loop.invariant.goes in
+    placed-fresh (record { acts = g.M.ModuleSet.acts; plan = g.M.ModuleSet.plan }) (view c.args.pass.now) (view c.loop.pass) going.own going.made
+
+pub returns-in-Failed-clause-fresh : goal.returns-in-Failed-clause-fresh
+returns-in-Failed-clause-fresh g c =
+    let going = c.loop.invariant.goes in
+    placed-fresh (record { acts = g.M.ModuleSet.acts; plan = g.M.ModuleSet.plan }) (view c.args.pass.now) (view c.loop.pass) going.own going.made

@@ -3,7 +3,8 @@ use Rattle.std.specs.Prelude.{map}
 use Rattle.std.proofs.lemmas.List.{take_more, map-append}
 use Rattle.cd_module_set.specs.declared.target.Line.{Line}
 use Rattle.cd_serve.specs.Meanings.{logged}
-use Rattle.cd_serve.proofs.Sends.{nothing-sent, line-logged, logged-some, logged-all}
+use Rattle.cd_serve.proofs.Sends.{line-logged, logged-some, logged-all}
+use Rattle.cd_serve.proofs.Told.{nothing-sent}
 use Rattle.cd_serve.proofs.replying.log_all.Goals as goal
 
 pub logging-init : goal.logging-init

@@ -3,11 +3,11 @@ use Rattle.cd_outside.specs.Counts.{count_end}
 use Rattle.cd_serve.specs.declared.cause.Cause.TheVariants as cause
 use Rattle.cd_serve.specs.declared.how.How.{How}
 use Rattle.cd_serve.specs.declared.how.How.TheVariants as how
-use Rattle.cd_serve.specs.Meanings.{IsCutOff}
+use Rattle.cd_serve.specs.Meanings.{IsProperPrefix}
 use Rattle.cd_serve.specs.Episodes.{Outcome}
 use Rattle.cd_serve.specs.Serving.{Replied}
 use Rattle.cd_serve.specs.Requests.{RequestServed}
-use Rattle.cd_serve.proofs.Stepping.{goes-answered, over-closed, over-unlogged, over-broken, over-dropped, over-worn, over-wearing, over-unbegun, ends-as}
+use Rattle.cd_serve.proofs.Stepping.{goes-answered, over-closed, over-unlogged, over-broken, over-lacking, over-dropped, over-halted, over-worn, over-wearing, over-unbegun, ends-as}
 use Rattle.cd_serve.proofs.session.after_request.Goals as goal
 
 pub returns-then-close-clause-steps : goal.returns-then-close-clause-steps
@@ -44,7 +44,7 @@ returns-in-Failed-clause-steps g c m at q v w x first old left going begins s fu
     let past = g.L.Lane.past c.args.lane.now in
     let now : RequestServed m at q how.Failed w x old past = subst (λ (h : How). RequestServed m at q h w x old past) c.in-Failed.is s in
     ends-as m at cause.Failed session.answered v x first past c.end-in-Failed.result c.end-in-Failed.ensures
-    (over-broken m at left session.ended session.answered v w first old going q session.intake x now.own past begins now.places cause.Failed refl now.served)
+    (over-broken m at left session.ended session.answered v w first old going q session.intake x now.own past begins now.places now.served)
 
 pub returns-in-NoMemory-clause-steps : goal.returns-in-NoMemory-clause-steps
 returns-in-NoMemory-clause-steps g c m at q v w x first old left going begins s full =
@@ -52,7 +52,7 @@ returns-in-NoMemory-clause-steps g c m at q v w x first old left going begins s 
     let past = g.L.Lane.past c.args.lane.now in
     let now : RequestServed m at q how.NoMemory w x old past = subst (λ (h : How). RequestServed m at q h w x old past) c.in-NoMemory.is s in
     ends-as m at cause.Lacking session.answered v x first past c.end-in-NoMemory.result c.end-in-NoMemory.ensures
-    (over-broken m at left session.ended session.answered v w first old going q session.intake x now.own past begins now.places cause.Lacking refl now.served)
+    (over-lacking m at left session.ended session.answered v w first old going q session.intake x now.own past begins now.places now.served)
 
 pub returns-in-Dropped-clause-steps : goal.returns-in-Dropped-clause-steps
 returns-in-Dropped-clause-steps g c m at q v w x first old left going begins s full =
@@ -67,7 +67,7 @@ returns-in-Halted-clause-steps g c m at q v w x first old left going begins s fu
     let session = c.args.session.now in
     let past = g.L.Lane.past c.args.lane.now in
     let now : RequestServed m at q how.Halted w x old past = subst (λ (h : How). RequestServed m at q h w x old past) c.in-Halted.is s in
-    over-dropped m at left session.ended session.answered v w first old going q session.intake x now.own past begins now.places now.served
+    over-halted m at left session.ended session.answered v w first old going q session.intake x now.own past begins now.places now.served
 
 pub returns-in-All-clause-steps : goal.returns-in-All-clause-steps
 returns-in-All-clause-steps g c m at q v w x first old left going begins s full =
@@ -86,7 +86,7 @@ returns-in-Failed-put-clause-steps g c m at q v w x first old left going begins 
     let puts = c.in-Failed-put.ensures.past in
     ends-as m at cause.Failed session.answered v x first (g.L.Lane.past c.put.new.lane) c.end-in-Failed-put.result c.end-in-Failed-put.ensures
     (over-wearing m at left session.ended session.answered v w first old going q session.intake x now.own past begins now.places now.served puts.0 (g.L.Lane.past c.put.new.lane) (full c.in-Worn.is)
-    (subst (λ (z : List ℕ). IsCutOff puts.0 z) c.refusal.ensures puts.1) puts.2)
+    (subst (λ (z : List ℕ). IsProperPrefix puts.0 z) c.refusal.ensures puts.1) puts.2)
 
 pub returns-in-Unbegun-clause-steps : goal.returns-in-Unbegun-clause-steps
 returns-in-Unbegun-clause-steps g c m at q v w x first old left going begins s full =

@@ -19,7 +19,7 @@ returns-in-Err-clause-steps g c m at v w first going =
     let piece : List ℕ = take c.in-Bytes.count c.read.new.into in
     ends-as m at cause.Lacking session.answered v w first (g.L.Lane.past c.read.new.self) c.end.result c.end.ensures
     (over-reading m at (session.intake ++ piece) session.ended session.answered v w first (g.L.Lane.past c.read.new.self)
-    (goes-more m at session.intake piece (session.intake ++ piece) session.ended session.answered v w first (g.L.Lane.past c.args.lane.now) (g.L.Lane.past c.read.new.self) going refl c.in-Bytes.ensures.past) cause.Lacking refl)
+    (goes-more m at session.intake piece (session.intake ++ piece) session.ended session.answered v w first (g.L.Lane.past c.args.lane.now) (g.L.Lane.past c.read.new.self) going refl c.in-Bytes.ensures.past) cause.Lacking (refl, refl))
 
 -- the end was seen
 pub returns-in-End-clause-steps : goal.returns-in-End-clause-steps

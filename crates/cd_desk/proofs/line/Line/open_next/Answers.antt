@@ -1,9 +1,10 @@
-use Rattle.std.proofs.Common.{arith, rules, refl, length, set, ◌≡◌, ◌+◌, reverse, subst}
+use Rattle.std.proofs.Common.{arith, rules, refl, length, set, ◌≡◌, ◌∙◌, sym, ◌+◌, reverse, subst}
 use Rattle.cd_outside.specs.declared.holder.Holder.{Holder}
 use Rattle.cd_desk.specs.Instances.{Takes}
 use Rattle.std.proofs.lemmas.List.{length-set}
 use Rattle.std.proofs.lemmas.Option.{slice_get_read}
 use Rattle.cd_desk.proofs.Lists.{wait_on, spent_on}
+use Rattle.cd_desk.proofs.Wholes.{opened_all}
 use Rattle.cd_desk.proofs.line.Line.open_next.Goals as goal
 
 pub returns-clause-opens : goal.returns-clause-opens
@@ -24,9 +25,9 @@ pub invariant_of-self : goal.invariant_of-self
 invariant_of-self g c =
     let same : length (set c.args.self.now.parts.items c.args.self.now.opened c.take_all-taken.new.self) ≡ length c.args.self.now.parts.items = length-set c.args.self.now.parts.items c.args.self.now.opened c.take_all-taken.new.self in
     record {
-      all = let a = c.args.self.now.all in omega arith;
       over = (let o = c.args.self.now.over in omega arith);
-      within = (let l = c.requires.left in omega arith);
+      all = λ some. opened_all c.args.self.now c.requires.left ∙ sym same;
+      within = λ left. (let l = c.requires.left in omega (arith, l, same));
       bound = (let b = c.args.self.now.bound in omega arith);
       wait = wait_on c.args.self.now.opened c.args.self.now.parts.items _ c.take_all-taken.new.self _ (search rules) c.args.self.now.wait;
       spent = spent_on (c.args.self.now.opened + 1) _ _ _ (let none = c.requires.unended in omega arith) (wait_on c.args.self.now.opened c.args.self.now.parts.items _ c.take_all-taken.new.self _ (search rules) c.args.self.now.wait);

@@ -1,5 +1,6 @@
 use Rattle.std.proofs.Common.{rules, ◌≡◌, ◌∷◌, [], Some, true, subst, ap, sym, ◌∙◌}
 use Rattle.atomic_table.specs.Table.{rest}
+use Rattle.cd_gate.specs.declared.table.TheConstants.{BOARD_SLOT}
 use Rattle.cd_legal.specs.Legal.{state_at}
 use Rattle.cd_legal.specs.Whole.{nothing_left}
 use Rattle.cd_gate.proofs.Tables.{gives_back}
@@ -8,7 +9,7 @@ use Rattle.cd_gate.proofs.gate.Gate.leave.Goals as goal
 pub store-requires : goal.store-requires
 store-requires g c =
     let now = c.exchange-emptied.ensures.3 in
-    let carried : c.exchange-emptied.new.seat.me.1 ≡ (0, Some c.args.turn.value) ∷ [] = ap (λ m. m.1) now ∙ ap (λ cs. (0, Some c.args.turn.value) ∷ rest cs) c.requires.pass.2 in
+    let carried : c.exchange-emptied.new.seat.me.1 ≡ (BOARD_SLOT, Some c.args.turn.value) ∷ [] = ap (λ m. m.1) now ∙ ap (λ cs. (BOARD_SLOT, Some c.args.turn.value) ∷ rest cs) c.requires.pass.2 in
     let live : c.exchange-emptied.new.seat.me.0.live ≡ true = ap (λ m. m.0.live) now ∙ c.requires.pass.0.1 in
     let has : c.exchange-emptied.new.seat.me.0.turn ≡ true = ap (λ m. m.0.turn) now ∙ c.requires.pass.1 in (
       search rules,

@@ -12,7 +12,7 @@ use Rattle.cd_hall.proofs.hall.Hall.draft.Goals as goal
 
 pub returns-clause-pass : goal.returns-clause-pass
 returns-clause-pass g c =
-    pass_after c.args.self.now c.leave_turn.new.pass (view c.args.pass.now) (view c.take_turn-turn.new.pass) (view c.draft_in_turn-drafted.new.pass) c.leave_turn.ensures.pass c.requires.pass.1
+    pass_after c.args.self.now c.leave_turn.new.pass (view c.args.pass.now) (view c.take_turn-turn.new.pass) (view c.draft_in_turn-drafted.new.pass) c.leave_turn.ensures.pass c.requires.pass.place
     (number_in (view c.args.pass.now) (view c.take_turn-turn.new.pass) c.take_turn-turn.ensures.same) c.draft_in_turn-drafted.ensures.number c.leave_turn.ensures.seen
 
 pub returns-clause-made : goal.returns-clause-made
@@ -21,7 +21,7 @@ returns-clause-made g c =
     let w = view c.take_turn-turn.new.pass in
     let x = view c.draft_in_turn-drafted.new.pass in
     if_ok (λ draft. x ≡ noted w (Draft draft.left.number c.args.loaded.tree c.args.loaded.plan)) (λ draft. Makes v (view c.leave_turn.new.pass) (λ s. Draft draft.left.number c.args.loaded.tree c.args.loaded.plan ∷ [])) c.draft_in_turn-drafted.result
-    (λ draft seen. (w.seen, c.leave_turn.ensures.turned v w.seen _ (found_more v w x w.seen [] _ c.take_turn-turn.ensures.since seen) c.requires.pass.0.1)) c.draft_in_turn-drafted.ensures.seen
+    (λ draft seen. (w.seen, c.leave_turn.ensures.turned v w.seen _ (found_more v w x w.seen [] _ c.take_turn-turn.ensures.since seen) c.requires.pass.idle.1)) c.draft_in_turn-drafted.ensures.seen
 
 pub returns-clause-draft : goal.returns-clause-draft
 returns-clause-draft g c =
@@ -34,4 +34,4 @@ returns-clause-err g c =
     let w = view c.take_turn-turn.new.pass in
     let x = view c.draft_in_turn-drafted.new.pass in
     on_err (x ≡ w) (Makes v (view c.leave_turn.new.pass) (λ s. [])) c.draft_in_turn-drafted.result
-    (λ same. (w.seen, c.leave_turn.ensures.turned v w.seen _ (none_found v w x c.take_turn-turn.ensures.since same) c.requires.pass.0.1)) c.draft_in_turn-drafted.ensures.err
+    (λ same. (w.seen, c.leave_turn.ensures.turned v w.seen _ (none_found v w x c.take_turn-turn.ensures.since same) c.requires.pass.idle.1)) c.draft_in_turn-drafted.ensures.err

@@ -8,7 +8,7 @@ finish-requires-after_bounds g c κs within =
 
 pub add-requires-clause-board : goal.add-requires-clause-board
 add-requires-clause-board g c =
-    stands_on g.F.Fixtures.calls g.F.Fixtures.faults g.M.ModuleSet.plan g.M.ModuleSet.change c.args.self.now.gate c.args.turn.now c.args.pass.now c.requires.turn c.finish.new.self (Finish c.number-number.result) c.finish.ensures
+    stands_on g.F.Fixtures.calls g.F.Fixtures.faults g.M.ModuleSet.plan g.M.ModuleSet.change c.args.self.now.gate c.args.turn.now c.args.pass.now c.requires.turn c.finish.new.self (Finish c.number-number.result) c.finish.ensures.entry
 
 pub add-requires-clause-may : goal.add-requires-clause-may
 add-requires-clause-may g c =

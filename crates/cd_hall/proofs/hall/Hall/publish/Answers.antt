@@ -7,10 +7,13 @@ use Rattle.cd_legal.specs.State.{Conf}
 use Rattle.cd_gate.specs.Growing.{noted_all}
 use Rattle.cd_gate.specs.Passes.{view}
 use Rattle.cd_life.specs.Fits.{Suits}
+use Rattle.cd_life.specs.Origins.{change_of}
 use Rattle.cd_hall.specs.Drafts.{IsDraftOf, held}
 use Rattle.cd_hall.specs.Publishing.{refusal, refusal_in, draft_in}
+use Rattle.cd_hall.specs.Spread.{Spread}
 use Rattle.cd_hall.specs.Turned.{Turned, Makes}
 use Rattle.cd_hall.proofs.Drafted.{draft_in as draft_taken}
+use Rattle.cd_hall.proofs.Spreading.{turned_spread}
 use Rattle.cd_hall.proofs.Told.{if_ok}
 use Rattle.cd_hall.proofs.Turned.{none_found}
 use Rattle.cd_hall.proofs.Requested.{number_in, pass_after, seen_after, same_duties_after}
@@ -26,16 +29,16 @@ publish_in_turn-published-requires-clause-ticket g c κs within =
 
 pub publish_in_turn-published-requires-clause-there : goal.publish_in_turn-published-requires-clause-there
 publish_in_turn-published-requires-clause-there g c κs within =
-    (ticket_taken (view c.args.pass.now) (view c.take_turn-turn.new.pass) c.args.ticket.now c.take_turn-turn.ensures.same c.take_turn-turn.ensures.since c.take_turn-turn.ensures.turn.knows c.requires.ticket).there
+    (ticket_taken (view c.args.pass.now) (view c.take_turn-turn.new.pass) c.args.ticket.now c.take_turn-turn.ensures.same c.take_turn-turn.ensures.since c.take_turn-turn.ensures.turn.knows c.requires.ticket).has.there
 
 pub publish_in_turn-published-requires-clause-change : goal.publish_in_turn-published-requires-clause-change
 publish_in_turn-published-requires-clause-change g c κs within =
-    subst (λ (z : Conf). Suits g.M.ModuleSet.change z c.args.change (held c.args.draft).tree)
-    (ticket_taken (view c.args.pass.now) (view c.take_turn-turn.new.pass) c.args.ticket.now c.take_turn-turn.ensures.same c.take_turn-turn.ensures.since c.take_turn-turn.ensures.turn.knows c.requires.ticket).conf c.requires.change
+    subst (λ (z : Conf). Suits g.M.ModuleSet.change z (change_of c.args.origin) (held c.args.draft).tree)
+    (ticket_taken (view c.args.pass.now) (view c.take_turn-turn.new.pass) c.args.ticket.now c.take_turn-turn.ensures.same c.take_turn-turn.ensures.since c.take_turn-turn.ensures.turn.knows c.requires.ticket).has.conf c.requires.change
 
 pub returns-clause-pass : goal.returns-clause-pass
 returns-clause-pass g c =
-    pass_after c.args.self.now c.leave_turn.new.pass (view c.args.pass.now) (view c.take_turn-turn.new.pass) (view c.publish_in_turn-published.new.pass) c.leave_turn.ensures.pass c.requires.pass.1
+    pass_after c.args.self.now c.leave_turn.new.pass (view c.args.pass.now) (view c.take_turn-turn.new.pass) (view c.publish_in_turn-published.new.pass) c.leave_turn.ensures.pass c.requires.pass.place
     (number_in (view c.args.pass.now) (view c.take_turn-turn.new.pass) c.take_turn-turn.ensures.same) c.publish_in_turn-published.ensures.number c.leave_turn.ensures.seen
 
 pub returns-clause-publishes : goal.returns-clause-publishes
@@ -44,9 +47,20 @@ returns-clause-publishes g c =
     let w = view c.take_turn-turn.new.pass in
     let x = view c.publish_in_turn-published.new.pass in
     let n = c.args.ticket.now.serial in
-    if_ok (λ _. (x ≡ noted_all w (Publish c.args.draft.left.number (n + 1) n c.args.change ∷ stopped_of (state_at w.seen) n)) × (refusal (state_at w.seen) n ≡ None))
-    (λ _. (found : List Signed) × Turned v (view c.leave_turn.new.pass) found (Publish (held c.args.draft).number (n + 1) n c.args.change ∷ stopped_of (state_at found) n) × (refusal (state_at found) n ≡ None)) c.publish_in_turn-published.result
-    (λ u has. (w.seen, c.leave_turn.ensures.turned v w.seen _ (found_all v w x w.seen _ c.take_turn-turn.ensures.since has.0) c.requires.pass.0.1, has.1)) c.publish_in_turn-published.ensures.publishes
+    if_ok (λ _. (x ≡ noted_all w (Publish c.args.draft.left.number (n + 1) n (change_of c.args.origin) ∷ stopped_of (state_at w.seen) n)) × (refusal (state_at w.seen) n ≡ None))
+    (λ _. (found : List Signed) × Turned v (view c.leave_turn.new.pass) found (Publish (held c.args.draft).number (n + 1) n (change_of c.args.origin) ∷ stopped_of (state_at found) n) × (refusal (state_at found) n ≡ None)) c.publish_in_turn-published.result
+    (λ u has. (w.seen, c.leave_turn.ensures.turned v w.seen _ (found_all v w x w.seen _ c.take_turn-turn.ensures.since has.0) c.requires.pass.idle.1, has.1)) c.publish_in_turn-published.ensures.publishes
+
+pub returns-clause-spreads : goal.returns-clause-spreads
+returns-clause-spreads g c =
+    let v = view c.args.pass.now in
+    let w = view c.take_turn-turn.new.pass in
+    let x = view c.publish_in_turn-published.new.pass in
+    let y = view c.leave_turn.new.pass in
+    let n = c.args.ticket.now.serial in
+    if_ok (λ _. (x ≡ noted_all w (Publish c.args.draft.left.number (n + 1) n (change_of c.args.origin) ∷ stopped_of (state_at w.seen) n)) × (refusal (state_at w.seen) n ≡ None))
+    (λ _. (found : List Signed) × Spread v y found (Publish (held c.args.draft).number (n + 1) n (change_of c.args.origin) ∷ stopped_of (state_at found) n) × (refusal (state_at found) n ≡ None)) c.publish_in_turn-published.result
+    (λ u has. (w.seen, turned_spread v y w.seen _ (c.leave_turn.ensures.turned v w.seen _ (found_all v w x w.seen _ c.take_turn-turn.ensures.since has.0) c.requires.pass.idle.1), has.1)) c.publish_in_turn-published.ensures.publishes
 
 pub returns-clause-kept : goal.returns-clause-kept
 returns-clause-kept g c =
@@ -58,7 +72,7 @@ returns-clause-kept g c =
     if_err (λ kept. (x ≡ w) × (draft_in kept ≡ c.args.draft) × (Some (refusal_in kept) ≡ refusal (state_at w.seen) n))
     (λ kept. Makes v y (λ s. []) × (draft_in kept ≡ c.args.draft) × IsDraftOf y (draft_in kept) × (Some (refusal_in kept) ≡ refusal (state_at y.seen) n)) c.publish_in_turn-published.result
     (λ kept has. (
-      (w.seen, c.leave_turn.ensures.turned v w.seen _ (none_found v w x c.take_turn-turn.ensures.since has.0) c.requires.pass.0.1),
+      (w.seen, c.leave_turn.ensures.turned v w.seen _ (none_found v w x c.take_turn-turn.ensures.since has.0) c.requires.pass.idle.1),
       has.1,
       draft_kept v w x y c.args.draft (draft_in kept) c.take_turn-turn.ensures.same c.take_turn-turn.ensures.draft has.0 c.leave_turn.ensures.seen has.1 c.requires.draft,
       has.2 ∙ ap (λ (l : List Signed). refusal (state_at l) n) (sym (seen_after x y c.leave_turn.ensures.seen ∙ ap (λ z. z.seen) has.0)),

@@ -13,7 +13,7 @@ start_in_turn-started-requires-clause-draft g c κs within = draft_in (view c.ar
 
 pub returns-clause-pass : goal.returns-clause-pass
 returns-clause-pass g c =
-    pass_after c.args.self.now c.leave_turn.new.pass (view c.args.pass.now) (view c.take_turn-turn.new.pass) (view c.start_in_turn-started.new.pass) c.leave_turn.ensures.pass c.requires.pass.1
+    pass_after c.args.self.now c.leave_turn.new.pass (view c.args.pass.now) (view c.take_turn-turn.new.pass) (view c.start_in_turn-started.new.pass) c.leave_turn.ensures.pass c.requires.pass.place
     (number_in (view c.args.pass.now) (view c.take_turn-turn.new.pass) c.take_turn-turn.ensures.same)
     (number_noted (view c.take_turn-turn.new.pass) (view c.start_in_turn-started.new.pass) _ c.start_in_turn-started.ensures.seen) c.leave_turn.ensures.seen
 
@@ -23,7 +23,7 @@ returns-clause-started g c =
     let w = view c.take_turn-turn.new.pass in
     let x = view c.start_in_turn-started.new.pass in
     let seen = seen_as w x (started_entry (held c.args.draft.now)) _ _ c.start_in_turn-started.ensures.seen c.failing.ensures.key in
-    (w.seen, c.leave_turn.ensures.turned v w.seen _ (found_more v w x w.seen [] _ c.take_turn-turn.ensures.since seen) c.requires.pass.0.1)
+    (w.seen, c.leave_turn.ensures.turned v w.seen _ (found_more v w x w.seen [] _ c.take_turn-turn.ensures.since seen) c.requires.pass.idle.1)
 
 pub returns-clause-cause : goal.returns-clause-cause
 returns-clause-cause g c =
@@ -31,7 +31,7 @@ returns-clause-cause g c =
     let w = view c.take_turn-turn.new.pass in
     let x = view c.start_in_turn-started.new.pass in
     let seen = seen_as w x (started_entry (held c.args.draft.now)) _ _ c.start_in_turn-started.ensures.seen c.failing.ensures.key in
-    let one = c.leave_turn.ensures.turned v w.seen _ (found_more v w x w.seen [] _ c.take_turn-turn.ensures.since seen) c.requires.pass.0.1 in
+    let one = c.leave_turn.ensures.turned v w.seen _ (found_more v w x w.seen [] _ c.take_turn-turn.ensures.since seen) c.requires.pass.idle.1 in
     fault_rose g.F.Fixtures.calls g.F.Fixtures.faults g.M.ModuleSet.plan g.M.ModuleSet.change (opening_of c.args.self.now.gate) c.take_turn-turn.result.value c.start_in_turn-started.new.turn.value w.seen x.seen (view c.leave_turn.new.pass).seen _
     c.failing.result c.start_in_turn-started.result c.take_turn-turn.ensures.turn.board c.start_in_turn-started.ensures.turn.board (seen_after x (view c.leave_turn.new.pass) c.leave_turn.ensures.seen) one.is c.failing.ensures.fault c.start_in_turn-started.ensures.cause
 

@@ -27,7 +27,7 @@ returns-clause-entry g c =
     (subst (λ (z : Tree). AddsTo calls v.desk w (Draft c.in_ok-number.number z c.deref-2.result.now.plan)) tree c.in_ok-number.ensures.entry)))
     (calm _ _ same)
     (λ o log h. c.args.loaded.planned)
-    (shelf_draft calls faults plan change v _ _ _ _ (search rules) (search rules) (search rules))
+    (shelf_draft calls faults plan change v _ _ _ _ (search rules) (search rules) (search rules) (search rules))
 
 pub returns-in_err-number-clause-err : goal.returns-in_err-number-clause-err
 returns-in_err-number-clause-err g c =

@@ -2,6 +2,7 @@ use Rattle.std.proofs.Common.{◌≡◌, ◌∙◌, ◌+◌, ◌-◌, ℕ, sym, 
 use Rattle.std.specs.Arc.{arc_value}
 use Rattle.cd_legal.specs.declared.entry.Entry.TheVariants.{Publish}
 use Rattle.cd_desk.specs.Desks.{AddsTo}
+use Rattle.cd_life.specs.Origins.{change_of}
 use Rattle.cd_life.proofs.Standings.{adds, calm, shelf_publish}
 use Rattle.cd_life.proofs.Laws.{publish_fits}
 use Rattle.cd_life.proofs.board.Board.publish.Goals as goal
@@ -32,10 +33,11 @@ returns-clause-entry g c =
     let v = c.args.self.now in
     let l = c.args.draft.left in
     let t = (arc_value c.args.draft.loaded).tree in
+    let way = change_of c.args.origin in
     let live : c.saturating_sub-self.result ≡ v.live - 1 = search rules in
     let serial : c.publish.new.self.serial ≡ c.args.from + 1 = search rules in
     adds calls faults plan change v _ _
-    (subst (λ (z : ℕ). AddsTo calls v.desk c.publish.new.self (Publish l.number (z + 1) z c.args.change)) (sym c.requires.current) (c.publish.ensures.entry c.args.change))
+    (subst (λ (z : ℕ). AddsTo calls v.desk c.publish.new.self (Publish l.number (z + 1) z way)) (sym c.requires.current) (c.publish.ensures.entry way))
     (calm _ _ c.publish.ensures.faults)
-    (λ o log h. publish_fits calls faults plan change o v log h t l c.args.from (c.args.from + 1) c.args.change c.requires.draft c.requires.current c.requires.change)
-    (shelf_publish calls faults plan change v _ l c.args.from c.args.change t (record { serial = c.publish.new.self.serial; loaded = c.args.draft.loaded }) serial refl c.requires.draft c.keep.ensures.items c.keep.ensures.len c.keep.ensures.capacity live)
+    (λ o log h. publish_fits calls faults plan change o v log h t l c.args.from (c.args.from + 1) way c.requires.draft c.requires.current c.requires.change)
+    (shelf_publish calls faults plan change v _ l c.args.from way t (record { serial = c.publish.new.self.serial; loaded = c.args.draft.loaded }) serial refl c.requires.draft c.keep.ensures.items c.keep.ensures.len c.keep.ensures.capacity live)

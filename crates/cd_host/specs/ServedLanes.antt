@@ -1,8 +1,10 @@
+-- Part of the main theorem.
 -- The lanes of a run: what is known of each when all passes have come together.
-use Rattle.std.specs.Prelude.{◌≡◌, ◌⊎◌, ◌≤◌, ◌+◌, ◌++◌, ℕ, true, List, [], ◌∷◌, Option, Some, None}
+use Rattle.std.specs.Prelude.{◌≡◌, ◌⊎◌, ◌≤◌, ◌+◌, ◌++◌, ℕ, true, List, [], ◌∷◌, Some, IfSome}
 use mathlib.Core.List.{IsPrefix}
 use Rattle.cd_outside.specs.declared.accepted.Accepted.TheVariants as accepted
 use Rattle.cd_outside.specs.declared.past.Past.{Past}
+use Rattle.cd_outside.specs.Counts.{Rose}
 use Rattle.cd_outside.specs.Telling.{TellsOn}
 use Rattle.cd_legal.specs.declared.entry.Signed.{Signed}
 use Rattle.cd_legal.specs.Entry.{mine}
@@ -12,19 +14,22 @@ use Rattle.cd_gate.specs.Growing.{all_signed}
 use Rattle.cd_serve.specs.declared.lane_end.LaneHow.TheVariants as how
 use Rattle.cd_serve.specs.Meanings.{Meaning}
 use Rattle.cd_serve.specs.Lanes.{IsServed}
-use Rattle.cd_serve.specs.Joining.{Span, Slot}
+use Rattle.cd_serve.specs.Reports.{Span, ServedLane}
 
 -- ---- what lanes tell
 
--- a lane that tells its past tells that no more comes, or that it could not accept
-abbrev pub IsAtEnd : Option Past → Type 0
-IsAtEnd None = Unit {0}
-IsAtEnd (Some past) = (past.last ≡ Some accepted.Ended) ⊎ (past.last ≡ Some accepted.Failed)
+-- why no more is accepted on a lane: its last accept said that no more comes, or failed, and then a fault of the lane rose
+abbrev pub EndsAccepting : ℕ → ℕ → Past → Type 0
+EndsAccepting failed_before failed_now past = (past.last ≡ Some accepted.Ended) ⊎ ((past.last ≡ Some accepted.Failed) × Rose failed_before failed_now)
+
+-- a lane that tells its past tells that
+abbrev pub IsAtEnd : Span → Type 0
+IsAtEnd lane = IfSome lane.told_now (EndsAccepting lane.failed_before lane.failed_now)
 
 -- so each of these lanes
 abbrev pub AreAtEnd : List Span → Type 0
 AreAtEnd [] = Unit {0}
-AreAtEnd (lane ∷ lanes) = IsAtEnd lane.told_now × AreAtEnd lanes
+AreAtEnd (lane ∷ lanes) = IsAtEnd lane × AreAtEnd lanes
 
 -- these lanes tell what they told, and have failed as often as they had
 abbrev pub AreUntouched : List Span → Type 0
@@ -35,7 +40,7 @@ AreUntouched (lane ∷ lanes) = (lane.told_now ≡ lane.told_before) × (lane.fa
 
 -- Over one history, of which the program had seen `start` before the lanes were served, and `found` after that: pass k has served
 -- the lane, had seen the start before, and made these entries and no others; what it has seen then begins what was found.
-pub record IsLane (m : Meaning) (start found history : List Signed) (k : ℕ) (s : Slot) : Type 0 where
+pub record IsLane (m : Meaning) (start found history : List Signed) (k : ℕ) (s : ServedLane) : Type 0 where
   pub later : s.lane.failed_before ≤ s.lane.failed_now
   pub begun : IsPrefix start s.seen_before
   pub seen : IsPrefix s.seen_before s.seen_now
@@ -47,6 +52,6 @@ pub record IsLane (m : Meaning) (start found history : List Signed) (k : ℕ) (s
   pub halted : s.end.how ≡ how.Halted → (state_at s.seen_now).halted ≡ true
 
 -- lane after lane, of which the first was served by pass k
-abbrev pub LanesFrom : Meaning → List Signed → List Signed → List Signed → ℕ → List Slot → Type 0
+abbrev pub LanesFrom : Meaning → List Signed → List Signed → List Signed → ℕ → List ServedLane → Type 0
 LanesFrom m start found history k [] = Unit {0}
 LanesFrom m start found history k (s ∷ ss) = IsLane m start found history k s × LanesFrom m start found history (k + 1) ss

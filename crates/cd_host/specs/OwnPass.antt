@@ -9,7 +9,7 @@ use Rattle.cd_legal.specs.Placed.{Placed, placed_entries}
 use Rattle.cd_legal.specs.Whole.{all_retired}
 use Rattle.cd_gate.specs.declared.view.View.{View}
 use Rattle.cd_gate.specs.Growing.{Places}
-use Rattle.cd_serve.specs.Changes.{IsHalted}
+use Rattle.cd_serve.specs.Changes.{IsHalting}
 
 module _ {T : Type 0} where
   -- a pass that had the view v has made these entries since, and has the view w
@@ -18,7 +18,7 @@ module _ {T : Type 0} where
 
   -- the program has halted, or has found the host halted
   abbrev pub HasHalted : View T → View T → Type 0
-  HasHalted v w = ((work : List Placed) × Places v w work × IsHalted work) ⊎ (Places v w [] × ((state_at w.seen).halted ≡ true))
+  HasHalted v w = ((work : List Placed) × Places v w work × IsHalting work) ⊎ (Places v w [] × ((state_at w.seen).halted ≡ true))
 
   -- The program's pass was new (v), made these entries in its start (w), was told what the passes of the lanes had seen (y), and
   -- then halted, or found that a lane had (z). This is the history that all passes have made.
