@@ -12,6 +12,9 @@ CLAUSE = re.compile(r"^\s*(requires|ensures)\b\s*(\w+)?\s*\{")
 DOC = re.compile(r"^\s*/// ?(.*)")
 CONSTANT = re.compile(r"^\s*(?:pub(?:\(\w+\))? )?const ([A-Z][A-Z0-9_]*)\s*:[^=]*=\s*([^;]*);")
 RECORD = re.compile(r"^\s*pub (?:open )?record (\w+)")
+DERIVE = re.compile(r"^\s*#\[derive\((.*)\)\]")
+TYPE = re.compile(r"^(?:pub(?:\(\w+\))? )?(?:struct|enum) (\w+)")
+IMPL = re.compile(r"^(?:unsafe )?impl\b.*?\b(Drop|Copy|Clone)\b.* for (?:\w+::)*(\w+)")
 MEMBER = re.compile(r"^\s+(?:pub )?(\w+) :")
 
 
@@ -98,6 +101,24 @@ def records_of(crate):
                 name = None
             elif name and (it := MEMBER.match(line)):
                 found[name].add(it.group(1))
+    return found
+
+
+def derived_by(crate):
+    """Each type of a crate, with the names of the traits that it derives, and of Drop, Copy and Clone where it has an `impl`."""
+    found = {}
+    for path in files_below(os.path.join(CRATES, crate, "src"), ".rt"):
+        derived = set()
+        for line in lines_of(path):
+            if it := DERIVE.match(line):
+                derived |= {name.strip() for name in it.group(1).split(",")}
+            elif it := TYPE.match(line):
+                found.setdefault(it.group(1), set()).update(derived)
+                derived = set()
+            elif it := IMPL.match(line):
+                found.setdefault(it.group(2), set()).add(it.group(1))
+            elif not line.lstrip().startswith(("#[", "//")):
+                derived = set()
     return found
 
 
