@@ -14,8 +14,9 @@ use Rattle.cd_legal.specs.Legal.{legal, state_of}
 use Rattle.cd_legal.specs.Runs.{Failure}
 use Rattle.cd_gate.specs.Growing.{all_signed}
 use Rattle.cd_host.specs.Firsts.{BeginsWith}
-use Rattle.cd_host.specs.Parts.{HasParts, end_entries}
+use Rattle.cd_host.specs.Parts.{HasParts, IsAlone, end_entries}
 use Rattle.cd_host.specs.Program.{Start, start_entries, halt_entries}
+use Rattle.cd_host.proofs.NotAlone.{halts-not-alone}
 
 abbrev x_key : Key
 x_key = Writer (codes "x")
@@ -85,6 +86,14 @@ module _ (t : Tree) where
 
   parts_of_a_lane_that_halts : HasParts t small Start.published (started ++ halting)
   parts_of_a_lane_that_halts = record { lanes = halting; others = refl; whole = refl }
+
+  -- the lane has signed; and the host is halted once, so that neither another lane nor the program signs a second Halt
+  not_alone : IsAlone halting → ⊥
+  not_alone = halts-not-alone halting refl
+
+  halted_once : (legal (entries ((started ++ halting) ++ signed 2 (Begin 2 2) ∷ (signed 2 (Halt 3) ∷ []))) ≡ false)
+      × (legal (entries ((started ++ halting) ++ all_signed 0 (halt_entries (state_of (entries (started ++ halting)))))) ≡ false)
+  halted_once = (refl, refl)
 
   begins : BeginsWith t (entries whole)
   begins = (tt, (tt, (tt, (tt, (refl, (tt, (tt, (tt, (tt, (tt, (tt, (tt, (tt, tt)))))))))))))

@@ -6,7 +6,7 @@ mod PartEntries
 mod Parted
 mod Gathered
 mod Untouched
-mod Unfailing
+pub mod Unfailing
 mod Alike
 mod Beginning
 mod Ending
@@ -23,3 +23,4 @@ mod Gone
 mod FirstPass
 mod Promised
 mod Crossing
+mod NotAlone

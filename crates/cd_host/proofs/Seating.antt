@@ -162,3 +162,7 @@ module _ {A F B : Type 0} {g : _} (h : Hall A F B g) {L : Type 0} (m : Meaning) 
       here rest (suc k) d lt = rest k d (omega (arith, lt))
   lanes-idle [] (t ∷ ts) all = absurd all
   lanes-idle (s ∷ ss) [] all = absurd all
+
+-- what was taken out of slots is as much as was put in
+pub as-many : {A X Y : Type 0} (f : A → X) (h : A → Y) (old new : List A) (xs : List X) (ys : List Y) → xs ≡ map f new → length new ≡ length old → map h old ≡ ys → length xs ≡ length ys
+as-many f h old new xs ys is same was = ap length is ∙ (length-map new f ∙ (same ∙ (sym (length-map old h) ∙ ap length was)))

@@ -1,5 +1,5 @@
 -- The passes of a run, each with its lane while the lanes are served.
-use Rattle.std.specs.Prelude.{◌≡◌, ◌+◌, ℕ, List, [], ◌∷◌}
+use Rattle.std.specs.Prelude.{◌≡◌, ◌+◌, ℕ, Bool, false, List, [], ◌∷◌, All, length}
 use mathlib.Core.List.{IsPrefix}
 use Rattle.cd_legal.specs.declared.entry.Signed.{Signed}
 use Rattle.cd_gate.specs.declared.pass.Pass.{Pass}
@@ -31,6 +31,25 @@ module _ {A F B : Type 0} {g : _} (h : Hall A F B g) where
   pub record IsReady {L : Type 0} (seen : List Signed) (k : ℕ) (slot : Slot A F L B g) : Type 0 where
     pub unused : IsUnused k slot.pass
     pub told : IsPrefix seen (view slot.pass).seen
+
+  -- The lanes may be served, each by one of these passes: they have made nothing, as many as there are lanes, and no lane has a
+  -- connection.
+  pub record AreReady {L : Type 0} (busy : L → Bool) (first : Pass (Board A F B g)) (others : List (Pass (Board A F B g))) (ls : List L) : Type 0 where
+    pub root : IsPassOf h first
+    pub passes : AllFrom IsUnused 1 others
+    pub enough : length others ≡ length ls
+    pub idle : All (λ lane. busy lane ≡ false) ls
+
+  -- They are back, as many as there were, and owe nothing; no lane has a connection, and the pass of the program has seen more, and
+  -- has made nothing.
+  pub record AreBack {L : Type 0} (busy : L → Bool) (first first' : Pass (Board A F B g)) (others others' : List (Pass (Board A F B g))) (ls ls' : List L) : Type 0 where
+    pub root : IsPassOf h first'
+    pub seen : IsPrefix (view first).seen (view first').seen
+    pub same : view first' ≡ record (view first) { seen = (view first').seen }
+    pub passes : AllFrom IsIdleAt 1 others'
+    pub as_many_passes : length others' ≡ length others
+    pub as_many_lanes : length ls' ≡ length ls
+    pub idle : All (λ lane. busy lane ≡ false) ls'
 
 -- the pass has seen no more than this
 abbrev pub IsWithin : {T : Type 0} → List Signed → ℕ → Pass T → Type 0

@@ -1,7 +1,6 @@
 //! The program serves all its lanes, from its first configuration to its halt.
 ghost use Rattle.std.specs.Prelude.{◌≡◌, ◌≤◌, ◌<◌, ◌+◌, ◌++◌, ℕ, [], List, None, Some, true, false, All, length, option_map, vec_len};
 ghost use Rattle.std.specs.Vec.{vec_capacity};
-ghost use mathlib.Core.List.{IsPrefix};
 ghost use Rattle.cd_outside.specs.declared.key.Key.{Key};
 ghost use Rattle.cd_outside.specs.Counts.{Rose};
 ghost use Rattle.cd_outside.specs.Given.{IsGivenOf};
@@ -16,7 +15,7 @@ ghost use Rattle.cd_host.specs.Gone.{MayFollow, AreGone};
 ghost use Rattle.cd_host.specs.Hosting.{HasSaid, observed_of, is_served};
 ghost use Rattle.cd_host.specs.Runs.{Promises};
 ghost use Rattle.cd_host.specs.Seated.{spans};
-ghost use Rattle.cd_host.specs.Seats.{AllFrom, IsIdleAt, IsUnused};
+ghost use Rattle.cd_host.specs.Seats.{AllFrom, AreBack, AreReady, IsUnused};
 
 use crate::closing::end_run;
 use crate::counts::Counts;
@@ -80,21 +79,13 @@ fn serve_or_leave<
 ) -> Counts
 where
     M::Compiled: Send + Sync,
-    requires root { IsPassOf hall.now root.old }
-    requires passes { AllFrom (IsUnused hall.now) 1 passes.old.items }
-    requires enough { length passes.old.items ≡ length lanes.old.items }
+    requires ready { AreReady hall.now L.busy root.old passes.old.items lanes.old.items }
     requires some { 1 ≤ length lanes.old.items }
     requires empty { slots.old.items ≡ [] }
     requires room { vec_len lanes.old ≤ vec_capacity slots.old }
-    requires idle { All (λ lane. L.busy lane ≡ false) lanes.old.items }
-    ensures root { IsPassOf hall.now root.new }
-    ensures seen { IsPrefix (view root.old).seen (view root.new).seen }
-    ensures same { view root.new ≡ record (view root.old) { seen = (view root.new).seen } }
-    ensures passes { AllFrom (IsIdleAt hall.now) 1 passes.new.items }
-    ensures count { (length passes.new.items ≡ length passes.old.items) × (length lanes.new.items ≡ length lanes.old.items) }
+    ensures back { AreBack hall.now L.busy root.old root.new passes.old.items passes.new.items lanes.old.items lanes.new.items }
     ensures passes_room { vec_capacity passes.old ≤ vec_capacity passes.new }
     ensures empty { slots.new.items ≡ [] }
-    ensures idle { All (λ lane. L.busy lane ≡ false) lanes.new.items }
     ensures gone { AreGone (record { acts = M.acts; plan = M.plan }) (is_served how.now) (view root.old).seen (view root.new).seen (spans L.faults L.past lanes.old.items lanes.new.items) passes.new.items result.answered result.cut }
     ensures untouched { is_served how.now ≡ false → (lanes.new ≡ lanes.old) × (result.answered ≡ 0) × (result.cut ≡ 0) }
 {

@@ -17,7 +17,7 @@ ghost use Rattle.cd_life.specs.Fits.{AllFit};
 ghost use Rattle.cd_gate.specs.declared.view.View.{View};
 ghost use Rattle.cd_gate.specs.Growing.{all_signed};
 ghost use Rattle.cd_serve.specs.Episodes.{another_halted};
-ghost use Rattle.cd_serve.specs.Reports.{Span, ServedLane, ServedLanesFrom, LanesTold, NoneRose, lanes_of};
+ghost use Rattle.cd_serve.specs.Reports.{Span, ServedLane, ServedLanesFrom, LanesTold, NoneInterrupted, NoneRose, lanes_of};
 ghost use Rattle.cd_serve.specs.Meanings.{Meaning};
 ghost use Rattle.cd_host.specs.Firsts.{BeginsWith};
 ghost use Rattle.cd_host.specs.OwnPass.{IsJoined, AreBetween};
@@ -25,7 +25,7 @@ ghost use Rattle.cd_host.specs.ServedLanes.{LanesFrom, AreAtEnd, AreUntouched};
 ghost use Rattle.cd_host.specs.Parts.{HasParts, IsAlone, IsSignedByLanes, end_entries};
 ghost use Rattle.cd_host.specs.Program.{Start, start_entries};
 ghost use Rattle.cd_host.specs.Runs.{Observed, Ran};
-ghost use Rattle.cd_host.specs.Unfailing.{HaveEnded, TellUninterrupted};
+ghost use Rattle.cd_host.specs.Unfailing.{HaveEnded};
 
 use cd_legal::Stands;
 
@@ -68,6 +68,11 @@ pub fn untouched_lanes_tell_nothing()
         → IsLegal history → IsAlone history → AreUntouched lanes → LanesTold m history lanes 0 0 }
 {}
 
+/// A lane that has halted the host has signed something, so the program is not alone.
+pub fn a_lane_that_halts_is_not_alone()
+    ensures { (history : List Signed) → another_halted 0 history ≡ true → ¬ (IsAlone history) }
+{}
+
 /// In a legal history that has its parts the first configuration has the tree that the program started with, where it was published,
 /// or no lane has signed anything.
 pub fn the_first_configuration_is_that_of_the_start()
@@ -93,7 +98,7 @@ pub fn a_refused_start_has_a_failed_key()
 /// interrupted, and none of their accepts failed. Where no lane has halted either, each of them tells that no more comes.
 pub fn lanes_without_a_fault_are_not_interrupted()
     ensures uninterrupted { (m : Meaning) (history : List Signed) (lanes : List Span) (answered : ℕ) → (told : LanesTold m history lanes answered 0)
-        → NoneRose lanes → TellUninterrupted told.reports }
+        → NoneRose lanes → NoneInterrupted told.reports }
     ensures ended { (m : Meaning) (first : Tree) (start : Start) (given : Observed) → (ran : Ran m first start true given)
         → NoneRose given.lanes → another_halted 0 ran.history ≡ false → HaveEnded given.lanes }
 {}

@@ -28,8 +28,8 @@ pub use counts::Counts;
 pub use host_end::{HostEnd, HostHow};
 pub use hosting::{run_host, say};
 pub use laws::{
-    a_refused_start_has_a_failed_key, alike_changes_fit_alike, joined_passes_give_the_parts,
-    lanes_come_together, lanes_without_a_fault_are_not_interrupted,
+    a_lane_that_halts_is_not_alone, a_refused_start_has_a_failed_key, alike_changes_fit_alike,
+    joined_passes_give_the_parts, lanes_come_together, lanes_without_a_fault_are_not_interrupted,
     the_first_configuration_is_that_of_the_start, the_program_signs_its_parts,
     untouched_lanes_tell_nothing,
 };

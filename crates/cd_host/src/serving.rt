@@ -1,12 +1,11 @@
 //! All lanes are served, side by side.
 ghost use Rattle.std.specs.Prelude.{◌≡◌, ◌<◌, ◌≤◌, ℕ, [], false, All, length, slice_index_or, vec_len};
 ghost use Rattle.std.specs.Vec.{vec_capacity};
-ghost use mathlib.Core.List.{IsPrefix};
 ghost use Rattle.cd_gate.specs.Ends.{IsFree};
 ghost use Rattle.cd_gate.specs.Passes.{view};
 ghost use Rattle.cd_hall.specs.Calls.{IsPassOf};
 ghost use Rattle.cd_host.specs.Seated.{AreServed, IsServedSlot, spans};
-ghost use Rattle.cd_host.specs.Seats.{AllFrom, IsIdleAt, IsUnused};
+ghost use Rattle.cd_host.specs.Seats.{AreBack, AreReady};
 
 use crate::counts::Counts;
 use crate::seats::{seat, unseat};
@@ -89,21 +88,13 @@ pub fn serve_all<
 ) -> Counts
 where
     M::Compiled: Send + Sync,
-    requires root { IsPassOf hall.now root.old }
-    requires passes { AllFrom (IsUnused hall.now) 1 passes.old.items }
-    requires enough { length passes.old.items ≡ length lanes.old.items }
+    requires ready { AreReady hall.now L.busy root.old passes.old.items lanes.old.items }
     requires some { 1 ≤ length lanes.old.items }
     requires empty { slots.old.items ≡ [] }
     requires room { vec_len lanes.old ≤ vec_capacity slots.old }
-    requires idle { All (λ lane. L.busy lane ≡ false) lanes.old.items }
-    ensures root { IsPassOf hall.now root.new }
-    ensures seen { IsPrefix (view root.old).seen (view root.new).seen }
-    ensures same { view root.new ≡ record (view root.old) { seen = (view root.new).seen } }
-    ensures passes { AllFrom (IsIdleAt hall.now) 1 passes.new.items }
-    ensures count { (length passes.new.items ≡ length passes.old.items) × (length lanes.new.items ≡ length lanes.old.items) }
+    ensures back { AreBack hall.now L.busy root.old root.new passes.old.items passes.new.items lanes.old.items lanes.new.items }
     ensures passes_room { vec_capacity passes.old ≤ vec_capacity passes.new }
     ensures empty { slots.new.items ≡ [] }
-    ensures idle { All (λ lane. L.busy lane ≡ false) lanes.new.items }
     ensures served { AreServed (record { acts = M.acts; plan = M.plan }) (view root.old).seen (view root.new).seen (spans L.faults L.past lanes.old.items lanes.new.items) passes.new.items result.answered result.cut }
 {
     seat(hall, root, passes, slots, lanes);

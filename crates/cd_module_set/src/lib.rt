@@ -17,4 +17,4 @@ mod target;
 pub use laws::plans_have_as_many_modules;
 pub use loaded::Loaded;
 pub use set::ModuleSet;
-pub use target::{Line, Target};
+pub use target::{Line, Responder, Target};

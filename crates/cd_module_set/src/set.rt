@@ -2,14 +2,16 @@ ghost use Rattle.std.specs.Prelude.{◌≡◌, IfOk, List, Option, Result};
 ghost use Rattle.std.specs.Result.{result_map_both};
 ghost use Rattle.cd_text.specs.Gives.{Gives};
 ghost use Rattle.cd_tree.specs.Tree.{IsSound};
+ghost use Rattle.cd_outside.specs.declared.address.Address.{Address};
 ghost use Rattle.cd_tree.specs.declared.tree.Tree.{Tree};
 ghost use Rattle.cd_wire.specs.declared.request.Request.{Request};
 ghost use Rattle.cd_module.specs.declared.fault.LoadFault.{LoadFault};
 ghost use Rattle.cd_legal.specs.declared.plan.Plan.{Plan};
 ghost use Rattle.cd_module_set.specs.Acts.{Acts, DoAlike, answer_at, nobody};
+ghost use Rattle.cd_module_set.specs.declared.target.Responder.{Responder};
 
 use crate::loaded::Loaded;
-use crate::target::{Line, Target};
+use crate::target::{Line, Responder};
 use cd_module::LoadFault;
 use cd_outside::Address;
 use cd_text::{List, NoMemory};
@@ -31,6 +33,9 @@ pub trait ModuleSet: Sized {
     /// What a compiled configuration does.
     ghost form: { Self.Compiled → Acts };
 
+    /// The responder is the one at the address, in a compiled configuration.
+    ghost responds: { Self.Compiled → Address → Responder → Type 0 };
+
     /// The tree that a request asks for under a configuration with this tree, where it asks for a change.
     ghost change: { Tree → Request → Option Tree };
 
@@ -45,26 +50,31 @@ pub trait ModuleSet: Sized {
         ensures tree { IfOk result (λ loaded. loaded.tree ≡ tree) };
 
     /// Who answers at an address. It takes no memory.
-    fn target(compiled: &Self::Compiled, at: &Address) -> Target
-        ensures { result ≡ (form compiled.now).target at.now };
+    fn target(compiled: &Self::Compiled, at: &Address) -> Responder
+        ensures target { result.target ≡ (form compiled.now).target at.now }
+        ensures responds { responds compiled.now at.now result };
 
-    /// The answer to a request at an address; none exactly where the address is none of an app. What it lends lives as long as the
-    /// compiled form and the request.
+    /// The answer of the responder at an address to a request; none exactly where the address is none of an app. What it lends
+    /// lives as long as the compiled form and the request.
     fn answer<'a>(
         alloc: Global,
         compiled: &'a Self::Compiled,
         at: &Address,
+        responder: Responder,
         request: &'a Request,
     ) -> Result<Option<Answer<'a>>, NoMemory>
+        requires { responds compiled.now at.now responder }
         ensures { IfOk result (λ answer. answer ≡ answer_at (form compiled.now) at.now request.now) };
 
-    /// The lines that are logged once a request at an address was answered.
+    /// The lines that are logged once the responder at an address has answered a request.
     fn lines(
         alloc: Global,
         compiled: &Self::Compiled,
         at: &Address,
+        responder: Responder,
         request: &Request,
         answer: &Answer<'_>,
     ) -> Result<List<Line>, NoMemory>
+        requires { responds compiled.now at.now responder }
         ensures { IfOk result (λ lines. lines ≡ (form compiled.now).lines at.now request.now answer.now) };
 }

@@ -12,6 +12,16 @@ pub enum Target {
     Nobody,
 }
 
+/// Who answers at an address, by the set's own numbers, so that an answer need not look the address up again.
+#[derive(Clone, Copy, Debug, PartialEq, Eq)]
+pub struct Responder {
+    pub target: Target,
+    /// The number of the app, by its place among the configuration's apps.
+    pub app: usize,
+    /// The number of the server, by its place among the app's servers.
+    pub server: usize,
+}
+
 /// A line of an access log.
 #[derive(Debug, Drop)]
 pub struct Line {

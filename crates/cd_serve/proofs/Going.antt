@@ -86,20 +86,20 @@ caused-lacking cause.Lacking way caused is = caused.0
 caused-lacking cause.Whole way caused is = absurd (let h : cause.Whole ≡ cause.Lacking = is in cc)
 caused-lacking cause.Failed way caused is = absurd (let h : cause.Failed ≡ cause.Lacking = is in cc)
 
--- only an early way is faulted
-faulted-early : (way : Way) → is_faulted way ≡ true → is_interrupted way ≡ true
-faulted-early (Way.interrupted break) is = refl
-faulted-early Way.clean is = absurd (let h : false ≡ true = is in cc)
-faulted-early Way.truncated is = absurd (let h : false ≡ true = is in cc)
-faulted-early Way.closed is = absurd (let h : false ≡ true = is in cc)
-faulted-early Way.dropped is = absurd (let h : false ≡ true = is in cc)
-faulted-early Way.halted is = absurd (let h : false ≡ true = is in cc)
-faulted-early Way.worn is = absurd (let h : false ≡ true = is in cc)
-faulted-early (Way.refused fault) is = absurd (let h : false ≡ true = is in cc)
+-- only an interrupted way is faulted
+faulted-interrupted : (way : Way) → is_faulted way ≡ true → is_interrupted way ≡ true
+faulted-interrupted (Way.interrupted break) is = refl
+faulted-interrupted Way.clean is = absurd (let h : false ≡ true = is in cc)
+faulted-interrupted Way.truncated is = absurd (let h : false ≡ true = is in cc)
+faulted-interrupted Way.closed is = absurd (let h : false ≡ true = is in cc)
+faulted-interrupted Way.dropped is = absurd (let h : false ≡ true = is in cc)
+faulted-interrupted Way.halted is = absurd (let h : false ≡ true = is in cc)
+faulted-interrupted Way.worn is = absurd (let h : false ≡ true = is in cc)
+faulted-interrupted (Way.refused fault) is = absurd (let h : false ≡ true = is in cc)
 
 caused-failed : (c : Cause) (way : Way) → CausedBy c way → is_faulted way ≡ true → c ≡ cause.Failed
 caused-failed cause.Failed way caused is = refl
-caused-failed cause.Whole way caused is = absurd (let h : true ≡ false = sym (faulted-early way is) ∙ caused in cc)
+caused-failed cause.Whole way caused is = absurd (let h : true ≡ false = sym (faulted-interrupted way is) ∙ caused in cc)
 caused-failed cause.Lacking way caused is = absurd (let h : true ≡ false = sym is ∙ caused.1 in cc)
 
 covers-same : (a b f0 f1 cut : ℕ) → a ≡ b → Covers b f0 f1 cut → Covers a f0 f1 cut

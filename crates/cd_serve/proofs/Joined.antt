@@ -1,5 +1,5 @@
 -- From what each lane tells to what all tell together.
-use Rattle.std.proofs.Common.{◌≡◌, ◌⊎◌, ⊎_elim, ◌≤◌, ◌<◌, ◌∙◌, ◌++◌, ◌+◌, ◌-◌, ℕ, min, List, [], ◌∷◌, Option, Some, None, refl, ap, sym, subst, arith}
+use Rattle.std.proofs.Common.{◌≡◌, ◌⊎◌, ⊎_elim, ◌≤◌, ◌<◌, ◌∙◌, ◌++◌, ◌+◌, ◌-◌, ℕ, Bool, true, false, cond, min, List, [], ◌∷◌, Option, Some, None, refl, ap, sym, subst, arith}
 use Rattle.std.specs.Prelude.{sum_by}
 use Rattle.std.proofs.lemmas.List.Sums.{sum_by-cons}
 use mathlib.Core.List.{IsPrefix}
@@ -14,8 +14,9 @@ use Rattle.cd_legal.proofs.Fresh.{legal-fresh}
 use Rattle.cd_legal.proofs.Placed.{placed-stays}
 use Rattle.cd_serve.specs.declared.lane_end.LaneEnd.{LaneEnd}
 use Rattle.cd_serve.specs.Meanings.{Meaning}
-use Rattle.cd_serve.specs.Lanes.{Told, IsServed, interrupted_in, faulted_in, answered_in}
-use Rattle.cd_serve.specs.Reports.{Span, LaneReport, ReportOf, ReportsFrom, of_report, interruptions, faults, all_of, AllTell, of_those, EachCovered, EachFaulted, NoneRose, AllWhole, NoneAtEnd, LanesTold, ServedLane, IsServedLane, ServedLanesFrom, lanes_of}
+use Rattle.cd_serve.specs.Connections.{Ending}
+use Rattle.cd_serve.specs.Lanes.{Told, IsServed, is_interrupted, interrupted_in, faulted_in, answered_in}
+use Rattle.cd_serve.specs.Reports.{Span, LaneReport, ReportOf, ReportsFrom, of_report, interruptions, faults, all_of, AllTell, of_those, EachCovered, EachFaulted, NoneRose, AreUninterrupted, NoneInterrupted, NoneAtEnd, LanesTold, ServedLane, IsServedLane, ServedLanesFrom, lanes_of}
 use Rattle.cd_serve.proofs.Longer.{placed-stays-in, told-longer}
 
 -- the entries of a pass that had none are those that it made since
@@ -157,8 +158,21 @@ whole-one n before now covers none =
     let c = covers (omega (arith, less)) (omega arith) in
     omega (arith, c, less)
 
+-- connections of which none counts as interrupted
+none-interrupted : (es : List Ending) → interrupted_in es ≡ 0 → AreUninterrupted es
+none-interrupted [] none = tt
+none-interrupted (e ∷ es) none = here (is_interrupted e.way) refl (sym (sum_by-cons (λ (x : Ending). cond (is_interrupted x.way) 1 0) e es) ∙ none) (none-interrupted es)
+  where
+    here : (b : Bool) → is_interrupted e.way ≡ b → cond b 1 0 + interrupted_in es ≡ 0 → (interrupted_in es ≡ 0 → AreUninterrupted es) → (is_interrupted e.way ≡ false) × AreUninterrupted es
+    here true is none rest = absurd (omega (arith, none))
+    here false is none rest = (is, rest (omega (arith, none)))
+
 -- where no fault rose and no memory lacked, nothing was interrupted
-pub lanes-whole : (lanes : List Span) (reports : List (Option LaneReport)) → EachCovered lanes reports 0 → NoneRose lanes → AllWhole lanes reports
-lanes-whole [] reports covered none = tt
-lanes-whole (lane ∷ lanes) [] covered none = tt
-lanes-whole (lane ∷ lanes) (t ∷ ts) covered none = (whole-one (of_report interruptions t) lane.failed_before lane.failed_now covered.0 none.0, lanes-whole lanes ts covered.1 none.1)
+pub lanes-whole : (m : Meaning) (history : List Signed) (k : ℕ) (lanes : List Span) (reports : List (Option LaneReport)) → ReportsFrom m history k lanes reports → EachCovered lanes reports 0 → NoneRose lanes → NoneInterrupted reports
+lanes-whole m history k [] [] told covered none = tt
+lanes-whole m history k [] (t ∷ ts) told covered none = absurd told
+lanes-whole m history k (lane ∷ lanes) [] told covered none = absurd told
+lanes-whole m history k (lane ∷ lanes) (None ∷ ts) told covered none = lanes-whole m history (k + 1) lanes ts told.1 covered.1 none.1
+lanes-whole m history k (lane ∷ lanes) (Some t ∷ ts) told covered none =
+    let whole : interruptions t ≡ 0 = whole-one (interruptions t) lane.failed_before lane.failed_now covered.0 none.0 in
+    (none-interrupted t.endings (omega (arith, whole)), omega (arith, whole), lanes-whole m history (k + 1) lanes ts told.1 covered.1 none.1)

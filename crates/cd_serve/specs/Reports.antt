@@ -1,6 +1,6 @@
 -- Part of the main theorem.
 -- What several lanes tell together, over one history.
-use Rattle.std.specs.Prelude.{◌≡◌, ◌≤◌, ◌<◌, ◌+◌, ◌-◌, ◌++◌, ℕ, min, List, [], ◌∷◌, map, sum_by, Option, Some, None}
+use Rattle.std.specs.Prelude.{◌≡◌, ◌≤◌, ◌<◌, ◌+◌, ◌-◌, ◌++◌, ℕ, false, min, List, [], ◌∷◌, map, sum_by, Option, Some, None}
 use mathlib.Core.List.{IsPrefix}
 use Rattle.cd_outside.specs.declared.past.Connection.{Connection}
 use Rattle.cd_outside.specs.declared.past.Past.{Past}
@@ -13,7 +13,7 @@ use Rattle.cd_legal.specs.Fresh.{Fresh}
 use Rattle.cd_serve.specs.declared.lane_end.LaneEnd.{LaneEnd}
 use Rattle.cd_serve.specs.Meanings.{Meaning}
 use Rattle.cd_serve.specs.Connections.{Ending}
-use Rattle.cd_serve.specs.Lanes.{Told, interrupted_in, faulted_in, answered_in, IsServed}
+use Rattle.cd_serve.specs.Lanes.{Told, is_interrupted, interrupted_in, faulted_in, answered_in, IsServed}
 
 -- a lane between two moments: what it told and tells now, how often it had failed and has
 pub record Span : Type 0 where
@@ -110,11 +110,16 @@ abbrev pub NoneRose : List Span → Type 0
 NoneRose [] = Unit {0}
 NoneRose (lane ∷ lanes) = ¬ (Rose lane.failed_before lane.failed_now) × NoneRose lanes
 
--- no connection of these lanes was interrupted, and no accept failed
-abbrev pub AllWhole : List Span → List (Option LaneReport) → Type 0
-AllWhole [] ts = Unit {0}
-AllWhole (lane ∷ lanes) [] = Unit {0}
-AllWhole (lane ∷ lanes) (t ∷ ts) = (of_report interruptions t ≡ 0) × AllWhole lanes ts
+-- each of these connections went on to its own end
+abbrev pub AreUninterrupted : List Ending → Type 0
+AreUninterrupted [] = Unit {0}
+AreUninterrupted (e ∷ es) = (is_interrupted e.way ≡ false) × AreUninterrupted es
+
+-- so each connection that the lanes tell of, and none of their accepts failed
+abbrev pub NoneInterrupted : List (Option LaneReport) → Type 0
+NoneInterrupted [] = Unit {0}
+NoneInterrupted (None ∷ ts) = NoneInterrupted ts
+NoneInterrupted (Some t ∷ ts) = AreUninterrupted t.endings × (t.failed ≡ 0) × NoneInterrupted ts
 
 -- What these lanes tell of the history, where so many requests were answered and so many connections lacked memory. The first
 -- lane was served by pass 1.

@@ -1,10 +1,11 @@
 -- What serving one request does, call by call.
-use Rattle.std.specs.Prelude.{◌≡◌, ◌++◌, ◌∷◌, ℕ, Bool, true, false, List, [], Option, Some, None, option_map}
+use Rattle.std.specs.Prelude.{◌≡◌, ◌≤◌, ◌++◌, ◌∷◌, ℕ, Bool, true, false, List, [], Option, Some, None, option_map}
 use mathlib.Core.List.{IsPrefix}
 use Rattle.cd_text.specs.Steps.{joined}
 use Rattle.cd_outside.specs.declared.address.Address.{Address}
 use Rattle.cd_outside.specs.declared.past.Logged.{Logged}
 use Rattle.cd_outside.specs.declared.past.Past.{Past}
+use Rattle.cd_outside.specs.Counts.{Rose}
 use Rattle.cd_outside.specs.Past.{with_connection}
 use Rattle.cd_wire.specs.declared.answer.Answer.{Answer}
 use Rattle.cd_wire.specs.declared.request.Request.{Request}
@@ -15,10 +16,15 @@ use Rattle.cd_legal.specs.State.{Conf}
 use Rattle.cd_legal.specs.Legal.{IsLegal}
 use Rattle.cd_legal.specs.Placed.{Placed, met}
 use Rattle.cd_legal.specs.Signing.{IsHistory}
+use Rattle.cd_gate.specs.declared.pass.Pass.{Pass}
 use Rattle.cd_gate.specs.declared.view.View.{View}
 use Rattle.cd_gate.specs.Growing.{Places}
+use Rattle.cd_gate.specs.Passes.{view}
+use Rattle.cd_life.specs.declared.board.Board.{Board}
 use Rattle.cd_life.specs.Shares.{conf_in}
+use Rattle.cd_hall.specs.declared.hall.Hall.{Hall}
 use Rattle.cd_hall.specs.declared.hall.Ticket.{Ticket}
+use Rattle.cd_hall.specs.Calls.{IsPassOf}
 use Rattle.cd_hall.specs.Tickets.{IsTicketOf, BeganWith}
 use Rattle.cd_serve.specs.declared.how.How.{How}
 use Rattle.cd_serve.specs.declared.how.How.TheVariants as how
@@ -136,6 +142,32 @@ pub record ActedQuietly (m : Meaning) (at : Address) (q : Request) (conf : Conf)
   pub what : Sent
   pub past : new ≡ option_map (with_connection (after_sending what)) old
   pub is : (k : ℕ) (seen : List Signed) → ActsBetween m k at q conf serial seen (Some h) [] what
+
+-- a further request may be served: the pass of the hall owes nothing, and the connection is there
+pub record MayServe {A F B : Type 0} {g : _} (h : Hall A F B g) (p : Pass (Board A F B g)) (connected : Bool) : Type 0 where
+  pub pass : IsPassOf h p
+  pub free : OwesNothing (view p)
+  pub busy : connected ≡ true
+
+-- a request may be acted on: the pass of the hall has its ticket, under which it has begun, and owes nothing else; and its connection
+-- is there
+pub record MayAct {A F B : Type 0} {g : _} (h : Hall A F B g) (p : Pass (Board A F B g)) (t : Ticket A B g) (connected : Bool) : Type 0 where
+  pub pass : IsPassOf h p
+  pub ticket : IsBegun (view p) t
+  pub owes : OwesTicket (view p) t.serial
+  pub busy : connected ≡ true
+
+-- it was acted on, and the pass still has its ticket, and owes nothing else
+pub record HasActed {A F B : Type 0} {g : _} (m : Meaning) (h : Hall A F B g) (t : Ticket A B g) (at : Address) (q : Request) (result : Option How) (p p' : Pass (Board A F B g)) (old new : Option Past) : Type 0 where
+  pub pass : IsPassOf h p'
+  pub owes : OwesTicket (view p') t.serial
+  pub acted : Acted m at q (conf_in t.share) t.serial result (view p) (view p') old new
+
+-- the connection of a lane is still there after a call, and the faults of the lane have risen where the call has failed
+pub record KeepsConnection (fails : Type 0) (connected : Bool) (before now : ℕ) : Type 0 where
+  pub busy : connected ≡ true
+  pub later : before ≤ now
+  pub failed : fails → Rose before now
 
 -- the request was ended, and its serial was retired where that was due
 pub record Concluded {T : Type 0} (v w : View T) : Type 0 where

@@ -6,6 +6,7 @@ use Rattle.cd_outside.specs.declared.address.Address.{Address}
 use Rattle.cd_outside.specs.declared.past.Past.{Past}
 use Rattle.cd_outside.specs.Telling.{TellsOn}
 use Rattle.cd_legal.specs.declared.entry.Signed.{Signed}
+use Rattle.cd_legal.specs.Legal.{state_at}
 use Rattle.cd_legal.specs.Placed.{Placed, placed, placed_entries, through}
 use Rattle.cd_legal.specs.Signing.{IsHistory}
 use Rattle.cd_gate.specs.declared.view.View.{View}
@@ -48,6 +49,12 @@ module _ {T : Type 0} where
     pub own : List Placed
     pub made : HasPlaced v w own
     pub served : ConnectionServed m v.number at v.seen w.seen own end first now
+
+  -- so, and the faults of the lane have risen where it ended for that; it found the host halted only where that is so
+  pub record EndsConnection (m : Meaning) (at : Address) (end : ConnectionEnd) (v w : View T) (first now : Option Past) (failed_before failed_now : ℕ) : Type 0 where
+    pub served : IsEnded m at end v w first now
+    pub cause : HasRisen end.cause failed_before failed_now
+    pub halted : end.halted ≡ true → (state_at w.seen).halted ≡ true
 
   -- after one step of it
   abbrev pub Steps : Meaning → Address → Option ConnectionEnd → List ℕ → Bool → ℕ → View T → View T → Option Past → Option Past → Type 0

@@ -1,15 +1,12 @@
 //! A change that the admin API decides on is made, and answered.
-ghost use Rattle.std.specs.Prelude.{◌≡◌, ◌≤◌, [], Some, None, true};
-ghost use Rattle.cd_outside.specs.Counts.{Rose};
-ghost use Rattle.cd_gate.specs.Passes.{view};
+ghost use Rattle.std.specs.Prelude.{◌≡◌, [], Some, true};
 ghost use Rattle.cd_admin.specs.Deciding.{replace as replaces, halt as halts};
 ghost use Rattle.cd_life.specs.Shares.{conf_in};
-ghost use Rattle.cd_hall.specs.Calls.{IsPassOf};
 ghost use Rattle.cd_serve.specs.declared.how.How.TheVariants as how;
 ghost use Rattle.cd_serve.specs.Attempts.{Asks};
 ghost use Rattle.cd_serve.specs.Faults.{fault_answer};
 ghost use Rattle.cd_serve.specs.Meanings.{Decides};
-ghost use Rattle.cd_serve.specs.Requests.{Acted, IsSent, is_fault, is_fault_in, OwesTicket, IsBegun};
+ghost use Rattle.cd_serve.specs.Requests.{HasActed, IsSent, KeepsConnection, MayAct, is_fault, is_fault_in};
 
 use crate::answering::halted_answer;
 use crate::attempting::{Attempt, attempt_change};
@@ -41,18 +38,11 @@ pub(crate) fn replace<R: Wait, M: Administered, F: Fixtures, L: Lane>(
     request: &Request,
     loaded: Loaded<M>,
 ) -> Option<How>
-    requires pass { IsPassOf hall.now pass.old }
-    requires ticket { IsBegun (view pass.old) ticket.now }
-    requires owes { OwesTicket (view pass.old) ticket.now.serial }
-    requires busy { L.busy lane.old ≡ true }
+    requires may { MayAct hall.now pass.old ticket.now (L.busy lane.old) }
     requires asks { Asks M.change (conf_in ticket.now.share) request.now loaded.tree }
     requires decides { Decides (record { acts = M.acts; plan = M.plan }) (conf_in ticket.now.share) at.now request.now (replaces loaded.tree) }
-    ensures pass { IsPassOf hall.now pass.new }
-    ensures owes { OwesTicket (view pass.new) ticket.now.serial }
-    ensures busy { L.busy lane.new ≡ true }
-    ensures acted { Acted (record { acts = M.acts; plan = M.plan }) at.now request.now (conf_in ticket.now.share) ticket.now.serial result (view pass.old) (view pass.new) (L.past lane.old) (L.past lane.new) }
-    ensures later { L.faults lane.old ≤ L.faults lane.new }
-    ensures failed { is_fault_in result ≡ true → Rose (L.faults lane.old) (L.faults lane.new) }
+    ensures acted { HasActed (record { acts = M.acts; plan = M.plan }) hall.now ticket.now at.now request.now result pass.old pass.new (L.past lane.old) (L.past lane.new) }
+    ensures lane { KeepsConnection (is_fault_in result ≡ true) (L.busy lane.new) (L.faults lane.old) (L.faults lane.new) }
     ensures running { ¬ (result ≡ Some how.Halted) }
 {
     let _ = at;
@@ -71,10 +61,8 @@ pub(crate) fn replace<R: Wait, M: Administered, F: Fixtures, L: Lane>(
 // Answers why the change was not made.
 fn refuse<L: Lane>(alloc: Global, lane: &mut L, request: &Request, fault: &ChangeFault) -> How
     requires { L.busy lane.old ≡ true }
-    ensures busy { L.busy lane.new ≡ true }
     ensures sent { IsSent result request.now (fault_answer fault.now) [] (L.past lane.old) (L.past lane.new) }
-    ensures later { L.faults lane.old ≤ L.faults lane.new }
-    ensures failed { is_fault result ≡ true → Rose (L.faults lane.old) (L.faults lane.new) }
+    ensures lane { KeepsConnection (is_fault result ≡ true) (L.busy lane.new) (L.faults lane.old) (L.faults lane.new) }
 {
     match fault.answer(alloc) {
         Ok(answer) => reply_with(alloc, lane, request, &answer, &[]),
@@ -93,17 +81,10 @@ pub(crate) fn halt<R: Wait, M: Administered, F: Fixtures, L: Lane>(
     at: &Address,
     request: &Request,
 ) -> Option<How>
-    requires pass { IsPassOf hall.now pass.old }
-    requires ticket { IsBegun (view pass.old) ticket.now }
-    requires owes { OwesTicket (view pass.old) ticket.now.serial }
-    requires busy { L.busy lane.old ≡ true }
+    requires may { MayAct hall.now pass.old ticket.now (L.busy lane.old) }
     requires decides { Decides (record { acts = M.acts; plan = M.plan }) (conf_in ticket.now.share) at.now request.now halts }
-    ensures pass { IsPassOf hall.now pass.new }
-    ensures owes { OwesTicket (view pass.new) ticket.now.serial }
-    ensures busy { L.busy lane.new ≡ true }
-    ensures acted { Acted (record { acts = M.acts; plan = M.plan }) at.now request.now (conf_in ticket.now.share) ticket.now.serial result (view pass.old) (view pass.new) (L.past lane.old) (L.past lane.new) }
-    ensures later { L.faults lane.old ≤ L.faults lane.new }
-    ensures failed { is_fault_in result ≡ true → Rose (L.faults lane.old) (L.faults lane.new) }
+    ensures acted { HasActed (record { acts = M.acts; plan = M.plan }) hall.now ticket.now at.now request.now result pass.old pass.new (L.past lane.old) (L.past lane.new) }
+    ensures lane { KeepsConnection (is_fault_in result ≡ true) (L.busy lane.new) (L.faults lane.old) (L.faults lane.new) }
     ensures running { ¬ (result ≡ Some how.Halted) }
 {
     let _ = at;

@@ -1,13 +1,12 @@
 //! A connection is served to its end.
-ghost use Rattle.std.specs.Prelude.{◌≡◌, Option, true, false};
+ghost use Rattle.std.specs.Prelude.{◌≡◌, Option, false};
 ghost use Rattle.cd_outside.specs.declared.past.Past.{Past};
 ghost use Rattle.cd_legal.specs.Legal.{state_at};
 ghost use Rattle.cd_gate.specs.declared.view.View.{View};
 ghost use Rattle.cd_gate.specs.Passes.{view};
 ghost use Rattle.cd_hall.specs.Calls.{IsPassOf};
-ghost use Rattle.cd_serve.specs.Requests.{OwesNothing};
-ghost use Rattle.cd_serve.specs.Serving.{HasRisen};
-ghost use Rattle.cd_serve.specs.Stepping.{GoesOn, IsEnded, Steps, RisesBy, HaltedBy};
+ghost use Rattle.cd_serve.specs.Requests.{MayServe, OwesNothing};
+ghost use Rattle.cd_serve.specs.Stepping.{EndsConnection, GoesOn, Steps, RisesBy, HaltedBy};
 
 use crate::cause::Cause;
 use crate::connection_end::ConnectionEnd;
@@ -32,15 +31,11 @@ pub(crate) fn serve_connection<R: Wait, M: Administered, F: Fixtures, L: Lane>(
     lane: &mut L,
     at: &Address,
 ) -> ConnectionEnd
-    requires pass { IsPassOf hall.now pass.old }
-    requires free { OwesNothing (view pass.old) }
-    requires busy { L.busy lane.old ≡ true }
+    requires may { MayServe hall.now pass.old (L.busy lane.old) }
     ensures pass { IsPassOf hall.now pass.new }
     ensures free { OwesNothing (view pass.new) }
     ensures busy { L.busy lane.new ≡ false }
-    ensures served { IsEnded (record { acts = M.acts; plan = M.plan }) at.now result (view pass.old) (view pass.new) (L.past lane.old) (L.past lane.new) }
-    ensures cause { HasRisen result.cause (L.faults lane.old) (L.faults lane.new) }
-    ensures halted { result.halted ≡ true → (state_at (view pass.new).seen).halted ≡ true }
+    ensures ends { EndsConnection (record { acts = M.acts; plan = M.plan }) at.now result (view pass.old) (view pass.new) (L.past lane.old) (L.past lane.new) (L.faults lane.old) (L.faults lane.new) }
 {
     let end = serve_requests(rt, alloc, hall, pass, lane, at);
     lane.end();
@@ -55,15 +50,9 @@ fn serve_requests<R: Wait, M: Administered, F: Fixtures, L: Lane>(
     lane: &mut L,
     at: &Address,
 ) -> ConnectionEnd
-    requires pass { IsPassOf hall.now pass.old }
-    requires free { OwesNothing (view pass.old) }
-    requires busy { L.busy lane.old ≡ true }
-    ensures pass { IsPassOf hall.now pass.new }
-    ensures free { OwesNothing (view pass.new) }
-    ensures busy { L.busy lane.new ≡ true }
-    ensures served { IsEnded (record { acts = M.acts; plan = M.plan }) at.now result (view pass.old) (view pass.new) (L.past lane.old) (L.past lane.new) }
-    ensures cause { HasRisen result.cause (L.faults lane.old) (L.faults lane.new) }
-    ensures halted { result.halted ≡ true → (state_at (view pass.new).seen).halted ≡ true }
+    requires may { MayServe hall.now pass.old (L.busy lane.old) }
+    ensures may { MayServe hall.now pass.new (L.busy lane.new) }
+    ensures ends { EndsConnection (record { acts = M.acts; plan = M.plan }) at.now result (view pass.old) (view pass.new) (L.past lane.old) (L.past lane.new) (L.faults lane.old) (L.faults lane.new) }
 {
     let mut session = Session {
         intake: Intake::new(alloc),
@@ -90,12 +79,8 @@ fn serve_next<R: Wait, M: Administered, F: Fixtures, L: Lane>(
     at: &Address,
     session: &mut Session,
 ) -> Option<ConnectionEnd>
-    requires pass { IsPassOf hall.now pass.old }
-    requires free { OwesNothing (view pass.old) }
-    requires busy { L.busy lane.old ≡ true }
-    ensures pass { IsPassOf hall.now pass.new }
-    ensures free { OwesNothing (view pass.new) }
-    ensures busy { L.busy lane.new ≡ true }
+    requires may { MayServe hall.now pass.old (L.busy lane.old) }
+    ensures may { MayServe hall.now pass.new (L.busy lane.new) }
     ensures steps { (v : View _) (first : Option Past)
         → GoesOn (record { acts = M.acts; plan = M.plan }) at.now session.old.intake session.old.ended session.old.answered v (view pass.old) first (L.past lane.old)
         → Steps (record { acts = M.acts; plan = M.plan }) at.now result session.new.intake session.new.ended session.new.answered v (view pass.new) first (L.past lane.new) }

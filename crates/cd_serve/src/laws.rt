@@ -24,7 +24,7 @@ ghost use Rattle.cd_serve.specs.Replies.{Reply, is_whole};
 ghost use Rattle.cd_serve.specs.Connections.{Way, Ending, AllGoOn, EndsBy, Serves};
 ghost use Rattle.cd_serve.specs.Complete.{IsComplete};
 ghost use Rattle.cd_serve.specs.Lanes.{IsTold, Told, is_interrupted, finds_halt, interrupted_in, faulted_in, halted_in, answered_in, LaneSoFar};
-ghost use Rattle.cd_serve.specs.Reports.{Span, LaneReport, EachCovered, NoneRose, AllWhole, ServedLane, ServedLanesFrom, LanesTold, lanes_of};
+ghost use Rattle.cd_serve.specs.Reports.{Span, LaneReport, ReportsFrom, EachCovered, NoneRose, NoneInterrupted, ServedLane, ServedLanesFrom, LanesTold, lanes_of};
 ghost use Rattle.cd_serve.specs.Serving.{Replied, ConnectionSoFar, ConnectionServed, CausedBy, HasRisen, cut_by};
 
 /// What a lane tells of a history stays so in a longer one, whose further entries others have signed.
@@ -52,9 +52,11 @@ pub fn connections_are_complete()
         → Serves m k history before c e → is_interrupted e.way ≡ false → IsComplete m k history (before ++ e.own) c }
 {}
 
-/// Where no fault of lanes rose, and no connection lacked memory, none of them was interrupted, and no accept failed.
+/// Where no fault of lanes rose, and no connection lacked memory, none of those that they tell of was interrupted, and no accept
+/// failed.
 pub fn lanes_without_faults_are_whole()
-    ensures { (lanes : List Span) (tales : List (Option LaneReport)) → EachCovered lanes tales 0 → NoneRose lanes → AllWhole lanes tales }
+    ensures { (m : Meaning) (history : List Signed) (k : ℕ) (lanes : List Span) (reports : List (Option LaneReport))
+        → ReportsFrom m history k lanes reports → EachCovered lanes reports 0 → NoneRose lanes → NoneInterrupted reports }
 {}
 
 /// Connections that are told one after another are told together.
@@ -68,17 +70,17 @@ pub fn connections_are_told_together()
 /// Counts of connections that are told together add up.
 pub fn counts_add_up()
     ensures answered { (first then : List Ending) → answered_in (first ++ then) ≡ answered_in first + answered_in then }
-    ensures early { (first then : List Ending) → interrupted_in (first ++ then) ≡ interrupted_in first + interrupted_in then }
+    ensures interrupted { (first then : List Ending) → interrupted_in (first ++ then) ≡ interrupted_in first + interrupted_in then }
     ensures faulted { (first then : List Ending) → faulted_in (first ++ then) ≡ faulted_in first + faulted_in then }
     ensures halted { (first then : List Ending) → halted_in (first ++ then) ≡ halted_in first + halted_in then }
 {}
 
 /// Where the host had not halted, and has since, and the pass made no Halt since, another pass has halted.
 pub fn a_halt_since_then_is_of_another()
-    ensures { (k : ℕ) (early late : List Signed)
-        → (state_at early).halted ≡ false → (state_at (early ++ late)).halted ≡ true
-        → list_any is_halt (entries (mine k late)) ≡ false
-        → another_halted k (early ++ late) ≡ true }
+    ensures { (k : ℕ) (seen since : List Signed)
+        → (state_at seen).halted ≡ false → (state_at (seen ++ since)).halted ≡ true
+        → list_any is_halt (entries (mine k since)) ≡ false
+        → another_halted k (seen ++ since) ≡ true }
 {}
 
 /// What is known of a connection that is served goes on from nothing: with bytes that come, with its end, and with each request

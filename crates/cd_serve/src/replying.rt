@@ -1,12 +1,11 @@
 //! An answer is sent on the connection of a lane, and its lines are logged.
-ghost use Rattle.std.specs.Prelude.{◌≡◌, ◌≤◌, List, ℕ, true, false, option_map, map};
+ghost use Rattle.std.specs.Prelude.{◌≡◌, List, ℕ, true, false, option_map, map};
 ghost use Rattle.cd_outside.specs.declared.given.Given.TheVariants as given;
-ghost use Rattle.cd_outside.specs.Counts.{Rose};
 ghost use Rattle.cd_outside.specs.Given.{IsGivenOf};
 ghost use Rattle.cd_outside.specs.Past.{after_put};
 ghost use Rattle.cd_serve.specs.declared.how.How.TheVariants as how;
 ghost use Rattle.cd_serve.specs.Meanings.{logged, sent};
-ghost use Rattle.cd_serve.specs.Requests.{is_fault, IsSent, IsLogged};
+ghost use Rattle.cd_serve.specs.Requests.{is_fault, IsLogged, IsSent, KeepsConnection};
 
 use crate::how::How;
 use crate::sending::{says_close, sent};
@@ -24,10 +23,8 @@ pub(crate) fn reply_with<L: Lane>(
     lines: &[Line],
 ) -> How
     requires { L.busy lane.old ≡ true }
-    ensures busy { L.busy lane.new ≡ true }
     ensures sent { IsSent result request.now answer.now (map logged lines.now) (L.past lane.old) (L.past lane.new) }
-    ensures later { L.faults lane.old ≤ L.faults lane.new }
-    ensures failed { is_fault result ≡ true → Rose (L.faults lane.old) (L.faults lane.new) }
+    ensures lane { KeepsConnection (is_fault result ≡ true) (L.busy lane.new) (L.faults lane.old) (L.faults lane.new) }
 {
     let Ok(bytes) = sent(alloc, request, answer) else {
         return How::NoMemory;
@@ -45,11 +42,9 @@ pub(crate) fn send<L: Lane>(
 ) -> How
     requires busy { L.busy lane.old ≡ true }
     requires bytes { bytes.now ≡ sent request.now answer.now }
-    ensures busy { L.busy lane.new ≡ true }
     ensures sent { IsSent result request.now answer.now (map logged lines.now) (L.past lane.old) (L.past lane.new) }
     ensures made { ¬ (result ≡ how.NoMemory) }
-    ensures later { L.faults lane.old ≤ L.faults lane.new }
-    ensures failed { is_fault result ≡ true → Rose (L.faults lane.old) (L.faults lane.new) }
+    ensures lane { KeepsConnection (is_fault result ≡ true) (L.busy lane.new) (L.faults lane.old) (L.faults lane.new) }
 {
     match put(lane, bytes) {
         Given::Failed => return How::Failed,
@@ -64,10 +59,8 @@ pub(crate) fn send<L: Lane>(
 /// Puts these bytes, which may be none.
 pub(crate) fn put<L: Lane>(lane: &mut L, bytes: &[u8]) -> Given
     requires { L.busy lane.old ≡ true }
-    ensures busy { L.busy lane.new ≡ true }
     ensures past { (part : List ℕ) × IsGivenOf result part bytes.now × (L.past lane.new ≡ option_map (after_put part) (L.past lane.old)) }
-    ensures later { L.faults lane.old ≤ L.faults lane.new }
-    ensures failed { result ≡ given.Failed → Rose (L.faults lane.old) (L.faults lane.new) }
+    ensures lane { KeepsConnection (result ≡ given.Failed) (L.busy lane.new) (L.faults lane.old) (L.faults lane.new) }
 {
     if bytes.is_empty() {
         return Given::All;
@@ -78,10 +71,8 @@ pub(crate) fn put<L: Lane>(lane: &mut L, bytes: &[u8]) -> Given
 // Gives each line to its writer, until one fails. Says whether all were given.
 fn log_all<L: Lane>(lane: &mut L, lines: &[Line]) -> bool
     requires { L.busy lane.old ≡ true }
-    ensures busy { L.busy lane.new ≡ true }
     ensures logged { IsLogged result (map logged lines.now) (L.past lane.old) (L.past lane.new) }
-    ensures later { L.faults lane.old ≤ L.faults lane.new }
-    ensures failed { result ≡ false → Rose (L.faults lane.old) (L.faults lane.new) }
+    ensures lane { KeepsConnection (result ≡ false) (L.busy lane.new) (L.faults lane.old) (L.faults lane.new) }
 {
     let mut next = 0;
     'logging: while next < lines.len() {

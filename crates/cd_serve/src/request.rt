@@ -1,14 +1,12 @@
 //! One request is served.
-ghost use Rattle.std.specs.Prelude.{◌≡◌, ◌≤◌, [], Some, None, true};
-ghost use Rattle.cd_outside.specs.Counts.{Rose};
+ghost use Rattle.std.specs.Prelude.{◌≡◌, ◌≤◌, Some, true};
 ghost use Rattle.cd_legal.specs.declared.limits.TheConstants.{MAX_BEGINS};
 ghost use Rattle.cd_legal.specs.Begins.{begins_now};
 ghost use Rattle.cd_legal.specs.Entry.{entries};
 ghost use Rattle.cd_legal.specs.Legal.{state_at};
 ghost use Rattle.cd_gate.specs.Passes.{view};
-ghost use Rattle.cd_hall.specs.Calls.{IsPassOf};
 ghost use Rattle.cd_serve.specs.declared.how.How.TheVariants as how;
-ghost use Rattle.cd_serve.specs.Requests.{RequestServed, ServedOnce, OwesNothing, is_fault_in};
+ghost use Rattle.cd_serve.specs.Requests.{KeepsConnection, MayServe, RequestServed, ServedOnce, is_fault_in};
 
 use crate::acting::act;
 use crate::concluding::conclude;
@@ -35,15 +33,10 @@ pub(crate) fn serve_request<R: Wait, M: Administered, F: Fixtures, L: Lane>(
     at: &Address,
     request: &Request,
 ) -> How
-    requires pass { IsPassOf hall.now pass.old }
-    requires free { OwesNothing (view pass.old) }
-    requires busy { L.busy lane.old ≡ true }
-    ensures pass { IsPassOf hall.now pass.new }
-    ensures free { OwesNothing (view pass.new) }
-    ensures busy { L.busy lane.new ≡ true }
+    requires may { MayServe hall.now pass.old (L.busy lane.old) }
+    ensures may { MayServe hall.now pass.new (L.busy lane.new) }
     ensures served { RequestServed (record { acts = M.acts; plan = M.plan }) at.now request.now result (view pass.old) (view pass.new) (L.past lane.old) (L.past lane.new) }
-    ensures later { L.faults lane.old ≤ L.faults lane.new }
-    ensures failed { is_fault_in (Some result) ≡ true → Rose (L.faults lane.old) (L.faults lane.new) }
+    ensures lane { KeepsConnection (is_fault_in (Some result) ≡ true) (L.busy lane.new) (L.faults lane.old) (L.faults lane.new) }
     ensures halted { result ≡ how.Halted → (state_at (view pass.new).seen).halted ≡ true }
     ensures worn { result ≡ how.Worn → MAX_BEGINS ≤ begins_now (entries (view pass.new).seen) }
 {
@@ -66,15 +59,10 @@ fn serve_once<R: Wait, M: Administered, F: Fixtures, L: Lane>(
     at: &Address,
     request: &Request,
 ) -> Option<How>
-    requires pass { IsPassOf hall.now pass.old }
-    requires free { OwesNothing (view pass.old) }
-    requires busy { L.busy lane.old ≡ true }
-    ensures pass { IsPassOf hall.now pass.new }
-    ensures free { OwesNothing (view pass.new) }
-    ensures busy { L.busy lane.new ≡ true }
+    requires may { MayServe hall.now pass.old (L.busy lane.old) }
+    ensures may { MayServe hall.now pass.new (L.busy lane.new) }
     ensures served { ServedOnce (record { acts = M.acts; plan = M.plan }) at.now request.now result (view pass.old) (view pass.new) (L.past lane.old) (L.past lane.new) }
-    ensures later { L.faults lane.old ≤ L.faults lane.new }
-    ensures failed { is_fault_in result ≡ true → Rose (L.faults lane.old) (L.faults lane.new) }
+    ensures lane { KeepsConnection (is_fault_in result ≡ true) (L.busy lane.new) (L.faults lane.old) (L.faults lane.new) }
     ensures halted { result ≡ Some how.Halted → (state_at (view pass.new).seen).halted ≡ true }
     ensures worn { result ≡ Some how.Worn → MAX_BEGINS ≤ begins_now (entries (view pass.new).seen) }
 {

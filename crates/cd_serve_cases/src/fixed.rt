@@ -6,7 +6,7 @@ ghost use Rattle.cd_serve_cases.specs.Fixed.{fixed_plan, plan_at, is_true_layer}
 
 use cd_legal::{Plan, PlanApp};
 use cd_module::LoadFault;
-use cd_module_set::{Line, Loaded, ModuleSet, Target};
+use cd_module_set::{Line, Loaded, ModuleSet, Responder, Target};
 use cd_outside::{Address, Key};
 use cd_text::{List, NoMemory, Text};
 use cd_tree::Tree;
@@ -34,6 +34,9 @@ impl ModuleSet for Fixed {
 
     ghost form = { λ form. fixed_acts form.running };
 
+    // No app answers, so nothing is known of the numbers.
+    ghost responds = { λ form at responder. Unit {0} };
+
     ghost change = { fixed_change };
 
     fn nothing(_alloc: Global) -> Result<Form, NoMemory> {
@@ -52,11 +55,11 @@ impl ModuleSet for Fixed {
         })
     }
 
-    fn target(compiled: &Form, _at: &Address) -> Target {
+    fn target(compiled: &Form, _at: &Address) -> Responder {
         if compiled.running {
-            Target::Admin
+            without_numbers(Target::Admin)
         } else {
-            Target::Nobody
+            without_numbers(Target::Nobody)
         }
     }
 
@@ -64,6 +67,7 @@ impl ModuleSet for Fixed {
         _alloc: Global,
         _compiled: &'a Form,
         _at: &Address,
+        _responder: Responder,
         _request: &'a Request,
     ) -> Result<Option<Answer<'a>>, NoMemory> {
         Ok(None)
@@ -73,10 +77,21 @@ impl ModuleSet for Fixed {
         alloc: Global,
         _compiled: &Form,
         _at: &Address,
+        _responder: Responder,
         _request: &Request,
         _answer: &Answer<'_>,
     ) -> Result<List<Line>, NoMemory> {
         Ok(List::new(alloc))
+    }
+}
+
+fn without_numbers(target: Target) -> Responder
+    ensures { result ≡ record { target = target; app = 0; server = 0 } }
+{
+    Responder {
+        target,
+        app: 0,
+        server: 0,
     }
 }
 

@@ -13,18 +13,18 @@ start_first-start-requires-clause-free g c κs within = free-first c.take_root-r
 pub end_run-fixtures-requires-clause-number : goal.end_run-fixtures-requires-clause-number
 end_run-fixtures-requires-clause-number g c κs within =
     let s = c.start_first-start.ensures.started in
-    number-kept (view c.take_root-root.result) (view c.start_first-start.new.pass) (view c.serve_or_leave-counts.new.root) s.made s.signed c.serve_or_leave-counts.ensures.same c.take_root-root.ensures.root.idle.number
+    number-kept (view c.take_root-root.result) (view c.start_first-start.new.pass) (view c.serve_or_leave-counts.new.root) s.made s.signed c.serve_or_leave-counts.ensures.back.same c.take_root-root.ensures.root.idle.number
 
 pub end_run-fixtures-requires-clause-made : goal.end_run-fixtures-requires-clause-made
 end_run-fixtures-requires-clause-made g c κs within =
     let s = c.start_first-start.ensures.started in
-    made-kept (view c.take_root-root.result) (view c.start_first-start.new.pass) (view c.serve_or_leave-counts.new.root) s.made s.signed c.serve_or_leave-counts.ensures.same
-    ∙ c.take_root-root.ensures.new.1 ∙ sym (ap (λ n. n + 1) c.serve_or_leave-counts.ensures.count.0)
+    made-kept (view c.take_root-root.result) (view c.start_first-start.new.pass) (view c.serve_or_leave-counts.new.root) s.made s.signed c.serve_or_leave-counts.ensures.back.same
+    ∙ c.take_root-root.ensures.new.1 ∙ sym (ap (λ n. n + 1) c.serve_or_leave-counts.ensures.back.as_many_passes)
 
 pub end_run-fixtures-requires-clause-joined : goal.end_run-fixtures-requires-clause-joined
 end_run-fixtures-requires-clause-joined g c κs within =
     let s = c.start_first-start.ensures.started in
-    joined-kept (view c.take_root-root.result) (view c.start_first-start.new.pass) (view c.serve_or_leave-counts.new.root) s.made s.signed c.serve_or_leave-counts.ensures.same
+    joined-kept (view c.take_root-root.result) (view c.start_first-start.new.pass) (view c.serve_or_leave-counts.new.root) s.made s.signed c.serve_or_leave-counts.ensures.back.same
     ∙ c.take_root-root.ensures.new.2
 
 pub returns-clause-promises : goal.returns-clause-promises
@@ -43,8 +43,8 @@ returns-clause-promises g c =
       start = s.start;
       alone = λ alone. s.alone c.take_root-root.ensures.root.idle.number alone c.take_root-root.ensures.new.0;
       which = goes-with c.start_first-start.result s.start c.announce-how.result s.is c.announce-how.ensures.follows;
-      told = c.serve_or_leave-counts.ensures.seen;
-      same = c.serve_or_leave-counts.ensures.same;
+      told = c.serve_or_leave-counts.ensures.back.seen;
+      same = c.serve_or_leave-counts.ensures.back.same;
       closed = end.1;
       come = come-together (view c.serve_or_leave-counts.new.root) c.serve_or_leave-counts.new.passes.items end.0 end.1 _ _ _ _ _ _ c.serve_or_leave-counts.ensures.gone;
       planned = c.args.first.planned;

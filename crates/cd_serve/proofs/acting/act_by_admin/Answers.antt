@@ -21,11 +21,19 @@ returns-in-Ok-Reply-clause-acted g c =
       there = c.requires.admin;
       comes_to = ap (λ (t : Tree). decided g.M.ModuleSet.plan t q) (sym c.tree.ensures) ∙ sym exact;
     } in
-    acted-quietly m c.args.at.now q conf c.args.ticket.now.serial c.reply_with.result (view c.args.pass.now) (g.L.Lane.past c.args.lane.now) (g.L.Lane.past c.reply_with.new.lane) c.requires.ticket.history
-    (quiet-answer m c.args.at.now q conf c.args.ticket.now.serial c.in-Ok-Reply.answer [] c.reply_with.result (g.L.Lane.past c.args.lane.now) (g.L.Lane.past c.reply_with.new.lane) (inr (d, refl)) c.reply_with.ensures.sent)
+    record {
+      pass = c.requires.may.pass;
+      owes = c.requires.may.owes;
+      acted = acted-quietly m c.args.at.now q conf c.args.ticket.now.serial c.reply_with.result (view c.args.pass.now) (g.L.Lane.past c.args.lane.now) (g.L.Lane.past c.reply_with.new.lane) c.requires.may.ticket.history
+          (quiet-answer m c.args.at.now q conf c.args.ticket.now.serial c.in-Ok-Reply.answer [] c.reply_with.result (g.L.Lane.past c.args.lane.now) (g.L.Lane.past c.reply_with.new.lane) (inr (d, refl)) c.reply_with.ensures.sent);
+    }
 
 pub returns-in-Err-clause-acted : goal.returns-in-Err-clause-acted
 returns-in-Err-clause-acted g c =
     let m : Meaning = record { acts = g.M.ModuleSet.acts; plan = g.M.ModuleSet.plan } in
-    acted-quietly m c.args.at.now c.args.request.now (conf_in c.args.ticket.now.share) c.args.ticket.now.serial _ (view c.args.pass.now) (g.L.Lane.past c.args.lane.now) (g.L.Lane.past c.args.lane.now) c.requires.ticket.history
-    (quiet-lacking m c.args.at.now c.args.request.now (conf_in c.args.ticket.now.share) c.args.ticket.now.serial (g.L.Lane.past c.args.lane.now))
+    record {
+      pass = c.requires.may.pass;
+      owes = c.requires.may.owes;
+      acted = acted-quietly m c.args.at.now c.args.request.now (conf_in c.args.ticket.now.share) c.args.ticket.now.serial _ (view c.args.pass.now) (g.L.Lane.past c.args.lane.now) (g.L.Lane.past c.args.lane.now) c.requires.may.ticket.history
+          (quiet-lacking m c.args.at.now c.args.request.now (conf_in c.args.ticket.now.share) c.args.ticket.now.serial (g.L.Lane.past c.args.lane.now));
+    }

@@ -1,4 +1,4 @@
-use Rattle.std.proofs.Common.{[], subst}
+use Rattle.std.proofs.Common.{[], rules, subst}
 use Rattle.cd_wire.specs.declared.answer.Answer.{Answer}
 use Rattle.cd_gate.specs.Passes.{view}
 use Rattle.cd_life.specs.Shares.{conf_in}
@@ -11,17 +11,29 @@ use Rattle.cd_serve.proofs.changing.halt.Goals as goal
 pub returns-then-halt_host-clause-acted : goal.returns-then-halt_host-clause-acted
 returns-then-halt_host-clause-acted g c =
     let h = c.halt_host.ensures.halts c.if-halt_host.true in
-    acted-halted (record { acts = g.M.ModuleSet.acts; plan = g.M.ModuleSet.plan }) c.args.at.now c.args.request.now (conf_in c.args.ticket.now.share) c.args.ticket.now.serial (view c.args.pass.now) (view c.halt_host.new.pass) h.0 c.send.result (g.L.Lane.past c.args.lane.now) (g.L.Lane.past c.send.new.lane)
-    c.requires.decides h.1 h.2 (subst (λ (r : Answer). IsSent c.send.result c.args.request.now r [] (g.L.Lane.past c.args.lane.now) (g.L.Lane.past c.send.new.lane)) c.halted_answer-answer.ensures c.send.ensures.sent) c.send.ensures.made
+    record {
+      pass = c.halt_host.ensures.pass;
+      owes = search rules;
+      acted = acted-halted (record { acts = g.M.ModuleSet.acts; plan = g.M.ModuleSet.plan }) c.args.at.now c.args.request.now (conf_in c.args.ticket.now.share) c.args.ticket.now.serial (view c.args.pass.now) (view c.halt_host.new.pass) h.0 c.send.result (g.L.Lane.past c.args.lane.now) (g.L.Lane.past c.send.new.lane)
+          c.requires.decides h.1 h.2 (subst (λ (r : Answer). IsSent c.send.result c.args.request.now r [] (g.L.Lane.past c.args.lane.now) (g.L.Lane.past c.send.new.lane)) c.halted_answer-answer.ensures c.send.ensures.sent) c.send.ensures.made;
+    }
 
 pub returns-clause-acted : goal.returns-clause-acted
 returns-clause-acted g c =
     let h = c.halt_host.ensures.halted c.if-halt_host.false in
-    acted-halted_before (record { acts = g.M.ModuleSet.acts; plan = g.M.ModuleSet.plan }) c.args.at.now c.args.request.now (conf_in c.args.ticket.now.share) c.args.ticket.now.serial (view c.args.pass.now) (view c.halt_host.new.pass) (g.L.Lane.past c.args.lane.now)
-    c.requires.decides h.0 (λ running. another-since (view c.args.pass.now) (view c.halt_host.new.pass) c.args.ticket.now c.requires.ticket h.0.places running h.1)
+    record {
+      pass = c.halt_host.ensures.pass;
+      owes = search rules;
+      acted = acted-halted_before (record { acts = g.M.ModuleSet.acts; plan = g.M.ModuleSet.plan }) c.args.at.now c.args.request.now (conf_in c.args.ticket.now.share) c.args.ticket.now.serial (view c.args.pass.now) (view c.halt_host.new.pass) (g.L.Lane.past c.args.lane.now)
+          c.requires.decides h.0 (λ running. another-since (view c.args.pass.now) (view c.halt_host.new.pass) c.args.ticket.now c.requires.may.ticket h.0.places running h.1);
+    }
 
 pub returns-in_default-clause-acted : goal.returns-in_default-clause-acted
 returns-in_default-clause-acted g c =
     let m : Meaning = record { acts = g.M.ModuleSet.acts; plan = g.M.ModuleSet.plan } in
-    acted-quietly m c.args.at.now c.args.request.now (conf_in c.args.ticket.now.share) c.args.ticket.now.serial _ (view c.args.pass.now) (g.L.Lane.past c.args.lane.now) (g.L.Lane.past c.args.lane.now) c.requires.ticket.history
-    (quiet-lacking m c.args.at.now c.args.request.now (conf_in c.args.ticket.now.share) c.args.ticket.now.serial (g.L.Lane.past c.args.lane.now))
+    record {
+      pass = c.requires.may.pass;
+      owes = c.requires.may.owes;
+      acted = acted-quietly m c.args.at.now c.args.request.now (conf_in c.args.ticket.now.share) c.args.ticket.now.serial _ (view c.args.pass.now) (g.L.Lane.past c.args.lane.now) (g.L.Lane.past c.args.lane.now) c.requires.may.ticket.history
+          (quiet-lacking m c.args.at.now c.args.request.now (conf_in c.args.ticket.now.share) c.args.ticket.now.serial (g.L.Lane.past c.args.lane.now));
+    }

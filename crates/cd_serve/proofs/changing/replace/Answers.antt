@@ -1,4 +1,4 @@
-use Rattle.std.proofs.Common.{◌∙◌, [], sym, subst}
+use Rattle.std.proofs.Common.{[], rules, subst}
 use Rattle.cd_wire.specs.declared.answer.Answer.{Answer}
 use Rattle.cd_gate.specs.Passes.{view}
 use Rattle.cd_life.specs.Shares.{conf_in}
@@ -14,9 +14,13 @@ returns-in-Published-clause-acted g c =
     let a = c.in-Published.ensures.attempted in
     let v = view c.args.pass.now in
     let w = view c.attempt_change.new.pass in
-    acted-published m c.args.at.now c.args.request.now (conf_in c.args.ticket.now.share) c.args.ticket.now.serial v w c.args.loaded.tree a.0 c.send.result (g.L.Lane.past c.args.lane.now) (g.L.Lane.past c.send.new.lane)
-    c.requires.decides a.1 a.2
-    (subst (λ (r : Answer). IsSent c.send.result c.args.request.now r [] (g.L.Lane.past c.args.lane.now) (g.L.Lane.past c.send.new.lane)) c.done-answer.ensures c.send.ensures.sent) c.send.ensures.made
+    record {
+      pass = c.attempt_change.ensures.pass;
+      owes = search rules;
+      acted = acted-published m c.args.at.now c.args.request.now (conf_in c.args.ticket.now.share) c.args.ticket.now.serial v w c.args.loaded.tree a.0 c.send.result (g.L.Lane.past c.args.lane.now) (g.L.Lane.past c.send.new.lane)
+          c.requires.decides a.1 a.2
+          (subst (λ (r : Answer). IsSent c.send.result c.args.request.now r [] (g.L.Lane.past c.args.lane.now) (g.L.Lane.past c.send.new.lane)) c.done-answer.ensures c.send.ensures.sent) c.send.ensures.made;
+    }
 
 pub returns-in-Superseded-clause-acted : goal.returns-in-Superseded-clause-acted
 returns-in-Superseded-clause-acted g c =
@@ -24,7 +28,11 @@ returns-in-Superseded-clause-acted g c =
     let a = c.in-Superseded.ensures.attempted in
     let v = view c.args.pass.now in
     let w = view c.attempt_change.new.pass in
-    acted-superseded m c.args.at.now c.args.request.now (conf_in c.args.ticket.now.share) c.args.ticket.now.serial v w c.args.loaded.tree a.0 (g.L.Lane.past c.args.lane.now) c.requires.decides a.1 a.2
+    record {
+      pass = c.attempt_change.ensures.pass;
+      owes = search rules;
+      acted = acted-superseded m c.args.at.now c.args.request.now (conf_in c.args.ticket.now.share) c.args.ticket.now.serial v w c.args.loaded.tree a.0 (g.L.Lane.past c.args.lane.now) c.requires.decides a.1 a.2;
+    }
 
 pub returns-in-Refused-clause-acted : goal.returns-in-Refused-clause-acted
 returns-in-Refused-clause-acted g c =
@@ -32,16 +40,28 @@ returns-in-Refused-clause-acted g c =
     let a = c.in-Refused.ensures.attempted in
     let v = view c.args.pass.now in
     let w = view c.attempt_change.new.pass in
-    acted-refused m c.args.at.now c.args.request.now (conf_in c.args.ticket.now.share) c.args.ticket.now.serial v w c.args.loaded.tree c.in-Refused.fault a.0 c.refuse.result (g.L.Lane.past c.args.lane.now) (g.L.Lane.past c.refuse.new.lane)
-    c.requires.decides a.1 a.2 c.refuse.ensures.sent
+    record {
+      pass = c.attempt_change.ensures.pass;
+      owes = search rules;
+      acted = acted-refused m c.args.at.now c.args.request.now (conf_in c.args.ticket.now.share) c.args.ticket.now.serial v w c.args.loaded.tree c.in-Refused.fault a.0 c.refuse.result (g.L.Lane.past c.args.lane.now) (g.L.Lane.past c.refuse.new.lane)
+          c.requires.decides a.1 a.2 c.refuse.ensures.sent;
+    }
 
 pub returns-clause-acted : goal.returns-clause-acted
 returns-clause-acted g c =
     let a = c.in-Lacking.ensures.attempted in
-    acted-lacking (record { acts = g.M.ModuleSet.acts; plan = g.M.ModuleSet.plan }) c.args.at.now c.args.request.now (conf_in c.args.ticket.now.share) c.args.ticket.now.serial (view c.args.pass.now) (view c.attempt_change.new.pass) a.0 (g.L.Lane.past c.args.lane.now) a.1 a.2
+    record {
+      pass = c.attempt_change.ensures.pass;
+      owes = search rules;
+      acted = acted-lacking (record { acts = g.M.ModuleSet.acts; plan = g.M.ModuleSet.plan }) c.args.at.now c.args.request.now (conf_in c.args.ticket.now.share) c.args.ticket.now.serial (view c.args.pass.now) (view c.attempt_change.new.pass) a.0 (g.L.Lane.past c.args.lane.now) a.1 a.2;
+    }
 
 pub returns-in_default-clause-acted : goal.returns-in_default-clause-acted
 returns-in_default-clause-acted g c =
     let m : Meaning = record { acts = g.M.ModuleSet.acts; plan = g.M.ModuleSet.plan } in
-    acted-quietly m c.args.at.now c.args.request.now (conf_in c.args.ticket.now.share) c.args.ticket.now.serial _ (view c.args.pass.now) (g.L.Lane.past c.args.lane.now) (g.L.Lane.past c.args.lane.now) c.requires.ticket.history
-    (quiet-lacking m c.args.at.now c.args.request.now (conf_in c.args.ticket.now.share) c.args.ticket.now.serial (g.L.Lane.past c.args.lane.now))
+    record {
+      pass = c.requires.may.pass;
+      owes = c.requires.may.owes;
+      acted = acted-quietly m c.args.at.now c.args.request.now (conf_in c.args.ticket.now.share) c.args.ticket.now.serial _ (view c.args.pass.now) (g.L.Lane.past c.args.lane.now) (g.L.Lane.past c.args.lane.now) c.requires.may.ticket.history
+          (quiet-lacking m c.args.at.now c.args.request.now (conf_in c.args.ticket.now.share) c.args.ticket.now.serial (g.L.Lane.past c.args.lane.now));
+    }

@@ -20,8 +20,8 @@ returns-clause-goes g c v old then first faults so_far le came =
     subst (λ (a : ℕ). LaneGoesOn m first failed a c.cut_after-counts.result (cond e.halted 1 0) v x old past) (sym more)
     (subst (λ (a : ℕ). LaneGoesOn m first failed (min (n + e.answered) count_end) a (cond e.halted 1 0) v x old past) (sym c.cut_after-counts.ensures)
     (subst (λ (h : ℕ). LaneGoesOn m first failed (min (n + e.answered) count_end) (cut_by e.cause c.args.counts.now.cut) h v x old past) none
-    (lane-more m c.args.at.now first faults (g.L.Lane.faults c.args.lane.now) failed n c.args.counts.now.cut 0 e v (view c.args.pass.now) x old then (g.L.Lane.past c.args.lane.now) past so_far le came c.serve_connection-end.ensures.cause c.serve_connection-end.ensures.served)))
+    (lane-more m c.args.at.now first faults (g.L.Lane.faults c.args.lane.now) failed n c.args.counts.now.cut 0 e v (view c.args.pass.now) x old then (g.L.Lane.past c.args.lane.now) past so_far le came c.serve_connection-end.ensures.ends.cause c.serve_connection-end.ensures.ends.served)))
 
 pub returns-clause-last : goal.returns-clause-last
 returns-clause-last g c then came =
-    connection-last (record { acts = g.M.ModuleSet.acts; plan = g.M.ModuleSet.plan }) c.args.at.now c.serve_connection-end.result (view c.args.pass.now) (view c.serve_connection-end.new.pass) then (g.L.Lane.past c.args.lane.now) (g.L.Lane.past c.serve_connection-end.new.lane) came c.serve_connection-end.ensures.served
+    connection-last (record { acts = g.M.ModuleSet.acts; plan = g.M.ModuleSet.plan }) c.args.at.now c.serve_connection-end.result (view c.args.pass.now) (view c.serve_connection-end.new.pass) then (g.L.Lane.past c.args.lane.now) (g.L.Lane.past c.serve_connection-end.new.lane) came c.serve_connection-end.ensures.ends.served

@@ -6,9 +6,7 @@ use Rattle.cd_serve.proofs.request.serve_request.Goals as goal
 pub loop-init : goal.loop-init
 loop-init g c = record {
   turns = (tt, tt);
-  pass = c.requires.pass;
-  free = c.requires.free;
-  busy = c.requires.busy;
+  may = c.requires.may;
   later = omega arith;
   repeats = repeats-none (record { acts = g.M.ModuleSet.acts; plan = g.M.ModuleSet.plan }) c.args.at.now c.args.request.now (view c.args.pass.now) (g.L.Lane.past c.args.lane.now);
 }
@@ -16,10 +14,8 @@ loop-init g c = record {
 pub loop-preserved : goal.loop-preserved
 loop-preserved g c = record {
   turns = (tt, tt);
-  pass = c.serve_once.ensures.pass;
-  free = c.serve_once.ensures.free;
-  busy = c.serve_once.ensures.busy;
-  later = omega (arith, c.loop.invariant.later, c.serve_once.ensures.later);
+  may = c.serve_once.ensures.may;
+  later = omega (arith, c.loop.invariant.later, c.serve_once.ensures.lane.later);
   repeats = repeats-more (record { acts = g.M.ModuleSet.acts; plan = g.M.ModuleSet.plan }) c.args.at.now c.args.request.now (view c.args.pass.now) (view c.loop.pass) (view c.serve_once.new.pass) (g.L.Lane.past c.args.lane.now) (g.L.Lane.past c.loop.lane) (g.L.Lane.past c.serve_once.new.lane) c.loop.invariant.repeats c.in-None-serve_once.ensures.served;
 }
 
