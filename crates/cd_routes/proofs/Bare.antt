@@ -87,7 +87,7 @@ protocols-bare ms at = search (rules, ▷-same, optional-bare, unread_object-bar
 
 members_of_server-bare : (name : List ℕ) (known : List KnownName) (ms : List Member) (at : Path) → server_members name known (no_ids (map bare_member ms)) at ≡ server_members name known ms at
 unfolding server_members
-members_of_server-bare name known ms at = search (rules, ▷-same, needed-bare, listen-bare, optional-bare, routes-bare, error_routes-bare, named_routes-bare, timeouts-bare, protocols-bare)
+members_of_server-bare name known ms at = search (rules, ▷-same, needed-bare, listen-bare, optional-bare, routes-bare, error_routes-bare, named_routes-bare, unread_object-bare, timeouts-bare, protocols-bare)
 
 pub server-bare : (name : List ℕ) → SeesNoIds (server name)
 unfolding server

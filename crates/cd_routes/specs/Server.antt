@@ -1,6 +1,6 @@
 -- Part of the main theorem.
 -- A server in a configuration, and the first fault there (Caddy, JSON Config Structure, http.servers).
-use Rattle.std.specs.Prelude.{ℕ, ◌&&◌, Bool, true, List, [], ◌∷◌, map, codes, unwrap_or, Result, Ok, Err}
+use Rattle.std.specs.Prelude.{ℕ, ◌&&◌, Bool, true, List, [], ◌∷◌, map, codes, is_some, unwrap_or, Result, Ok, Err}
 use Rattle.std.specs.List.{flat_map, list_all}
 use Rattle.cd_text.specs.Steps.{◌▷◌}
 use Rattle.cd_tree.specs.Tree.{is_below}
@@ -74,21 +74,22 @@ protocols ms at =
 
 -- ---- the whole
 
--- its members, where these are the names of its named routes
+-- its members, where these are the names of its named routes; of `logs` only whether it is there has an effect
 unfoldable pub server_members : List ℕ → List KnownName → List Member → Path → Result Server LoadFault
 server_members name known ms at =
     needed listen (codes "listen") ms at ▷ λ addresses.
     optional (routes known) (codes "routes") ms at ▷ λ found.
     optional (error_routes (routes known)) (codes "errors") ms at ▷ λ errors.
     optional (named_routes_read known) (codes "named_routes") ms at ▷ λ named.
+    optional unread_object (codes "logs") ms at ▷ λ logs.
     timeouts ms at ▷ λ _.
     protocols ms at ▷ λ _.
-    Ok (record { name = name; listen = addresses; routes = unwrap_or found []; errors = errors; named = unwrap_or named [] })
+    Ok (record { name = name; listen = addresses; routes = unwrap_or found []; errors = errors; named = unwrap_or named []; logs = is_some logs })
 
 -- a server of that name
 unfoldable pub server : List ℕ → Reader Server
 server name t at =
-    members (codes "listen routes errors named_routes read_timeout read_header_timeout write_timeout idle_timeout keepalive_interval max_header_bytes automatic_https protocols strict_sni_host") t at ▷ λ ms.
+    members (codes "listen routes errors named_routes logs read_timeout read_header_timeout write_timeout idle_timeout keepalive_interval max_header_bytes automatic_https protocols strict_sni_host") t at ▷ λ ms.
     server_members name (known_names ms at) ms at
 
 -- ---- names

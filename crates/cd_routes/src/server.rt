@@ -24,6 +24,8 @@ pub struct Server {
     pub errors: Option<List<Route>>,
     /// What handlers invoke, by rising name.
     pub named: List<NamedRoute>,
+    /// Whether its requests are logged, which is where it has a `logs`.
+    pub logs: bool,
 }
 
 // Times and sizes, which have no effect so far.
@@ -66,6 +68,7 @@ fn read_members(
     let routes = read_routes_member(alloc, known, fields, at, "routes")?;
     let errors = read_errors_member(alloc, known, fields, at, "errors")?;
     let named = read_named_member(alloc, known, fields, at, "named_routes")?;
+    let logs = optional::<UnreadObject>(alloc, fields, at, "logs")?;
     read_timeouts(alloc, fields, at)?;
     read_protocols(alloc, fields, at)?;
     Ok(Server {
@@ -74,6 +77,7 @@ fn read_members(
         routes: routes.unwrap_or(List::new(alloc)),
         errors,
         named: named.unwrap_or(List::new(alloc)),
+        logs: logs.is_some(),
     })
 }
 
@@ -91,7 +95,7 @@ impl Named for Server {
             alloc,
             tree,
             at,
-            "listen routes errors named_routes read_timeout read_header_timeout write_timeout idle_timeout keepalive_interval max_header_bytes automatic_https protocols strict_sni_host",
+            "listen routes errors named_routes logs read_timeout read_header_timeout write_timeout idle_timeout keepalive_interval max_header_bytes automatic_https protocols strict_sni_host",
         )?;
         let known = known_names(alloc, &fields, at)?;
         read_members(alloc, name, known.as_slice(), &fields, at)

@@ -9,10 +9,11 @@
 //!                                                   has waited for the others in vain
 //! --                                                a line before what each connection was sent
 //! HTTP/1.1 200 OK
+//! logged stderr "s" GET / 200 0                     the lines that were logged while it was there
 //! ```
 use crate::resting::RestingLane;
 use cd_addr::write;
-use cd_outside::{Accepted, FixtureCall, Key, MemoryFixtures, MemorySink, Past};
+use cd_outside::{Accepted, FixtureCall, Key, Logged, MemoryFixtures, MemorySink, Past};
 use cd_program::Ended;
 use cd_rows::RowFault;
 use cd_text::{NoMemory, Octets};
@@ -134,6 +135,27 @@ fn append_sent(text: &mut Octets, past: &Past) -> Result<(), NoMemory> {
     for connection in past.connections.as_slice() {
         text.append(b"--\n")?;
         text.append(connection.put.as_slice())?;
+        append_lines(text, connection.lines.as_slice())?;
     }
     Ok(())
+}
+
+// The lines that were logged, each with its writer, on lines of their own.
+fn append_lines(text: &mut Octets, lines: &[Logged]) -> Result<(), NoMemory> {
+    if !lines.is_empty() {
+        text.push(b'\n')?;
+    }
+    for logged in lines {
+        append_line(text, logged)?;
+    }
+    Ok(())
+}
+
+fn append_line(text: &mut Octets, logged: &Logged) -> Result<(), NoMemory> {
+    text.append(b"logged ")?;
+    if let Key::Writer(name) = &logged.key {
+        text.append(name.as_str().as_bytes())?;
+    }
+    text.push(b' ')?;
+    text.append(logged.line.as_str().as_bytes())
 }

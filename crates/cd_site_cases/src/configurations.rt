@@ -1,5 +1,5 @@
-//! What whole configurations plan, and why others are refused: the modules, each with its path, and then the apps, each with the
-//! addresses that it opens; each on a line.
+//! What whole configurations plan, and why others are refused: the modules, each with its path and the writer that
+//! it opens, and then the apps, each with the addresses that it opens; each on a line.
 use crate::servers::refused;
 use cd_addr::write;
 use cd_legal::{Plan, PlanApp, PlanModule};
@@ -41,12 +41,17 @@ fn put_module(alloc: Global, module: &PlanModule, out: &mut Octets) -> Result<()
     out.append(module.name.as_str().as_bytes())?;
     out.push(b' ')?;
     out.append(at.as_str().as_bytes())?;
-    out.push(b'\n')
+    put_keys(alloc, module.keys.as_slice(), out)
 }
 
 fn put_app(alloc: Global, app: &PlanApp, out: &mut Octets) -> Result<(), NoMemory> {
     out.append(app.name.as_str().as_bytes())?;
-    for key in app.keys.as_slice() {
+    put_keys(alloc, app.keys.as_slice(), out)
+}
+
+// The keys, and the end of the line.
+fn put_keys(alloc: Global, keys: &[Key], out: &mut Octets) -> Result<(), NoMemory> {
+    for key in keys {
         put_key(alloc, key, out)?;
     }
     out.push(b'\n')

@@ -21,6 +21,7 @@ use Rattle.cd_routes.specs.contracts.route.Route as Route
 use Rattle.cd_routes.specs.contracts.named.NamedRoute as NamedRoute
 use Rattle.cd_routes.specs.contracts.server.Server as Server
 use Rattle.cd_admin.proofs.admin.Admin.TheSendSync as admin
+use Rattle.cd_log.proofs.logs.Logs.TheSendSync as logs
 use Rattle.cd_standard.proofs.echo.Echo.TheSendSync as echo
 use Rattle.cd_standard.specs.contracts.app.App as App
 use Rattle.cd_standard.specs.contracts.compiled.Compiled as Compiled
@@ -57,7 +58,7 @@ named_send : IsSend NamedRoute.the_row
 named_send = declared_send NamedRoute.the_type (text.the_send, (route_send, tt))
 
 pub server_send : IsSend Server.the_row
-server_send = declared_send Server.the_type (text.the_send, (listen.the_send, (list_send Route.the_row route_send, (lists_send Route.the_row route_send, (list_send NamedRoute.the_row named_send, tt)))))
+server_send = declared_send Server.the_type (text.the_send, (listen.the_send, (list_send Route.the_row route_send, (lists_send Route.the_row route_send, (list_send NamedRoute.the_row named_send, (truth_send, tt))))))
 
 http_send : IsSend Http.the_row
 http_send = declared_send Http.the_type (list_send Server.the_row server_send, tt)
@@ -66,7 +67,7 @@ app_send : IsSend App.the_row
 app_send = variants_send App.enum ((echo.the_send, tt), ((http_send, tt), tt))
 
 pub settings_send : IsSend Configuration.the_row
-settings_send = declared_send Configuration.the_type (admin.the_send, (list_send App.the_row app_send, tt))
+settings_send = declared_send Configuration.the_type (admin.the_send, (list_send App.the_row app_send, (logs.the_send, tt)))
 
 pub configuration_send : IsSend Compiled.the_row
 configuration_send = declared_send Compiled.the_type (settings_send, tt)
@@ -101,7 +102,7 @@ named_sync : IsSync NamedRoute.the_row
 named_sync = declared_sync NamedRoute.the_type (text.the_sync, (route_sync, tt))
 
 pub server_sync : IsSync Server.the_row
-server_sync = declared_sync Server.the_type (text.the_sync, (listen.the_sync, (list_sync Route.the_row route_sync, (lists_sync Route.the_row route_sync, (list_sync NamedRoute.the_row named_sync, tt)))))
+server_sync = declared_sync Server.the_type (text.the_sync, (listen.the_sync, (list_sync Route.the_row route_sync, (lists_sync Route.the_row route_sync, (list_sync NamedRoute.the_row named_sync, (truth_sync, tt))))))
 
 http_sync : IsSync Http.the_row
 http_sync = declared_sync Http.the_type (list_sync Server.the_row server_sync, tt)
@@ -110,7 +111,7 @@ app_sync : IsSync App.the_row
 app_sync = variants_sync App.enum ((echo.the_sync, tt), ((http_sync, tt), tt))
 
 pub settings_sync : IsSync Configuration.the_row
-settings_sync = declared_sync Configuration.the_type (admin.the_sync, (list_sync App.the_row app_sync, tt))
+settings_sync = declared_sync Configuration.the_type (admin.the_sync, (list_sync App.the_row app_sync, (logs.the_sync, tt)))
 
 pub configuration_sync : IsSync Compiled.the_row
 configuration_sync = declared_sync Compiled.the_type (settings_sync, tt)

@@ -22,7 +22,7 @@ use Rattle.cd_standard.specs.Acting.{acts_of, acts_of_tree, acts_in, plan_of_tre
 use Rattle.cd_standard.specs.Configuration.{configuration}
 use Rattle.cd_standard.specs.declared.checks.Check.TheVariants.{NamedRoutes}
 use Rattle.cd_standard.specs.Loading.{HaveNoCycle, servers_of, each_checked, accepted, judged, limits, loaded, nothing_said, of_ids, of_object, of_settings, planned, all_distinct}
-use Rattle.cd_standard.specs.Plans.{admin_plans, app_modules, app_plan, app_name, app_addresses, apps_of, modules_of, addresses_of, root}
+use Rattle.cd_standard.specs.Plans.{admin_plans, app_modules, apps_modules, app_plan, app_name, app_addresses, apps_of, modules_of, addresses_of, root, writer_modules}
 use Rattle.cd_legal.specs.declared.plan.PlanApp.{PlanApp}
 use Rattle.cd_standard.specs.declared.app.App.{App}
 use Rattle.cd_admin.specs.declared.admin.Admin.{Admin}
@@ -97,8 +97,9 @@ admin_alone false admin is = rw is (omega arith)
 few_planned : (c : Configuration) → length (modules_of c) ≤ MAX_MODULES → length (apps_of c) ≤ MAX_MODULES + 1
 few_planned c few =
     let plan : App → PlanApp = λ app. app_plan (app_name app) (app_addresses app) in
+    let writers = length-append (writer_modules c.logs) (apps_modules c.apps) in
     let count = length-append (admin_plans c.admin) (map plan c.apps) ∙ ap (λ (n : ℕ). length (admin_plans c.admin) + n) (length-map c.apps plan) in
-    omega (arith, count, few, apps_within (root ▸ codes "apps") c.apps, admin_alone c.admin.disabled c.admin refl)
+    omega (arith, count, writers, few, apps_within (root ▸ codes "apps") c.apps, admin_alone c.admin.disabled c.admin refl)
 
 pub plans_as_loaded : (t : Tree) (l : Configured) → loaded t ≡ Ok l → plan_of_tree t ≡ Ok l.plan
 plans_as_loaded t l h = ap (λ r. result_map_both (λ configured. configured.plan) (λ fault. fault) r) h

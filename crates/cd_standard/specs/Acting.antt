@@ -1,6 +1,6 @@
 -- Part of the main theorem.
--- What a configuration does: who answers at an address, and with what.
-use Rattle.std.specs.Prelude.{◌&&◌, ◌||◌, Bool, false, not, if◌then◌else◌, [], codes, Option, Some, None, is_some, Result, Ok, Err}
+-- What a configuration does: who answers at an address, with what, and what is logged of it.
+use Rattle.std.specs.Prelude.{◌&&◌, ◌||◌, Bool, false, not, if◌then◌else◌, List, [], codes, Option, Some, None, is_some, Result, Ok, Err}
 use Rattle.std.specs.List.{find, list_any}
 use Rattle.std.specs.Result.{result_map_both}
 use Rattle.cd_outside.specs.declared.address.Address.{Address}
@@ -15,9 +15,12 @@ use Rattle.cd_routes.specs.declared.listen.Listen.{Listen}
 use Rattle.cd_routes.specs.declared.server.Server.{Server}
 use Rattle.cd_legal.specs.declared.plan.Plan.{Plan}
 use Rattle.cd_module_set.specs.Acts.{Acts, nobody}
+use Rattle.cd_module_set.specs.declared.target.Line.{Line}
 use Rattle.cd_module_set.specs.declared.target.Target.{Target}
 use Rattle.cd_module_set.specs.declared.target.Target.TheVariants.{Admin, App, Nobody}
 use Rattle.cd_echo.specs.Echo.{echo_answer}
+use Rattle.cd_log.specs.Lines.{access_lines}
+use Rattle.cd_log.specs.declared.logs.Logs.{Logs}
 use Rattle.cd_standard.specs.Loading.{loaded, servers_of}
 use Rattle.cd_standard.specs.declared.app.App as app
 use Rattle.cd_standard.specs.declared.app.App.TheVariants as kind
@@ -64,12 +67,29 @@ abbrev pub answer_by : Option Server → Request → Answer
 answer_by None request = echo_answer request
 answer_by (Some server) request = server_answer server request
 
--- no line is logged yet
+-- ---- what is logged
+
+-- the lines of a server's answer, where the server is logged
+abbrev pub server_lines : Logs → Server → Request → Answer → List Line
+server_lines logs server request answer = if server.logs then access_lines logs server.name request answer else []
+
+abbrev pub lines_by : Logs → Option Server → Request → Answer → List Line
+lines_by logs None request answer = []
+lines_by logs (Some server) request answer = server_lines logs server request answer
+
+-- nothing is logged of the admin API and of `echo`
+abbrev pub lines_of : Logs → Target → Option Server → Request → Answer → List Line
+lines_of logs Admin server request answer = []
+lines_of logs App server request answer = lines_by logs server request answer
+lines_of logs Nobody server request answer = []
+
+-- ---- the whole
+
 abbrev pub acts_of : Configuration → Acts
 acts_of c = record {
   target = target_at c;
   answer = λ at request. answer_by (server_at c at) request;
-  lines = λ at request answer. [];
+  lines = λ at request answer. lines_of c.logs (target_at c at) (server_at c at) request answer;
 }
 
 -- ---- a tree

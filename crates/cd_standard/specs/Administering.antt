@@ -19,6 +19,7 @@ use Rattle.cd_module.specs.declared.fault.LoadFault.{LoadFault}
 use Rattle.cd_legal.specs.declared.plan.Plan.{Plan}
 use Rattle.cd_admin.specs.Admin.{admin, admin_in, admin_or_usual, members_layer}
 use Rattle.cd_admin.specs.declared.admin.Admin.{Admin}
+use Rattle.cd_log.specs.Logging.{logging, logs_given}
 use Rattle.cd_admin.proofs.Nulls.{null_has_no_ids, null_says_nothing}
 use Rattle.cd_standard.specs.Acting.{plan_of_tree}
 use Rattle.cd_standard.specs.Configuration.{apps, apps_or_none, configuration}
@@ -78,10 +79,10 @@ settings_fine : (t : Tree) (c : Configuration) → configuration t root ≡ Ok c
 unfolding configuration admin_in
 settings_fine t c h =
     let next : Option Admin → List Member → Result Configuration LoadFault
-    = λ given ms. optional apps (codes "apps") ms root ▷ λ found. Ok (record { admin = admin_or_usual given; apps = apps_or_none found }) in
-    let read = chained (members (codes "admin apps") t root) (λ ms. optional admin (codes "admin") ms root ▷ λ given. next given ms) c h in
+    = λ given ms. optional apps (codes "apps") ms root ▷ λ found. optional logging (codes "logging") ms root ▷ λ said. Ok (record { admin = admin_or_usual given; apps = apps_or_none found; logs = logs_given said }) in
+    let read = chained (members (codes "admin apps logging") t root) (λ ms. optional admin (codes "admin") ms root ▷ λ given. next given ms) c h in
     let said = chained (optional admin (codes "admin") read.0 root) (λ given. next given read.0) c read.2 in
-    subst (λ (ms : List Member). IsOk (optional admin (codes "admin") ms root)) (sym (members_same (codes "admin apps") t read.0 read.1))
+    subst (λ (ms : List Member). IsOk (optional admin (codes "admin") ms root)) (sym (members_same (codes "admin apps logging") t read.0 read.1))
     (subst (λ (r : Result (Option Admin) LoadFault). IsOk r) (sym said.1) refl)
 
 object_fine : (t : Tree) (l : Configured) → of_object t ≡ Ok l → IsOk (admin_in t)

@@ -6,6 +6,7 @@ use Rattle.cd_text.specs.Steps.{◌▷◌}
 use Rattle.cd_module.specs.Faults.{unknown_module}
 use Rattle.cd_module.specs.Settings.{Reader, number_or_text, members, optional, needed, object_of}
 use Rattle.cd_admin.specs.Admin.{admin, admin_or_usual}
+use Rattle.cd_log.specs.Logging.{logging, logs_given}
 use Rattle.cd_routes.specs.Server.{server, listen}
 use Rattle.cd_routes.specs.declared.server.Server.{Server}
 use Rattle.cd_standard.specs.declared.app.App.{App}
@@ -61,7 +62,8 @@ apps_or_none (Some found) = found.apps
 
 unfoldable pub configuration : Reader Configuration
 configuration t at =
-    members (codes "admin apps") t at ▷ λ ms.
+    members (codes "admin apps logging") t at ▷ λ ms.
     optional admin (codes "admin") ms at ▷ λ given.
     optional apps (codes "apps") ms at ▷ λ found.
-    Ok (record { admin = admin_or_usual given; apps = apps_or_none found })
+    optional logging (codes "logging") ms at ▷ λ said.
+    Ok (record { admin = admin_or_usual given; apps = apps_or_none found; logs = logs_given said })

@@ -4,4 +4,5 @@ pub mod Loading
 pub mod Checking
 pub mod Walking
 pub mod Acting
+pub mod Responders
 pub mod Administering

@@ -22,6 +22,7 @@ use Rattle.cd_routes.specs.Counting.{error_subroutes, expanded_routes}
 use Rattle.cd_routes.specs.Invoking.{first_in_cycle}
 use Rattle.cd_routes.specs.declared.server.Server.{Server}
 use Rattle.cd_admin.specs.Admin.{admin_or_usual}
+use Rattle.cd_log.specs.Logging.{logs_given}
 use Rattle.cd_standard.specs.Configuration.{configuration}
 use Rattle.cd_standard.specs.Plans.{modules_of, addresses_of, plan_of, root}
 use Rattle.cd_standard.specs.declared.app.App.{App}
@@ -122,7 +123,7 @@ of_object t = of_ids (id_fault t) ▷ λ _. of_settings t
 
 -- what null says: nothing
 abbrev pub nothing_said : Configuration
-nothing_said = record { admin = admin_or_usual None; apps = [] }
+nothing_said = record { admin = admin_or_usual None; apps = []; logs = logs_given None }
 
 -- null is a configuration, and all else is to be an object
 unfoldable pub loaded : Tree → Result Configured LoadFault

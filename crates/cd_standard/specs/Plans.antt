@@ -20,6 +20,9 @@ use Rattle.cd_routes.specs.declared.route.Step.{Step, fold-Step}
 use Rattle.cd_routes.specs.declared.route.Step.TheOpen.{Step-F, Subroute-F}
 use Rattle.cd_routes.specs.declared.server.Server.{Server}
 use Rattle.cd_admin.specs.declared.admin.Admin.{Admin}
+use Rattle.cd_log.specs.Logging.{key_of, output_name, writer_id}
+use Rattle.cd_log.specs.declared.log.Log.{Log}
+use Rattle.cd_log.specs.declared.logs.Logs.{Logs}
 use Rattle.cd_standard.specs.declared.app.App.{App}
 use Rattle.cd_standard.specs.declared.app.App.TheVariants.{Echo, Http}
 use Rattle.cd_standard.specs.declared.configuration.Configuration.{Configuration}
@@ -139,9 +142,21 @@ app_modules apps app = planned (app_name app) (apps ▸ app_name app) ∷ inside
 abbrev pub root : Path
 root = record { parts = [] }
 
+-- the writer of a log, which opens what the lines go to
+abbrev pub writer_module : Path → Log → PlanModule
+writer_module logs log = record { name = writer_id (output_name log.writer); at = logs ▸ log.name ▸ codes "writer"; keys = key_of log.writer ∷ [] }
+
+-- log after log
+abbrev pub writer_modules : Logs → List PlanModule
+writer_modules logs = map (writer_module (root ▸ codes "logging" ▸ codes "logs")) logs.logs
+
 -- app after app
+abbrev pub apps_modules : List App → List PlanModule
+apps_modules apps = flat_map (app_modules (root ▸ codes "apps")) apps
+
+-- writers come before apps, so that each log is open before anything is served
 abbrev pub modules_of : Configuration → List PlanModule
-modules_of c = flat_map (app_modules (root ▸ codes "apps")) c.apps
+modules_of c = writer_modules c.logs ++ apps_modules c.apps
 
 -- ---- what is listened on
 

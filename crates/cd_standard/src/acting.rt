@@ -1,27 +1,50 @@
 //! Who answers at an address of a configuration.
-ghost use Rattle.std.specs.Prelude.{◌≡◌};
+ghost use Rattle.std.specs.Prelude.{◌≡◌, None, if◌then◌else◌};
 ghost use Rattle.std.specs.List.{find, flat_map, list_any};
 ghost use Rattle.std.specs.Option.{option_copied};
 ghost use Rattle.cd_addr.specs.Addresses.{is_address};
-ghost use Rattle.cd_standard.specs.Acting.{admin_at, echo_at, echoes_at, has_address, server_at, stdio_address, target_at};
+ghost use Rattle.cd_module_set.specs.declared.target.Target.TheVariants as target;
+ghost use Rattle.cd_standard.specs.Acting.{admin_at, echo_at, echoes_at, has_address, stdio_address};
 ghost use Rattle.cd_standard.specs.Loading.{app_servers};
+ghost use Rattle.cd_standard.specs.Responders.{AreNumbers, IsNumber, Responds, server_numbered};
 
 use crate::app::App;
 use crate::configuration::Configuration;
 use crate::judging::is_address;
-use cd_module_set::Target;
+use cd_module_set::{Responder, Target};
 use cd_outside::Address;
 use cd_routes::Server;
 
 impl Configuration {
-    /// Who answers at an address. It takes no memory.
-    pub fn target_at(&self, at: &Address) -> Target
-        ensures { result ≡ target_at self.now at.now }
+    /// Who answers at an address, with the numbers of the server there. It takes no memory.
+    pub fn responder_at(&self, at: &Address) -> Responder
+        ensures { Responds self.now at.now result }
     {
         if self.admin_at(at) {
-            return Target::Admin;
+            return self.without_server(Target::Admin);
         }
-        if self.server_at(at).is_some() || self.echo_at(at) {
+        match server_of_apps(at, self.apps.as_slice()) {
+            Some(responder) => responder,
+            None => self.without_server(self.target_without_server(at)),
+        }
+    }
+
+    // No app has the number of all apps.
+    fn without_server(&self, target: Target) -> Responder
+        ensures target { result.target ≡ target }
+        ensures server { server_numbered self.now.apps result.app result.server ≡ None }
+    {
+        Responder {
+            target,
+            app: self.apps.len(),
+            server: 0,
+        }
+    }
+
+    fn target_without_server(&self, at: &Address) -> Target
+        ensures { result ≡ (if echo_at self.now at.now then target.App else target.Nobody) }
+    {
+        if any_echoes_at(at, self.apps.as_slice()) {
             Target::App
         } else {
             Target::Nobody
@@ -35,18 +58,14 @@ impl Configuration {
         !self.admin.disabled && is_address(at, &self.admin.listen)
     }
 
-    /// The server at an address; at that of standard input and output it is the first one by name. It takes no memory.
-    pub fn server_at(&self, at: &Address) -> Option<&Server>
-        ensures { option_copied result ≡ server_at self.now at.now }
+    /// The server with a responder's numbers, if it is one. It takes no memory.
+    pub fn server_of(&self, responder: Responder) -> Option<&Server>
+        ensures { option_copied result ≡ server_numbered self.now.apps responder.app responder.server }
     {
-        server_of_apps(at, self.apps.as_slice())
-    }
-
-    /// Whether the app `echo` listens at an address. It takes no memory.
-    pub fn echo_at(&self, at: &Address) -> bool
-        ensures { result ≡ echo_at self.now at.now }
-    {
-        any_echoes_at(at, self.apps.as_slice())
+        match self.apps.get(responder.app)? {
+            App::Echo(_) => None,
+            App::Http(http) => http.servers.get(responder.server),
+        }
     }
 }
 
@@ -72,19 +91,24 @@ fn echoes_at(at: &Address, app: &App) -> bool
 
 // ---- servers
 
-fn server_of_apps<'a>(at: &Address, apps: &'a [App]) -> Option<&'a Server>
-    ensures { option_copied result ≡ find (has_address at.now) (flat_map app_servers apps.now) }
+// The first server with the address, by the numbers of its app and of itself.
+fn server_of_apps(at: &Address, apps: &[App]) -> Option<Responder>
+    ensures { AreNumbers apps.now (find (has_address at.now) (flat_map app_servers apps.now)) result }
 {
-    for app in apps {
+    for (place, app) in apps.iter().enumerate() {
         if let Some(server) = server_of_app(at, app) {
-            return Some(server);
+            return Some(Responder {
+                target: Target::App,
+                app: place,
+                server,
+            });
         }
     }
     None
 }
 
-fn server_of_app<'a>(at: &Address, app: &'a App) -> Option<&'a Server>
-    ensures { option_copied result ≡ find (has_address at.now) (app_servers app.now) }
+fn server_of_app(at: &Address, app: &App) -> Option<usize>
+    ensures { IsNumber (app_servers app.now) (find (has_address at.now) (app_servers app.now)) result }
 {
     match app {
         App::Echo(_) => None,
@@ -92,12 +116,12 @@ fn server_of_app<'a>(at: &Address, app: &'a App) -> Option<&'a Server>
     }
 }
 
-fn first_with<'a>(at: &Address, servers: &'a [Server]) -> Option<&'a Server>
-    ensures { option_copied result ≡ find (has_address at.now) servers.now }
+fn first_with(at: &Address, servers: &[Server]) -> Option<usize>
+    ensures { IsNumber servers.now (find (has_address at.now) servers.now) result }
 {
-    for server in servers {
+    for (place, server) in servers.iter().enumerate() {
         if has_address(at, server) {
-            return Some(server);
+            return Some(place);
         }
     }
     None

@@ -3,6 +3,7 @@ ghost use Rattle.cd_standard.specs.Configuration.{apps, apps_or_none, configurat
 
 use crate::app::App;
 use cd_admin::Admin;
+use cd_log::Logs;
 use cd_module::{LoadFault, Settings, fields_of, object_by_name, optional};
 use cd_text::List;
 use cd_tree::{Place, Tree};
@@ -14,6 +15,7 @@ pub struct Configuration {
     pub admin: Admin,
     /// By rising name.
     pub apps: List<App>,
+    pub logs: Logs,
 }
 
 // An object of apps.
@@ -49,12 +51,14 @@ impl Settings for Configuration {
 
     #[tactic(auto, unfolding(crate::specs::Configuration::configuration))]
     fn read(alloc: Global, tree: &Tree, at: &Place<'_>) -> Result<Configuration, LoadFault> {
-        let fields = fields_of(alloc, tree, at, "admin apps")?;
+        let fields = fields_of(alloc, tree, at, "admin apps logging")?;
         let admin = optional::<Admin>(alloc, &fields, at, "admin")?;
         let apps = optional::<Apps>(alloc, &fields, at, "apps")?;
+        let logs = optional::<Logs>(alloc, &fields, at, "logging")?;
         Ok(Configuration {
             admin: Admin::or_usual(alloc, admin)?,
             apps: apps_or_none(alloc, apps),
+            logs: Logs::or_none(alloc, logs),
         })
     }
 }

@@ -5,12 +5,13 @@ ghost use Rattle.std.specs.List.{flat_map};
 ghost use Rattle.cd_tree.specs.Path.{◌▸◌};
 ghost use Rattle.cd_routes.specs.declared.route.Subroute.{out-Subroute};
 ghost use Rattle.cd_standard.specs.Loading.{app_servers, servers_of};
-ghost use Rattle.cd_standard.specs.Plans.{addresses_of, admin_addresses, app_addresses, app_modules, errors_modules, in_elements, inside_app, listen_addresses, matcher_modules, modules_of, named_modules, after_routes, route_modules, routes_modules, server_addresses, server_modules, set_modules, step_modules};
+ghost use Rattle.cd_standard.specs.Plans.{addresses_of, admin_addresses, app_addresses, app_modules, apps_modules, errors_modules, in_elements, inside_app, listen_addresses, matcher_modules, modules_of, named_modules, after_routes, route_modules, routes_modules, server_addresses, server_modules, set_modules, step_modules, writer_modules};
 ghost use Rattle.cd_standard.specs.Walking.{Counts, in_matcher, in_subroute};
 
 use crate::app::App;
 use crate::configuration::Configuration;
 use cd_admin::Admin;
+use cd_log::Logs;
 use cd_match::{Matcher, MatcherSet};
 use cd_routes::{Listen, NamedRoute, Route, Server, Step, Subroute};
 use cd_text::List;
@@ -95,7 +96,20 @@ fn addresses_in_listen(listen: &Listen) -> usize
 pub fn count_modules(configuration: &Configuration) -> usize
     ensures { result ≡ min (length (modules_of configuration.now)) usize.MAX }
 {
-    modules_in_apps(configuration.apps.as_slice())
+    let writers = writers_in(&configuration.logs);
+    writers.saturating_add(modules_of_apps(configuration.apps.as_slice()))
+}
+
+fn writers_in(logs: &Logs) -> usize
+    ensures { result ≡ length (writer_modules logs.now) }
+{
+    logs.logs.len()
+}
+
+fn modules_of_apps(apps: &[App]) -> usize
+    ensures { result ≡ min (length (apps_modules apps.now)) usize.MAX }
+{
+    modules_in_apps(apps)
 }
 
 fn modules_in_apps(apps: &[App]) -> usize

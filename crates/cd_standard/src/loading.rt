@@ -11,6 +11,7 @@ use crate::planning::modules_of;
 use cd_admin::Admin;
 use cd_ids::{IdFault, Index};
 use cd_legal::Plan;
+use cd_log::Logs;
 use cd_module::{LoadFault, LoadKind, Settings};
 use cd_text::{List, NoMemory};
 use cd_tree::{Path, Place, Tree};
@@ -46,6 +47,7 @@ fn load_nothing(alloc: Global) -> Result<Configured, NoMemory>
     let configuration = Configuration {
         admin: Admin::usual(alloc)?,
         apps: List::new(alloc),
+        logs: Logs::none(alloc),
     };
     with_plan(alloc, configuration)
 }

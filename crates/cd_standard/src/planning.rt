@@ -1,12 +1,15 @@
 //! The modules and the apps of a configuration.
-ghost use Rattle.std.specs.Prelude.{◌≡◌, ◌∷◌, ◌++◌, [], codes, IfOk, OnOk};
+ghost use Rattle.std.specs.Prelude.{◌≡◌, ◌∷◌, ◌++◌, [], codes, map, IfOk, OnOk};
 ghost use Rattle.std.specs.List.{flat_map};
-ghost use Rattle.cd_standard.specs.Plans.{app_name, app_modules, inside_app, modules_of};
+ghost use Rattle.cd_tree.specs.Path.{◌▸◌};
+ghost use Rattle.cd_log.specs.Logging.{key_of, output_name, writer_id};
+ghost use Rattle.cd_standard.specs.Plans.{app_name, app_modules, inside_app, modules_of, writer_module};
 
 use crate::app::App;
 use crate::configuration::Configuration;
-use crate::walking::{add_module, add_servers};
+use crate::walking::{add_module, add_servers, module_id};
 use cd_legal::PlanModule;
+use cd_log::{Log, Logs, Writer};
 use cd_text::{List, NoMemory, Text};
 use cd_tree::Place;
 use std::alloc::Global;
@@ -32,10 +35,64 @@ pub fn modules_of(
 {
     let mut out = List::new(alloc);
     let top = Place::top();
+    add_all_writers(alloc, &configuration.logs, &top.member("logging"), &mut out)?;
     let apps = configuration.apps.as_slice();
     add_apps(alloc, apps, &top.member("apps"), &mut out)?;
     Ok(out)
 }
+
+// ---- writers
+
+fn add_all_writers(
+    alloc: Global,
+    logs: &Logs,
+    at: &Place<'_>,
+    out: &mut List<PlanModule>,
+) -> Result<(), NoMemory>
+    ensures { OnOk result (out.new ≡ out.old ++ map (writer_module (at.now ▸ codes "logs")) logs.now.logs) }
+{
+    add_writers(alloc, logs.logs.as_slice(), &at.member("logs"), out)
+}
+
+fn add_writers(
+    alloc: Global,
+    logs: &[Log],
+    at: &Place<'_>,
+    out: &mut List<PlanModule>,
+) -> Result<(), NoMemory>
+    ensures { OnOk result (out.new ≡ out.old ++ map (writer_module at.now) logs.now) }
+{
+    for log in logs {
+        out.push(writer_module(alloc, log, at)?)?;
+    }
+    Ok(())
+}
+
+fn writer_module(alloc: Global, log: &Log, at: &Place<'_>) -> Result<PlanModule, NoMemory>
+    ensures { IfOk result (λ made. made ≡ writer_module at.now log.now) }
+{
+    let here = at.member(log.name.as_str());
+    planned_writer(alloc, &log.writer, &here.member("writer"))
+}
+
+fn planned_writer(alloc: Global, writer: &Writer, at: &Place<'_>) -> Result<PlanModule, NoMemory>
+    ensures { IfOk result (λ made. made ≡ record {
+      name = writer_id (output_name writer.now);
+      at = at.now;
+      keys = key_of writer.now ∷ [];
+    }) }
+{
+    let mut keys = List::new(alloc);
+    keys.push(writer.key(alloc)?)?;
+    let name = module_id(alloc, "caddy.logging.writers.", writer.output())?;
+    Ok(PlanModule {
+        name,
+        at: at.to_path(alloc)?,
+        keys,
+    })
+}
+
+// ---- apps
 
 fn add_apps(
     alloc: Global,

@@ -1,17 +1,19 @@
 //! The set of the standard modules.
 ghost use Rattle.std.specs.Prelude.{◌≡◌, IfOk};
 ghost use Rattle.cd_admin.specs.Deciding.{change_of};
-ghost use Rattle.cd_standard.specs.Acting.{acts_of, acts_of_tree, plan_of_tree};
+ghost use Rattle.cd_standard.specs.Acting.{acts_of, acts_of_tree, lines_by, plan_of_tree, server_lines};
+ghost use Rattle.cd_standard.specs.Responders.{responds, server_numbered};
 
 use crate::compiled::Compiled;
 use crate::configuration::Configuration;
 use crate::loading::{Configured, load};
 use cd_admin::Admin;
 use cd_echo::echo_answer;
+use cd_log::Logs;
 use cd_module::LoadFault;
-use cd_module_set::{Line, Loaded, ModuleSet, Target};
+use cd_module_set::{Line, Loaded, ModuleSet, Responder, Target};
 use cd_outside::Address;
-use cd_routes::server_answer;
+use cd_routes::{Server, server_answer};
 use cd_text::{List, NoMemory};
 use cd_tree::Tree;
 use cd_wire::{Answer, Request};
@@ -19,7 +21,7 @@ use std::alloc::Global;
 
 /// The set of the standard modules: the admin API, the apps `echo` and `http`, and the matchers and handlers of `http`.
 ///
-/// What a request asks for is what the admin API decides, by this set's own verdict. No line is logged yet.
+/// What a request asks for is what the admin API decides, by this set's own verdict. Lines are those of a server's answers.
 pub struct Standard;
 
 impl ModuleSet for Standard {
@@ -31,6 +33,8 @@ impl ModuleSet for Standard {
 
     ghost form = { λ c. acts_of c.configuration };
 
+    ghost responds = { responds };
+
     ghost change = { change_of plan_of_tree };
 
     #[tactic(auto, using(crate::proofs::Doing::idle_does_nothing))]
@@ -41,6 +45,7 @@ impl ModuleSet for Standard {
             configuration: Configuration {
                 admin,
                 apps: List::new(alloc),
+                logs: Logs::none(alloc),
             },
         })
     }
@@ -58,35 +63,73 @@ impl ModuleSet for Standard {
         })
     }
 
-    fn target(compiled: &Compiled, at: &Address) -> Target {
-        compiled.configuration.target_at(at)
+    fn target(compiled: &Compiled, at: &Address) -> Responder {
+        compiled.configuration.responder_at(at)
     }
 
     #[tactic(auto, using(crate::proofs::Checked::found_has_none))]
     fn answer<'a>(
         alloc: Global,
         compiled: &'a Compiled,
-        at: &Address,
+        _at: &Address,
+        responder: Responder,
         request: &'a Request,
     ) -> Result<Option<Answer<'a>>, NoMemory> {
-        let configuration = &compiled.configuration;
-        if configuration.admin_at(at) {
-            return Ok(None);
-        }
-        match configuration.server_at(at) {
-            Some(server) => Ok(Some(server_answer(alloc, server, request)?)),
-            None if configuration.echo_at(at) => Ok(Some(echo_answer(alloc, request))),
-            None => Ok(None),
+        match responder.target {
+            Target::Admin | Target::Nobody => Ok(None),
+            Target::App => match compiled.configuration.server_of(responder) {
+                Some(server) => Ok(Some(server_answer(alloc, server, request)?)),
+                None => Ok(Some(echo_answer(alloc, request))),
+            },
         }
     }
 
     fn lines(
         alloc: Global,
-        _compiled: &Compiled,
+        compiled: &Compiled,
         _at: &Address,
-        _request: &Request,
-        _answer: &Answer<'_>,
+        responder: Responder,
+        request: &Request,
+        answer: &Answer<'_>,
     ) -> Result<List<Line>, NoMemory> {
+        match responder.target {
+            Target::Admin | Target::Nobody => Ok(List::new(alloc)),
+            Target::App => {
+                lines_of_app(alloc, &compiled.configuration, responder, request, answer)
+            }
+        }
+    }
+}
+
+// The lines of the server with a responder's numbers; of another app nothing is logged.
+fn lines_of_app(
+    alloc: Global,
+    configuration: &Configuration,
+    responder: Responder,
+    request: &Request,
+    answer: &Answer<'_>,
+) -> Result<List<Line>, NoMemory>
+    ensures { IfOk result (λ lines. lines ≡ lines_by configuration.now.logs
+        (server_numbered configuration.now.apps responder.app responder.server) request.now answer.now) }
+{
+    match configuration.server_of(responder) {
+        Some(server) => server_lines(alloc, &configuration.logs, server, request, answer),
+        None => Ok(List::new(alloc)),
+    }
+}
+
+fn server_lines(
+    alloc: Global,
+    logs: &Logs,
+    server: &Server,
+    request: &Request,
+    answer: &Answer<'_>,
+) -> Result<List<Line>, NoMemory>
+    ensures { IfOk result (λ lines. lines ≡ server_lines logs.now server.now request.now answer.now) }
+{
+    if server.logs {
+        logs.lines(alloc, &server.name, request, answer)
+    } else {
         Ok(List::new(alloc))
     }
 }

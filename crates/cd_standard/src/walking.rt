@@ -19,7 +19,7 @@ use std::alloc::Global;
 // ---- a module
 
 // The id of a module, in its namespace, which ends in a dot.
-fn module_id(alloc: Global, namespace: &str, name: &str) -> Result<Text, NoMemory>
+pub fn module_id(alloc: Global, namespace: &str, name: &str) -> Result<Text, NoMemory>
     ensures { IfOk result (λ id. id ≡ namespace.now ++ name.now) }
 {
     let id = format!(in alloc; "{namespace}{name}")?;

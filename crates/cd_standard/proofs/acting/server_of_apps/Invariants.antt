@@ -4,5 +4,5 @@ use Rattle.cd_standard.specs.Acting.{has_address}
 use Rattle.cd_standard.specs.Loading.{app_servers}
 use Rattle.cd_standard.proofs.acting.server_of_apps.Given as goal
 
-abbrev pub invariant-loop-app : goal.invariant-loop-app
-invariant-loop-app l = find (has_address l.at) (flat_map app_servers (drop l.app-index l.apps)) ≡ find (has_address l.at) (flat_map app_servers l.apps)
+abbrev pub invariant-loop-place : goal.invariant-loop-place
+invariant-loop-place l = find (has_address l.at) (flat_map app_servers (drop l.place l.apps)) ≡ find (has_address l.at) (flat_map app_servers l.apps)
