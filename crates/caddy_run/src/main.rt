@@ -47,11 +47,11 @@ fn main(rt: HostRuntime) -> ExitCode {
         tell_cause(alloc, &mut rt.stderr(), words, &config);
         Ok(served.status)
     } else if begins_with(words, "stdio") {
-        let lane = StreamLane::new(alloc, rt.stdin(), rt.stdout());
+        let lane = StreamLane::new(&rt, alloc, rt.stdin(), rt.stdout(), rt.stderr());
         let out = Console::new(rt.stderr());
         over_streams(&rt, alloc, words, &mut config, out, lane)
     } else {
-        let lane = StreamLane::new(alloc, rt.stdin(), rt.stdout());
+        let lane = StreamLane::new(&rt, alloc, rt.stdin(), rt.stdout(), rt.stderr());
         let out = Console::new(rt.stdout());
         let status = over_streams(&rt, alloc, words, &mut config, out, lane);
         tell_cause(alloc, &mut rt.stderr(), words, &config);

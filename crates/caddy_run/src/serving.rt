@@ -7,10 +7,8 @@ ghost use Rattle.caddy_run.specs.declared.lanes.TheConstants.{MAX_LANES};
 use crate::lanes::one_lane;
 use cd_outside::{Fixtures, Lane, MemoryFixtures, Sink, Source};
 use cd_program::caddy_main;
-use cd_stdio::StreamLane;
 use cd_text::{List, NoMemory, Text};
 use std::alloc::Global;
-use std::io::{Read, Write};
 use std::sync::Wait;
 use std::thread::Threads;
 
@@ -54,21 +52,15 @@ pub fn over_lanes<
 }
 
 /// The status of the program over this lane alone, and fixtures in memory.
-pub fn over_streams<
-    R: Threads + Wait + Sync,
-    S: Source,
-    O: Sink + Drop,
-    I: Read + Send + Drop,
-    W: Write + Send + Drop,
->(
+pub fn over_streams<R: Threads + Wait + Sync, S: Source, O: Sink + Drop, L: Lane + Send + Drop>(
     rt: &R,
     alloc: Global,
     words: &[Text],
     config: &mut S,
     out: O,
-    lane: StreamLane<I, W>,
+    lane: L,
 ) -> Result<u8, NoMemory>
-    requires { lane.connected ≡ false }
+    requires { L.busy lane ≡ false }
     ensures known { IfOk result (λ status. status ≤ 5) }
     ensures usage { IfOk result (λ status. (status ≡ 2) ↔ (command words.now ≡ Unknown)) }
     ensures unread { has_file (command words.now) ≡ false → config.new ≡ config.old }

@@ -1,2 +1,4 @@
 pub mod Lines
 pub mod Moving
+pub mod Names
+pub mod OpenWriters

@@ -1,5 +1,8 @@
 -- The lines that go to standard error, beside those of a run.
 use Rattle.std.specs.Prelude.{◌==◌, ◌++◌, ℕ, List, codes, if◌then◌else◌}
+use Rattle.cd_outside.specs.declared.key.Key.{Key}
+use Rattle.cd_outside.specs.declared.key.Key.TheVariants.{Listen, Writer}
+use Rattle.cd_addr.specs.Addresses.{written}
 use Rattle.cd_stdio.specs.declared.lines.TheConstants.{HTTPS_PORT}
 
 -- what is said of a port: clients expect HTTPS at one, and it is served at none
@@ -9,3 +12,8 @@ served_at port = if port == HTTPS_PORT then codes " (plain HTTP; HTTPS is not se
 -- why something has failed
 abbrev pub caused : List ℕ → List ℕ → List ℕ
 caused what words = codes "caddy_run: " ++ (what ++ (codes ": " ++ (words ++ codes "\n")))
+
+-- what a key names
+abbrev pub thing_of : Key → List ℕ
+thing_of (Listen address) = codes "listen " ++ written address
+thing_of (Writer name) = codes "log writer " ++ name

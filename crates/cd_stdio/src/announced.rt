@@ -1,7 +1,6 @@
 ghost use Rattle.std.specs.Prelude.{◌≡◌};
 
-use crate::{Messages, TakesNow, caused_line, listening_line};
-use cd_addr::write;
+use crate::{Messages, TakesNow, key_line, listening_line};
 use cd_outside::{Fixtures, Key, Opened};
 use cd_text::{NoMemory, Text};
 use std::alloc::Global;
@@ -80,19 +79,8 @@ fn unopened_line(
     let Some(cause) = cause else {
         return Ok(None);
     };
-    let what = match key {
-        Key::Listen(address) => {
-            let address = write(alloc, address)?;
-            let address = address.as_str();
-            format!(in alloc; "listen {address}")?
-        }
-        Key::Writer(name) => {
-            let name = name.as_str();
-            format!(in alloc; "log writer {name}")?
-        }
-    };
     let words = format!(in alloc; "{cause}")?;
-    Ok(Some(caused_line(alloc, what.as_str(), words.as_str())?))
+    Ok(Some(key_line(alloc, key, words.as_str())?))
 }
 
 impl<'m, R: Wait, F: Fixtures + Explains, W: TakesNow> Fixtures for Announced<'m, R, F, W> {

@@ -2,10 +2,10 @@
 ghost use Rattle.std.specs.Prelude.{◌≡◌, ◌++◌, IfOk, codes};
 ghost use Rattle.cd_addr.specs.Addresses.{written};
 ghost use Rattle.cd_stdio.specs.declared.lines.TheConstants.{HTTPS_PORT};
-ghost use Rattle.cd_stdio.specs.Lines.{served_at, caused};
+ghost use Rattle.cd_stdio.specs.Lines.{served_at, caused, thing_of};
 
 use cd_addr::write;
-use cd_outside::Address;
+use cd_outside::{Address, Key};
 use cd_text::{NoMemory, Text};
 use std::alloc::Global;
 
@@ -44,4 +44,38 @@ pub fn caused_line(alloc: Global, what: &str, words: &str) -> Result<Text, NoMem
 {
     let line = format!(in alloc; "caddy_run: {what}: {words}\n")?;
     Ok(Text::from_string(line))
+}
+
+/// The same of a key: the address or the log writer that it names, and the words of the system.
+pub fn key_line(alloc: Global, key: &Key, words: &str) -> Result<Text, NoMemory>
+    ensures { IfOk result (λ line. line ≡ caused (thing_of key.now) words.now) }
+{
+    let what = thing_of(alloc, key)?;
+    caused_line(alloc, what.as_str(), words)
+}
+
+fn thing_of(alloc: Global, key: &Key) -> Result<Text, NoMemory>
+    ensures { IfOk result (λ thing. thing ≡ thing_of key.now) }
+{
+    match key {
+        Key::Listen(address) => address_words(alloc, address),
+        Key::Writer(name) => writer_words(alloc, name),
+    }
+}
+
+fn address_words(alloc: Global, address: &Address) -> Result<Text, NoMemory>
+    ensures { IfOk result (λ words. words ≡ codes "listen " ++ written address.now) }
+{
+    let text = write(alloc, address)?;
+    let text = text.as_str();
+    let words = format!(in alloc; "listen {text}")?;
+    Ok(Text::from_string(words))
+}
+
+fn writer_words(alloc: Global, name: &Text) -> Result<Text, NoMemory>
+    ensures { IfOk result (λ words. words ≡ codes "log writer " ++ name.now) }
+{
+    let name = name.as_str();
+    let words = format!(in alloc; "log writer {name}")?;
+    Ok(Text::from_string(words))
 }

@@ -1,6 +1,6 @@
 ghost use Rattle.std.specs.Prelude.{◌≡◌};
 
-use crate::{Explains, Messages, TakesNow, caused_line};
+use crate::{Explains, Messages, TakesNow, caused_line, key_line};
 use cd_outside::{Accepted, Given, Key, Lane, Taken};
 use cd_text::{NoMemory, Text};
 use std::alloc::Global;
@@ -8,12 +8,14 @@ use std::io;
 use std::sync::Wait;
 
 /// A lane that writes the messages that wait before it waits for its next connection, and leaves one where its accept has failed,
-/// which ends it.
+/// which ends it. It also leaves one where a log line could not be written, but no other of that writer until a line was.
 pub struct Reporting<'m, R: Wait, L, W: TakesNow> {
     rt: &'m R,
     alloc: Global,
     pub lane: L,
     messages: &'m Messages<W>,
+    // The log writer of the line that could not be written last, unless one was since.
+    unwritten: Option<Text>,
 }
 
 impl<'m, R: Wait, L: Drop, W: TakesNow> Drop for Reporting<'m, R, L, W> {
@@ -23,6 +25,7 @@ impl<'m, R: Wait, L: Drop, W: TakesNow> Drop for Reporting<'m, R, L, W> {
             alloc: _,
             lane: _,
             messages: _,
+            unwritten: _,
         } = self;
     }
 }
@@ -42,7 +45,26 @@ impl<'m, R: Wait, L: Lane + Explains, W: TakesNow> Reporting<'m, R, L, W> {
             alloc,
             lane,
             messages,
+            unwritten: None,
         }
+    }
+
+    // Leaves a message of a line that could not be written, unless the one before it could not either. It answers the writer's name.
+    fn report_line(&self, key: &Key) -> Option<Text> {
+        let Key::Writer(name) = key else {
+            return None;
+        };
+        let is_known = match &self.unwritten {
+            Some(unwritten) => is_named(key, unwritten),
+            None => false,
+        };
+        if !is_known
+            && let Some(cause) = self.lane.cause()
+            && let Ok(line) = unwritten_line(self.alloc, key, cause)
+        {
+            self.messages.leave(self.rt, line);
+        }
+        name.copy(self.alloc).ok()
     }
 
     fn report(&self, accepted: &Accepted) {
@@ -53,6 +75,28 @@ impl<'m, R: Wait, L: Lane + Explains, W: TakesNow> Reporting<'m, R, L, W> {
             self.messages.send(self.rt);
         }
     }
+}
+
+// The log writer whose line could not be written, after one was written to the writer of the key.
+fn still_unwritten(unwritten: Option<Text>, key: &Key) -> Option<Text> {
+    let name = unwritten?;
+    if is_named(key, &name) {
+        return None;
+    }
+    Some(name)
+}
+
+fn is_named(key: &Key, name: &Text) -> bool {
+    match key {
+        Key::Writer(writer) => writer.equals(name.as_str()),
+        Key::Listen(_) => false,
+    }
+}
+
+// What is said of a log writer to which a line could not be written.
+fn unwritten_line(alloc: Global, key: &Key, cause: io::Error) -> Result<Text, NoMemory> {
+    let words = format!(in alloc; "{cause}")?;
+    key_line(alloc, key, words.as_str())
 }
 
 // What is said of a lane whose accept has failed.
@@ -94,7 +138,12 @@ impl<'m, R: Wait, L: Lane + Explains, W: TakesNow> Lane for Reporting<'m, R, L, 
     }
 
     fn log(&mut self, key: &Key, line: &Text) -> Given {
-        self.lane.log(key, line)
+        let given = self.lane.log(key, line);
+        self.unwritten = match given {
+            Given::All => still_unwritten(self.unwritten.take(), key),
+            Given::Failed => self.report_line(key),
+        };
+        given
     }
 
     fn keep<S: Wait>(&mut self, rt: &S, serial: u32, text: &[u8]) -> Given {

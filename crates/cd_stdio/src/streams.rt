@@ -1,4 +1,4 @@
-ghost use Rattle.std.specs.Prelude.{◌≡◌, ◌<◌, List, ℕ, true, false, length, None, IsTrue, option_map};
+ghost use Rattle.std.specs.Prelude.{◌≡◌, ◌<◌, List, ℕ, true, false, length, None, Some, IsTrue, option_map};
 ghost use Rattle.std.specs.Io.KnownBytes.{Appends};
 ghost use Rattle.cd_outside.specs.declared.taken.Taken.TheVariants as taken;
 ghost use Rattle.cd_outside.specs.declared.given.Given.TheVariants as given;
@@ -6,46 +6,127 @@ ghost use Rattle.cd_outside.specs.declared.accepted.Accepted.TheVariants as acce
 ghost use Rattle.cd_outside.specs.Counts.{Rises};
 ghost use Rattle.cd_outside.specs.Taken.{IsTakenWithin};
 ghost use Rattle.cd_outside.specs.Given.{IsGivenOf};
-ghost use Rattle.cd_outside.specs.Past.{after_accept, after_read, after_put, is_connection};
+ghost use Rattle.cd_outside.specs.Past.{after_accept, after_read, after_put, after_line, is_connection};
 ghost use Rattle.cd_stdio.specs.Moving.{Takes};
+ghost use Rattle.cd_stdio.specs.Names.{stream_at, is_standard};
+ghost use Rattle.cd_stdio.specs.declared.names.Stream.TheVariants.{Nowhere};
 
-use crate::{give, take};
+use crate::{LogFile, OpenWriters, Stream, filename_of, give, stream_of, take};
 use cd_outside::{Accepted, Address, Given, Key, Lane, Taken};
 use cd_text::Text;
 use std::alloc::Global;
+use std::fs::{File, Files};
 use std::io::{Read, Write};
 use std::sync::Wait;
 
-/// A lane whose only connection is a reader and a writer of the system, as standard input and output are.
-#[derive(Drop)]
-pub struct StreamLane<I, O> {
+/// A lane whose only connection is a reader and a writer of the system, as standard input and output are. Its log lines go to
+/// files, and to another writer, as standard error is.
+pub struct StreamLane<'r, R: Wait + Files<File = File>, I, O, E> {
+    rt: &'r R,
     alloc: Global,
     pub input: I,
     pub output: O,
+    pub error: E,
     pub connected: bool,
     pub over: bool,
     pub faults: u64,
+    // The log files that have had a line, by their filenames.
+    files: OpenWriters<LogFile>,
 }
 
-impl<I: Read, O: Write> StreamLane<I, O> {
+impl<'r, R: Wait + Files<File = File>, I: Drop, O: Drop, E: Drop> Drop
+    for StreamLane<'r, R, I, O, E> {
+    fn drop(self) {
+        let Self {
+            rt: _,
+            alloc: _,
+            input: _,
+            output: _,
+            error: _,
+            connected: _,
+            over: _,
+            faults: _,
+            files: _,
+        } = self;
+    }
+}
+
+impl<'r, R: Wait + Files<File = File>, I: Read, O: Write, E: Write> StreamLane<'r, R, I, O, E> {
     /// A lane that was not asked for its connection yet.
-    pub fn new(alloc: Global, input: I, output: O) -> StreamLane<I, O>
+    pub fn new(
+        rt: &'r R,
+        alloc: Global,
+        input: I,
+        output: O,
+        error: E,
+    ) -> StreamLane<'r, R, I, O, E>
         ensures connected { result.connected ≡ false }
         ensures over { result.over ≡ false }
-        ensures streams { (result.input ≡ input) × (result.output ≡ output) }
+        ensures streams { (result.input ≡ input) × (result.output ≡ output) × (result.error ≡ error) }
     {
         StreamLane {
+            rt,
             alloc,
             input,
             output,
+            error,
             connected: false,
             over: false,
             faults: 0,
+            files: OpenWriters::new(alloc),
         }
     }
 }
 
-impl<I: Read, O: Write> Lane for StreamLane<I, O> {
+impl<'r, R: Wait + Files<File = File>, I, O, E: Write> StreamLane<'r, R, I, O, E> {
+    fn try_log(&mut self, key: &Key, line: &[u8]) -> Given
+        ensures connected { self.new.connected ≡ self.old.connected }
+        ensures faults { self.new.faults ≡ self.old.faults }
+        ensures written { is_standard (stream_at key.now) ≡ true → result ≡ given.All → Appends (E.contents self.old.error) (E.contents self.new.error) line.now }
+        ensures dropped { stream_at key.now ≡ Some Nowhere → (result ≡ given.All) × (self.new.error ≡ self.old.error) }
+    {
+        let Key::Writer(name) = key else {
+            return Given::Failed;
+        };
+        match stream_of(name.as_str()) {
+            Some(Stream::Output | Stream::Error) => give(&mut self.error, line),
+            Some(Stream::Nowhere) => Given::All,
+            None => match filename_of(name.as_str()) {
+                Some(path) => append(self.rt, self.alloc, &mut self.files, path, line),
+                None => Given::Failed,
+            },
+        }
+    }
+}
+
+// Appends the line to the file, which is opened where it has had none.
+fn append<R: Wait + Files<File = File>>(
+    rt: &R,
+    alloc: Global,
+    files: &mut OpenWriters<LogFile>,
+    path: &str,
+    line: &[u8],
+) -> Given {
+    if let Some(file) = files.find(path) {
+        return if file.append(rt, line).is_ok() {
+            Given::All
+        } else {
+            Given::Failed
+        };
+    }
+    let (Ok(name), Ok(file)) = (Text::from_str(alloc, path), LogFile::open(rt, path)) else {
+        return Given::Failed;
+    };
+    if file.append(rt, line).is_err() {
+        return Given::Failed;
+    }
+    // For want of memory the next line opens it again.
+    let _ = files.add(name, file);
+    Given::All
+}
+
+impl<'r, R: Wait + Files<File = File>, I: Read, O: Write, E: Write> Lane
+    for StreamLane<'r, R, I, O, E> {
     ghost faults = { λ lane. lane.faults };
 
     ghost busy = { λ lane. lane.connected };
@@ -116,14 +197,29 @@ impl<I: Read, O: Write> Lane for StreamLane<I, O> {
         }
     }
 
-    /// No log writer is opened so far, so a line can't be given to one.
-    fn log(&mut self, _key: &Key, _line: &Text) -> Given {
-        self.faults = self.faults.saturating_add(1);
-        Given::Failed
+    /// A line for `stdout` goes to standard error too, since standard output has the answers. A file is opened at its first line,
+    /// and stays open. A file that can't be opened, a name of no writer, and a line that can't be written are failures.
+    fn log(&mut self, key: &Key, line: &Text) -> Given
+        requires { self.old.connected ≡ true }
+        ensures busy { self.new.connected ≡ true }
+        ensures past { None ≡ option_map (after_line result key.now line.now) None }
+        ensures cause { Rises self.old.faults self.new.faults (result ≡ given.Failed) }
+
+        // both standard streams are the one that is not the connection's
+        ensures written { is_standard (stream_at key.now) ≡ true → result ≡ given.All → Appends (E.contents self.old.error) (E.contents self.new.error) line.now }
+        ensures dropped { stream_at key.now ≡ Some Nowhere → (result ≡ given.All) × (self.new.error ≡ self.old.error) }
+    {
+        match self.try_log(key, line.as_str().as_bytes()) {
+            Given::All => Given::All,
+            Given::Failed => {
+                self.faults = self.faults.saturating_add(1);
+                Given::Failed
+            }
+        }
     }
 
     /// Nothing is kept here: the answer is `All`.
-    fn keep<R: Wait>(&mut self, _rt: &R, _serial: u32, _text: &[u8]) -> Given {
+    fn keep<S: Wait>(&mut self, _rt: &S, _serial: u32, _text: &[u8]) -> Given {
         Given::All
     }
 

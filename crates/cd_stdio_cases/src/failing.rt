@@ -3,6 +3,8 @@ use crate::device::{Device, Unflushed};
 use cd_outside::{Accepted, Given, Lane, Sink, Source, Taken};
 use cd_stdio::{ConfigFile, ConfigSource, Console, StreamLane};
 use std::alloc::Global;
+use std::fs::{File, Files};
+use std::sync::Wait;
 
 /// An interrupted read is tried again. One that fails is answered as failed, and counted.
 pub fn a_configuration_fails_in_the_middle() -> bool {
@@ -25,9 +27,12 @@ pub fn an_output_fails_in_the_middle() -> bool {
 
 /// Reads and writes of a connection fail and are counted in the same way, and no other connection comes after it. Where memory
 /// runs out none comes at all, and that differs.
-pub fn a_connection_fails_in_the_middle(alloc: Global) -> bool {
+pub fn a_connection_fails_in_the_middle<R: Wait + Files<File = File>>(
+    rt: &R,
+    alloc: Global,
+) -> bool {
     let mut room = [0u8; 8];
-    let mut lane = StreamLane::new(alloc, Device::new(), Device::new());
+    let mut lane = StreamLane::new(rt, alloc, Device::new(), Device::new(), Device::new());
     let Accepted::Connection(_) = lane.accept() else {
         return false;
     };

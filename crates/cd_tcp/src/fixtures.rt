@@ -1,12 +1,11 @@
 ghost use Rattle.std.specs.Prelude.{◌≡◌, None};
 
+use crate::Reactor;
 use crate::binding::bind;
-use crate::{Reactor, open_writer};
 use cd_outside::{Fixtures, Key, Opened};
 use std::alloc::Global;
 use std::fs::{File, Files};
 use std::io;
-use std::io::ErrorKind;
 use std::net::Net;
 use std::sync::Wait;
 
@@ -55,13 +54,7 @@ impl<'d, R: Wait + Net + Files<File = File>> TcpFixtures<'d, R> {
                 let listeners = bind(self.rt, self.alloc, address)?;
                 self.reactor.open(self.rt, listeners, address)
             }
-            Key::Writer(name) => {
-                let writer = open_writer(self.rt, name.as_str())?;
-                match name.copy(self.alloc) {
-                    Ok(name) => self.reactor.add_writer(self.rt, name, writer),
-                    Err(_) => Err(io::Error::from(ErrorKind::OutOfMemory)),
-                }
-            }
+            Key::Writer(name) => self.reactor.writers.open(self.rt, name),
         }
     }
 }
@@ -88,7 +81,7 @@ impl<'d, R: Wait + Net + Files<File = File>> Fixtures for TcpFixtures<'d, R> {
     fn close_key(&mut self, key: &Key) {
         match key {
             Key::Listen(address) => self.reactor.close(self.rt, address),
-            Key::Writer(name) => self.reactor.close_writer(self.rt, name),
+            Key::Writer(name) => self.reactor.writers.close(self.rt, name),
         }
     }
 

@@ -19,7 +19,7 @@ pub struct TcpLane<'d, R: Wait + Clock> {
     /// The connection that is there.
     pub held: Option<Held<TcpStream>>,
     faults: u64,
-    // Why the last accept failed that did.
+    // Why the last accept or log line failed that did.
     cause: Option<io::Error>,
 }
 
@@ -59,7 +59,7 @@ impl<'d, R: Wait + Clock> TcpLane<'d, R> {
         }
     }
 
-    /// Why the last accept failed that did. It prints as the words of the system.
+    /// Why the last accept or log line failed that did. It prints as the words of the system.
     pub fn cause(&self) -> Option<io::Error> {
         self.cause
     }
@@ -84,7 +84,10 @@ impl<'d, R: Wait + Clock> TcpLane<'d, R> {
     fn try_log(&self, key: &Key, line: &Text) -> io::Result<()> {
         match key {
             Key::Listen(_) => Err(io::Error::from(ErrorKind::InvalidInput)),
-            Key::Writer(name) => self.reactor.log(self.rt, name, line.as_str().as_bytes()),
+            Key::Writer(name) => {
+                let line = line.as_str().as_bytes();
+                self.reactor.writers.log(self.rt, name, line)
+            }
         }
     }
 }
@@ -141,11 +144,13 @@ impl<'d, R: Wait + Clock> Lane for TcpLane<'d, R> {
     }
 
     fn log(&mut self, key: &Key, line: &Text) -> Given {
-        if self.try_log(key, line).is_ok() {
-            Given::All
-        } else {
-            self.faults = self.faults.saturating_add(1);
-            Given::Failed
+        match self.try_log(key, line) {
+            Ok(()) => Given::All,
+            Err(error) => {
+                self.cause = Some(error);
+                self.faults = self.faults.saturating_add(1);
+                Given::Failed
+            }
         }
     }
 

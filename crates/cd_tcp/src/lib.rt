@@ -1,4 +1,4 @@
-//! HTTP's connections over TCP: an event loop that lanes share, listeners, and the writers of log lines.
+//! HTTP's connections over TCP: an event loop that lanes share, listeners, and the log writers of `cd_stdio`.
 //!
 //! A `Reactor` has the listeners and each connection that no lane has. `TcpFixtures` open and close listening addresses and
 //! log writers there, while lanes wait; a `TcpLane` serves one connection at a time. There is no thread that accepts: one of
@@ -40,7 +40,6 @@ mod sockets;
 mod stream;
 mod tokens;
 mod tries;
-mod writing;
 
 pub use budgets::is_too_much;
 pub use connection::Connection;
@@ -60,4 +59,3 @@ pub use seeing::{Search, Seen, is_due, look_on, nothing_seen};
 pub use stream::{Got, Patient, read_once, write_whole};
 pub use tokens::Id;
 pub use tries::Tries;
-pub use writing::{Writer, Writers, open_writer};

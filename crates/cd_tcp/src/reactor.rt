@@ -2,13 +2,11 @@ use crate::clock::now;
 use crate::connection::Connection;
 use crate::sockets::{Sockets, unwatch};
 use crate::tokens::Subject;
-use crate::writing::{Writer, Writers};
 use crate::{LINGER_SECONDS, MAX_TAKES, Tries};
 use cd_outside::Address;
-use cd_text::Text;
+use cd_stdio::Writers;
 use mio::{Events, Poll, Registry, Waker};
 use std::alloc::Global;
-use std::fs::File;
 use std::io::{ErrorKind, Stderr, Stdout};
 use std::net::{Net, TcpListener, TcpStream};
 use std::os::fd::RawFd;
@@ -40,7 +38,7 @@ pub struct Reactor {
     free: AtomicU64,
     // How many connections were handed to lanes since the last poll.
     takes: AtomicU64,
-    writers: Mutex<Writers<Stdout, Stderr, File>>,
+    pub(crate) writers: Writers<Stdout, Stderr>,
 }
 
 /// What comes to a lane that waits.
@@ -89,7 +87,7 @@ impl Reactor {
             sockets: Mutex::new(sockets),
             free: AtomicU64::new(0),
             takes: AtomicU64::new(0),
-            writers: Mutex::new(Writers::new(alloc, output, error)),
+            writers: Writers::new(alloc, output, error),
         })
     }
 
@@ -123,23 +121,6 @@ impl Reactor {
         let mut sockets = self.sockets.lock(rt);
         sockets.shut();
         sockets.take_closed()
-    }
-
-    pub(crate) fn add_writer<R: Wait>(
-        &self,
-        rt: &R,
-        name: Text,
-        writer: Writer<File>,
-    ) -> io::Result<()> {
-        self.writers.lock(rt).add(name, writer)
-    }
-
-    pub(crate) fn close_writer<R: Wait>(&self, rt: &R, name: &Text) {
-        self.writers.lock(rt).close(name);
-    }
-
-    pub(crate) fn log<R: Wait>(&self, rt: &R, name: &Text, line: &[u8]) -> io::Result<()> {
-        self.writers.lock(rt).log(name, line)
     }
 
     /// How many connections were let go for want of memory before a lane had them. It stays at 2^64 - 1.
