@@ -2,11 +2,14 @@
 //!
 //! The rest of a server stands around a part of one: `routes`; `handle`, the handlers of its one route; `match`, the matchers of a
 //! route that answers `yes`, before one that answers `no`; or `line_after`, the handlers before an answer of what is asked for then.
+//! Each answer is given twice: by the server as it was read, and by the chain of its routes.
+ghost use Rattle.std.specs.Prelude.{◌≡◌, false, IfOk};
 ghost use Rattle.cd_routes.specs.Invoking.{HasNoCycle};
 ghost use Rattle.cd_tree.specs.Tree.{IsSound};
 
 use crate::asked::request_of;
 use crate::scene::{variables_of, with_variables};
+use cd_chain::Chain;
 use cd_fill::Scene;
 use cd_module::{LoadFault, Named, Refusal};
 use cd_routes::{Server, answer_from, server_answer};
@@ -129,7 +132,7 @@ fn outcome_by_text(alloc: Global, row: &Tree, text: &[u8]) -> Result<Outcome, Ro
 
 fn outcome_by(alloc: Global, row: &Tree, tree: &Tree) -> Result<Outcome, RowFault> {
     match server_of(alloc, tree) {
-        Ok(server) => answered_outcome(alloc, row, &server),
+        Ok(server) => answered_outcome(alloc, row, server),
         Err(LoadFault::Refused(refusal)) => refused(alloc, &refusal),
         Err(LoadFault::NoMemory) => Err(RowFault::NoMemory),
     }
@@ -147,20 +150,50 @@ pub fn refused(alloc: Global, refusal: &Refusal) -> Result<Outcome, RowFault> {
     refuses(alloc, words.as_str())
 }
 
-fn answered_outcome(alloc: Global, row: &Tree, server: &Server) -> Result<Outcome, RowFault> {
+fn answered_outcome(alloc: Global, row: &Tree, server: Server) -> Result<Outcome, RowFault> {
     match find(row, "asked") {
         None => says(alloc, "found", "fine"),
         Some(asked) => {
             let request = request_of(alloc, asked)?;
-            match server.first_in_cycle(alloc)? {
-                None => answer_outcome(alloc, row, server, &request),
-                Some(_) => Err(RowFault::Malformed("a named route leads to itself")),
+            if has_cycle(alloc, &server)? {
+                return Err(RowFault::Malformed("a named route leads to itself"));
             }
+            answer_outcome(alloc, row, server, &request)
         }
     }
 }
 
+fn has_cycle(alloc: Global, server: &Server) -> Result<bool, RowFault>
+    ensures { IfOk result (λ found. found ≡ false → HasNoCycle (server.now).named) }
+{
+    match server.first_in_cycle(alloc)? {
+        None => Ok(false),
+        Some(_) => Ok(true),
+    }
+}
+
+// What the server answers, and what the chain of its routes does.
 fn answer_outcome(
+    alloc: Global,
+    row: &Tree,
+    server: Server,
+    request: &Request,
+) -> Result<Outcome, RowFault>
+    requires { HasNoCycle server.named }
+{
+    let answered = outcome_of_server(alloc, row, &server, request)?;
+    let Server {
+        routes,
+        errors,
+        named,
+        ..
+    } = server;
+    let chain = Chain::compile(alloc, routes, errors, named)?;
+    let laid = outcome_of_chain(alloc, row, &chain, request)?;
+    both(alloc, answered, laid)
+}
+
+fn outcome_of_server(
     alloc: Global,
     row: &Tree,
     server: &Server,
@@ -169,11 +202,43 @@ fn answer_outcome(
     requires { HasNoCycle (server.now).named }
 {
     let answer = answer_of(alloc, row, server, request)?;
+    shown(alloc, row, &answer, request)
+}
+
+fn outcome_of_chain(
+    alloc: Global,
+    row: &Tree,
+    chain: &Chain,
+    request: &Request,
+) -> Result<Outcome, RowFault> {
+    let answer = chain_answer_of(alloc, row, chain, request)?;
+    shown(alloc, row, &answer, request)
+}
+
+fn shown(
+    alloc: Global,
+    row: &Tree,
+    answer: &Answer<'_>,
+    request: &Request,
+) -> Result<Outcome, RowFault> {
     if has(row, "found") {
-        shortly(alloc, &answer)
+        shortly(alloc, answer)
     } else {
-        sent(alloc, &answer, request)
+        sent(alloc, answer, request)
     }
+}
+
+// One of them, where they are the same; else no row wants what is said.
+fn both(alloc: Global, answered: Outcome, laid: Outcome) -> Result<Outcome, RowFault> {
+    if answered.bytes.as_slice() == laid.bytes.as_slice() {
+        return Ok(answered);
+    }
+    let mut bytes = Octets::from_slice(alloc, b"the chain answers otherwise: ")?;
+    bytes.append(laid.bytes.as_slice())?;
+    Ok(Outcome {
+        member: answered.member,
+        bytes,
+    })
 }
 
 // The answer to a request that has the variables `vars` from the first, where the row has them.
@@ -191,6 +256,22 @@ fn answer_of<'a>(
             let variables = variables_of(alloc, pairs)?;
             let scene = Scene::new(alloc, request)?;
             Ok(answer_from(alloc, server, with_variables(scene, variables))?)
+        }
+    }
+}
+
+fn chain_answer_of<'a>(
+    alloc: Global,
+    row: &Tree,
+    chain: &'a Chain,
+    request: &'a Request,
+) -> Result<Answer<'a>, RowFault> {
+    match find(row, "vars") {
+        None => Ok(chain.answer(alloc, request)?),
+        Some(pairs) => {
+            let variables = variables_of(alloc, pairs)?;
+            let scene = Scene::new(alloc, request)?;
+            Ok(chain.answer_from(alloc, with_variables(scene, variables))?)
         }
     }
 }

@@ -1,0 +1,168 @@
+-- What an added place means, by the settings that it was made of.
+use Rattle.std.proofs.Common.{◌≡◌, true, false, Bool, ℕ, suc, ◌+◌, ◌≤◌, List, [], ◌∷◌, ◌++◌, length, map, get_or, if◌then◌else◌, Option, Some, None, option_map, sym, ap, ◌∙◌, refl, arith, length-append}
+use Rattle.cd_fill.specs.declared.scene.Scene.{Scene}
+use Rattle.cd_handlers.specs.declared.handler.Handler.{Handler}
+use Rattle.cd_handlers.specs.Invoke.{invoked}
+use Rattle.cd_routes.specs.declared.outcome.Outcome.{Outcome}
+use Rattle.cd_routes.specs.declared.outcome.Outcome.TheVariants.{Answered, Failed}
+use Rattle.cd_routes.specs.declared.route.Route.{Route, out-Route}
+use Rattle.cd_routes.specs.declared.route.Step.{Step}
+use Rattle.cd_routes.specs.declared.route.Step.TheVariants as step
+use Rattle.cd_routes.specs.declared.route.Subroute.{Subroute, out-Subroute}
+use Rattle.cd_routes.specs.Invoking.{Names, place_of}
+use Rattle.cd_routes.specs.Running.{Rest, Middleware, Named, nothing_left, in_order, handled, in_place, caught, run_route, run_routes, run_step, run_steps}
+use Rattle.cd_routes.specs.Work.{total, errors_weight, route_weight, step_weight}
+use Rattle.cd_routes.proofs.Equations.{run_route_is, run_handler_is, run_subroute_is}
+use Rattle.cd_chain.specs.declared.place.Place.{Place}
+use Rattle.cd_chain.specs.declared.place.Place.TheVariants as place
+use Rattle.cd_chain.specs.Places.{or_failed, ended, route_does, place_does, meanings, at, Grows}
+use Rattle.cd_chain.specs.Laying.{entered, entered_by, AreLaid}
+use Rattle.cd_chain.proofs.Laid.{laid_new, laid_kept, laid_end}
+
+-- ---- weights
+
+-- an `invoke` weighs what another handler does
+abbrev pub plain : List ℕ → ℕ
+plain name = 0
+
+abbrev pub route_size : Route → ℕ
+route_size r = route_weight plain r
+
+abbrev pub step_size : Step → ℕ
+step_size s = step_weight plain s
+
+-- ---- growing
+
+alike : (f g : Rest) → ((x : Scene) → f x ≡ g x) → f ≡ g
+alike f g same = λ i x. same x i
+
+added : (old new : List Place) (p : Place) (n : ℕ) → new ≡ old ++ p ∷ [] → n ≡ length new → at new n ≡ place_does (meanings old) p
+added old new p n is number =
+    let size : n ≡ suc (length old) = omega (arith, number, ap length is, length-append old (p ∷ [])) in
+    ap (λ all. at all n) is ∙ ap (λ k. at (old ++ p ∷ []) k) size ∙ laid_new place_does ended old p
+
+pub grows_by : (old new : List Place) (p : Place) → new ≡ old ++ p ∷ [] → Grows old new
+grows_by old new p is = record {
+  longer = omega (arith, ap length is, length-append old (p ∷ []));
+  kept = λ n within. ap (λ all. at all n) is ∙ laid_kept place_does ended old (p ∷ []) n within;
+}
+
+pub grows_on : (old mid new : List Place) → Grows old mid → Grows mid new → Grows old new
+grows_on old mid new first second = record {
+  longer = omega (arith, first.longer, second.longer);
+  kept = λ n within. second.kept n (omega (arith, within, first.longer)) ∙ first.kept n within;
+}
+
+pub grows_same : (places : List Place) → Grows places places
+grows_same places = record { longer = omega arith; kept = λ n within. refl }
+
+-- what is entered stays
+pub entered_kept : (old new : List Place) (entries : List ℕ) (names : Names) → AreLaid old entries → Grows old new → entered_by new entries names ≡ entered_by old entries names
+entered_kept old new entries names laid grows = λ i name. grows.kept (get_or entries (place_of names name) 1) (laid (place_of names name)) i
+
+pub still_laid : (old new : List Place) (entries : List ℕ) → AreLaid old entries → Grows old new → AreLaid new entries
+still_laid old new entries laid grows = λ n. omega (arith, laid n, grows.longer)
+
+-- ---- handlers
+
+pub handler_added : (e : Named) (h : Handler) (old new : List Place) (rest n : ℕ) (back : Rest) → invoked h ≡ None → new ≡ old ++ place.Handler h rest ∷ [] → n ≡ length new →
+    at new n back ≡ in_place e (invoked h) h (at old rest back)
+unfolding place_does
+handler_added e h old new rest n back none is number =
+    ap (λ (f : Middleware). f back) (added old new (place.Handler h rest) n is number) ∙ sym (ap (λ i. in_place e i h (at old rest back)) none)
+
+pub invoke_added : (names : Names) (name : List ℕ) (h : Handler) (entries : List ℕ) (m into : ℕ) (old new : List Place) (rest n : ℕ) (back : Rest) → invoked h ≡ Some name → m ≡ place_of names name → into ≡ get_or entries m 1 →
+    new ≡ old ++ place.Invoke into rest ∷ [] → n ≡ length new → at new n back ≡ in_place (entered_by old entries names) (invoked h) h (at old rest back)
+unfolding place_does
+invoke_added names name h entries m into old new rest n back some place_is into_is is number =
+    ap (λ (f : Middleware). f back) (added old new (place.Invoke into rest) n is number)
+    ∙ ap (λ k. at old k (at old rest back)) (into_is ∙ ap (λ j. get_or entries j 1) place_is)
+    ∙ sym (ap (λ i. in_place (entered_by old entries names) i h (at old rest back)) some)
+
+-- ---- routes
+
+pub rest_of : (places : List Place) (terminal : Bool) (rest : ℕ) (back : Rest) → at places (if terminal then 0 else rest) back ≡ (if terminal then nothing_left else at places rest back)
+rest_of places true rest back = ap (λ (f : Middleware). f back) (laid_end place_does ended places)
+rest_of places false rest back = refl
+
+pub route_added : (e : Named) (r : Route) (old mid new : List Place) (rest inside n : ℕ) (back : Rest) →
+    at mid inside back ≡ run_steps e (out-Route r).handle (at old (if (out-Route r).terminal then 0 else rest) back) → at mid rest ≡ at old rest →
+    new ≡ mid ++ place.Route (out-Route r).matching (out-Route r).group inside rest ∷ [] → n ≡ length new → at new n back ≡ run_route e r (at old rest back)
+unfolding place_does
+route_added e r old mid new rest inside n back inside_is rest_is is number =
+    ap (λ (f : Middleware). f back) (added mid new (place.Route (out-Route r).matching (out-Route r).group inside rest) n is number)
+    ∙ ap (λ (f : Rest). route_does (out-Route r).matching (out-Route r).group f (at mid rest back)) (inside_is ∙ ap (run_steps e (out-Route r).handle) (rest_of old (out-Route r).terminal rest back))
+    ∙ ap (λ (f : Middleware). route_does (out-Route r).matching (out-Route r).group (run_steps e (out-Route r).handle (if (out-Route r).terminal then nothing_left else at old rest back)) (f back)) rest_is
+    ∙ alike _ _ (λ x. sym (run_route_is e r (at old rest back) x))
+
+-- ---- subroutes
+
+caught_is : (errors : List Middleware) (rest : Rest) (outcome : Outcome) → caught (Some errors) rest outcome ≡ or_failed (in_order errors rest) outcome
+unfolding caught
+caught_is errors rest (Answered a) = refl
+caught_is errors rest (Failed x status message) = refl
+
+caught_none : (rest : Rest) (outcome : Outcome) → caught None rest outcome ≡ outcome
+unfolding caught
+caught_none rest outcome = refl
+
+pub plain_added : (e : Named) (s : Subroute) (old new : List Place) (rest n : ℕ) (back : Rest) → (out-Subroute s).errors ≡ None →
+    at new n back ≡ run_routes e (out-Subroute s).routes (at old rest back) → at new n back ≡ run_step e (step.Subroute s) (at old rest back)
+plain_added e s old new rest n back none is =
+    is ∙ alike _ _ (λ x. sym (run_subroute_is e s (at old rest back) x
+    ∙ ap (λ errors. caught (option_map (map (run_route e)) errors) (at old rest back) (run_routes e (out-Subroute s).routes (at old rest back) x)) none
+    ∙ caught_none (at old rest back) (run_routes e (out-Subroute s).routes (at old rest back) x)))
+
+abbrev failed_after : Rest → Rest → Rest
+failed_after errors first x = or_failed errors (first x)
+
+pub try_added : (e : Named) (s : Subroute) (errors : List Route) (old mid late new : List Place) (rest first second n : ℕ) (back : Rest) → (out-Subroute s).errors ≡ Some errors →
+    at mid first back ≡ run_routes e (out-Subroute s).routes (at old rest back) → at mid rest ≡ at old rest →
+    at late second back ≡ run_routes e errors (at mid rest back) → at late first ≡ at mid first →
+    new ≡ late ++ place.Try first second ∷ [] → n ≡ length new → at new n back ≡ run_step e (step.Subroute s) (at old rest back)
+unfolding place_does
+try_added e s errors old mid late new rest first second n back some first_is rest_is second_is kept is number =
+    ap (λ (f : Middleware). f back) (added late new (place.Try first second) n is number)
+    ∙ ap (failed_after (at late second back)) (ap (λ (f : Middleware). f back) kept ∙ first_is)
+    ∙ ap (λ (g : Rest). failed_after g (run_routes e (out-Subroute s).routes (at old rest back))) (second_is ∙ ap (λ (f : Middleware). run_routes e errors (f back)) rest_is)
+    ∙ alike _ _ (λ x. sym (run_subroute_is e s (at old rest back) x
+    ∙ ap (λ given. caught (option_map (map (run_route e)) given) (at old rest back) (run_routes e (out-Subroute s).routes (at old rest back) x)) some
+    ∙ caught_is (map (run_route e) errors) (at old rest back) (run_routes e (out-Subroute s).routes (at old rest back) x)))
+
+-- ---- lists, of which the last is laid out first
+
+in_order_push : {A : Type 0} (f : A → Middleware) (xs : List A) (y : A) (rest : Rest) → in_order (map f (xs ++ y ∷ [])) rest ≡ in_order (map f xs) (f y rest)
+unfolding in_order
+in_order_push f [] y rest = refl
+in_order_push f (x ∷ xs) y rest = ap (f x) (in_order_push f xs y rest)
+
+pub routes_popped : (e : Named) (left new : List Route) (r : Route) (rest : Rest) → left ≡ new ++ r ∷ [] → run_routes e left rest ≡ run_routes e new (run_route e r rest)
+routes_popped e left new r rest is = ap (λ rs. run_routes e rs rest) is ∙ in_order_push (run_route e) new r rest
+
+pub steps_popped : (e : Named) (left new : List Step) (s : Step) (rest : Rest) → left ≡ new ++ s ∷ [] → run_steps e left rest ≡ run_steps e new (run_step e s rest)
+steps_popped e left new s rest is = ap (λ ss. run_steps e ss rest) is ∙ in_order_push (run_step e) new s rest
+
+total_push : {A : Type 0} (f : A → ℕ) (xs : List A) (y : A) → total (map f (xs ++ y ∷ [])) ≡ f y + total (map f xs)
+total_push f [] y = omega arith
+total_push f (x ∷ xs) y = omega (arith, total_push f xs y)
+
+pub routes_lighter : (left new : List Route) (r : Route) → left ≡ new ++ r ∷ [] → total (map route_size left) ≡ route_size r + total (map route_size new)
+routes_lighter left new r is = ap (λ rs. total (map route_size rs)) is ∙ total_push route_size new r
+
+pub steps_lighter : (left new : List Step) (s : Step) → left ≡ new ++ s ∷ [] → total (map step_size left) ≡ step_size s + total (map step_size new)
+steps_lighter left new s is = ap (λ ss. total (map step_size ss)) is ∙ total_push step_size new s
+
+pub none_left : (e : Named) (left : List Route) (rest : Rest) → left ≡ [] → rest ≡ run_routes e left rest
+unfolding in_order
+none_left e left rest is = sym (ap (λ rs. run_routes e rs rest) is)
+
+pub no_steps_left : (e : Named) (left : List Step) (rest : Rest) → left ≡ [] → rest ≡ run_steps e left rest
+unfolding in_order
+no_steps_left e left rest is = sym (ap (λ ss. run_steps e ss rest) is)
+
+pub errors_weigh : (errors : Option (List Route)) (given : List Route) → errors ≡ Some given → total (map route_size given) ≤ errors_weight (option_map (map route_size) errors)
+errors_weigh errors given is = rw is (omega arith)
+
+pub some_total : (ns : List ℕ) → 1 ≤ total ns
+some_total [] = omega arith
+some_total (n ∷ ns) = omega (arith, some_total ns)

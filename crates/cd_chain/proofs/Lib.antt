@@ -1,0 +1,9 @@
+pub mod Laid
+pub mod Numbers
+pub mod Frames
+pub mod Goings
+pub mod Layouts
+pub mod Standing
+pub mod NamedAt
+pub mod LaidOut
+pub mod Crossing

@@ -1,0 +1,6 @@
+pub mod Doing
+pub mod Places
+pub mod Steps
+pub mod Frames
+pub mod Chains
+pub mod Laying

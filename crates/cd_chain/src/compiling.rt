@@ -1,0 +1,183 @@
+//! Routes are laid out as places, the last one first.
+ghost use Rattle.std.specs.Prelude.{◌≡◌, ◌≤◌, ◌++◌, ◌∷◌, [], length, IfOk, OnOk, get_or, if◌then◌else◌};
+ghost use Rattle.cd_handlers.specs.Invoke.{invoked};
+ghost use Rattle.cd_routes.specs.Running.{Rest, in_place, run_route, run_routes, run_step, run_steps};
+ghost use Rattle.cd_chain.specs.Places.{at, Grows};
+ghost use Rattle.cd_chain.specs.Laying.{entered_by, AreLaid};
+
+use crate::leading::place_of;
+use crate::place::Place;
+use cd_handlers::Handler;
+use cd_routes::{Route, Step, Subroute};
+use cd_text::{List, NoMemory, Text};
+
+// Adds a place, and gives its number.
+fn add(places: &mut Vec<Place>, place: Place) -> Result<usize, NoMemory>
+    ensures number { IfOk result (λ n. n ≡ length places.new.items) }
+    ensures items { IfOk result (λ n. places.new.items ≡ places.old.items ++ place ∷ []) }
+{
+    places.push(place)?;
+    Ok(places.len())
+}
+
+// What follows the steps of a route: nothing, where it is terminal.
+fn after(terminal: bool, rest: usize) -> usize
+    ensures value { result ≡ (if terminal then 0 else rest) }
+    ensures within { result ≤ rest }
+{
+    if terminal { 0 } else { rest }
+}
+
+// Where the named route of a number is entered.
+fn entry(entries: &[usize], n: usize) -> usize
+    ensures { result ≡ get_or entries.now n 1 }
+{
+    match entries.get(n) {
+        Some(entry) => *entry,
+        None => 1,
+    }
+}
+
+// A handler that is no `invoke`, which what is at `rest` follows.
+#[tactic(auto, using(crate::proofs::Layouts::handler_added, crate::proofs::Layouts::grows_by))]
+fn compile_handler(
+    places: &mut Vec<Place>,
+    names: &[Text],
+    entries: &[usize],
+    handler: Handler,
+    rest: usize,
+) -> Result<usize, NoMemory>
+    ensures meaning { IfOk result (λ n. (back : Rest)
+        → at places.new.items n back ≡ in_place (entered_by places.old.items entries.now names.now) (invoked handler) handler (at places.old.items rest back)) }
+    ensures within { IfOk result (λ n. n ≤ length places.new.items) }
+    ensures grows { OnOk result (Grows places.old.items places.new.items) }
+{
+    match handler.invoked() {
+        Some(name) => {
+            let inside = entry(entries, place_of(names, name));
+            let begin = add(places, Place::Invoke(inside, rest))?;
+            Ok(begin)
+        }
+        None => {
+            let begin = add(places, Place::Handler(handler, rest))?;
+            Ok(begin)
+        }
+    }
+}
+
+/// Lays routes out, which what is at `rest` follows. Gives the place where they begin.
+#[cycle(compiling)]
+pub(crate) fn compile_routes(
+    places: &mut Vec<Place>,
+    names: &[Text],
+    entries: &[usize],
+    routes: List<Route>,
+    rest: usize,
+) -> Result<usize, NoMemory>
+    requires rest { rest ≤ length places.old.items }
+    requires entries { AreLaid places.old.items entries.now }
+    ensures meaning { IfOk result (λ n. (back : Rest)
+        → at places.new.items n back ≡ run_routes (entered_by places.old.items entries.now names.now) routes (at places.old.items rest back)) }
+    ensures within { IfOk result (λ n. n ≤ length places.new.items) }
+    ensures grows { OnOk result (Grows places.old.items places.new.items) }
+{
+    let mut routes = routes;
+    let mut begin = rest;
+    while let Some(route) = routes.pop() {
+        begin = compile_route(places, names, entries, route, begin)?;
+    }
+    Ok(begin)
+}
+
+/// The same of one route.
+#[cycle(compiling)]
+pub(crate) fn compile_route(
+    places: &mut Vec<Place>,
+    names: &[Text],
+    entries: &[usize],
+    route: Route,
+    rest: usize,
+) -> Result<usize, NoMemory>
+    requires rest { rest ≤ length places.old.items }
+    requires entries { AreLaid places.old.items entries.now }
+    ensures meaning { IfOk result (λ n. (back : Rest)
+        → at places.new.items n back ≡ run_route (entered_by places.old.items entries.now names.now) route (at places.old.items rest back)) }
+    ensures within { IfOk result (λ n. n ≤ length places.new.items) }
+    ensures grows { OnOk result (Grows places.old.items places.new.items) }
+{
+    let Route {
+        group,
+        matching,
+        handle,
+        terminal,
+    } = route;
+    let inside = compile_steps(places, names, entries, handle, after(terminal, rest))?;
+    let begin = add(
+        places,
+        Place::Route {
+            matching,
+            group,
+            inside,
+            otherwise: rest,
+        },
+    )?;
+    Ok(begin)
+}
+
+#[cycle(compiling)]
+fn compile_steps(
+    places: &mut Vec<Place>,
+    names: &[Text],
+    entries: &[usize],
+    steps: List<Step>,
+    rest: usize,
+) -> Result<usize, NoMemory>
+    requires rest { rest ≤ length places.old.items }
+    requires entries { AreLaid places.old.items entries.now }
+    ensures meaning { IfOk result (λ n. (back : Rest)
+        → at places.new.items n back ≡ run_steps (entered_by places.old.items entries.now names.now) steps (at places.old.items rest back)) }
+    ensures within { IfOk result (λ n. n ≤ length places.new.items) }
+    ensures grows { OnOk result (Grows places.old.items places.new.items) }
+{
+    let mut steps = steps;
+    let mut begin = rest;
+    while let Some(step) = steps.pop() {
+        begin = compile_step(places, names, entries, step, begin)?;
+    }
+    Ok(begin)
+}
+
+#[cycle(compiling)]
+fn compile_step(
+    places: &mut Vec<Place>,
+    names: &[Text],
+    entries: &[usize],
+    step: Step,
+    rest: usize,
+) -> Result<usize, NoMemory>
+    requires rest { rest ≤ length places.old.items }
+    requires entries { AreLaid places.old.items entries.now }
+    ensures meaning { IfOk result (λ n. (back : Rest)
+        → at places.new.items n back ≡ run_step (entered_by places.old.items entries.now names.now) step (at places.old.items rest back)) }
+    ensures within { IfOk result (λ n. n ≤ length places.new.items) }
+    ensures grows { OnOk result (Grows places.old.items places.new.items) }
+{
+    match step {
+        Step::Handler(handler) => {
+            let begin = compile_handler(places, names, entries, handler, rest)?;
+            Ok(begin)
+        }
+        Step::Subroute(inside) => {
+            let Subroute { routes, errors } = inside;
+            let first = compile_routes(places, names, entries, routes, rest)?;
+            match errors {
+                None => Ok(first),
+                Some(errors) => {
+                    let second = compile_routes(places, names, entries, errors, rest)?;
+                    let begin = add(places, Place::Try(first, second))?;
+                    Ok(begin)
+                }
+            }
+        }
+    }
+}

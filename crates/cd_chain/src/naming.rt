@@ -1,0 +1,157 @@
+//! Each named route is laid out once, before what invokes it.
+ghost use Rattle.std.specs.Prelude.{◌≡◌, ◌≤◌, ℕ, [], ◌∷◌, List, Option, length, get_or, map, slice_set, IfOk};
+ghost use Rattle.cd_leads.specs.Orders.{IsOrder};
+ghost use Rattle.cd_routes.specs.declared.named.NamedRoute.{NamedRoute as NamedOf};
+ghost use Rattle.cd_routes.specs.Invoking.{HasNoCycle, leads_of, route_names};
+ghost use Rattle.cd_routes.specs.Named.{named_routes};
+ghost use Rattle.cd_chain.specs.declared.place.Place.TheVariants.{Return};
+ghost use Rattle.cd_chain.specs.Laying.{entered, entered_by, named_at, AreLaid, Lays, LaysOne};
+
+use crate::compiling::compile_route;
+use crate::leading::{leads_of, order_of};
+use crate::place::Place;
+use cd_routes::{NamedRoute, Route};
+use cd_text::{List, NoMemory, Text};
+use std::alloc::Global;
+use std::mem::replace;
+
+/// The named routes of a server, laid out.
+#[derive(Drop)]
+pub(crate) struct Layout {
+    pub places: Vec<Place>,
+    /// Their names, and where each is entered.
+    pub names: List<Text>,
+    pub entries: Vec<usize>,
+}
+
+// Named routes taken apart: their names, and the routes that are still to be laid out.
+#[derive(Drop)]
+struct Parts {
+    names: List<Text>,
+    slots: Vec<Option<Route>>,
+}
+
+fn parted(alloc: Global, named: List<NamedRoute>) -> Result<Parts, NoMemory>
+    ensures names { IfOk result (λ parts. parts.names ≡ route_names named) }
+    ensures slots { IfOk result (λ parts. parts.slots.items ≡ map (λ (r : NamedOf). Option.Some r.route) named) }
+{
+    let mut names = List::new(alloc);
+    let mut slots = Vec::new(alloc);
+    for one in named.into_vec() {
+        let NamedRoute { name, route } = one;
+        names.push(name)?;
+        slots.push(Some(route))?;
+    }
+    Ok(Parts { names, slots })
+}
+
+// Each is entered at the first place so far.
+fn first_entries(alloc: Global, count: usize) -> Result<Vec<usize>, NoMemory>
+    ensures size { IfOk result (λ entries. length entries.items ≡ count) }
+    ensures value { IfOk result (λ entries. (n : ℕ) → get_or entries.items n 1 ≡ 1) }
+{
+    let mut entries = Vec::new(alloc);
+    for _step in 0..count {
+        entries.push(1)?;
+    }
+    Ok(entries)
+}
+
+// The place to which every named route returns.
+fn first_places(alloc: Global) -> Result<Vec<Place>, NoMemory>
+    ensures { IfOk result (λ places. places.items ≡ Return ∷ []) }
+{
+    let mut places = Vec::new(alloc);
+    places.push(Place::Return)?;
+    Ok(places)
+}
+
+// Takes the route of a number.
+fn take_route(slots: &mut [Option<Route>], n: usize) -> Option<Route>
+    ensures result { result ≡ get_or slots.old n Option.None }
+    ensures slots { slots.new ≡ slice_set slots.old n Option.None }
+{
+    if n < slots.len() {
+        return replace(&mut slots[n], None);
+    }
+    None
+}
+
+fn put_entry(entries: &mut [usize], n: usize, begin: usize)
+    ensures { entries.new ≡ slice_set entries.old n begin }
+{
+    if n < entries.len() {
+        entries[n] = begin;
+    }
+}
+
+// Lays one out, and keeps where it is entered.
+#[tactic(auto, using(crate::proofs::LaidOut::lays_nothing, crate::proofs::LaidOut::lays_route))]
+fn lay_one(
+    places: &mut Vec<Place>,
+    names: &[Text],
+    slots: &mut [Option<Route>],
+    entries: &mut [usize],
+    n: usize,
+) -> Result<(), NoMemory>
+    requires rest { 1 ≤ length places.old.items }
+    requires entries { AreLaid places.old.items entries.old }
+    ensures { IfOk result (λ _. LaysOne names.now places.old.items places.new.items slots.old slots.new entries.old entries.new n) }
+{
+    match take_route(slots, n) {
+        None => Ok(()),
+        Some(route) => {
+            let begin = compile_route(places, names, entries, route, 1)?;
+            put_entry(entries, n, begin);
+            Ok(())
+        }
+    }
+}
+
+/// Lays the named routes out, in an order in which each stands after those that it invokes. Afterwards each is entered at its
+/// entry, and returns to what follows.
+pub(crate) fn lay_named(
+    places: &mut Vec<Place>,
+    names: &[Text],
+    slots: &mut [Option<Route>],
+    entries: &mut [usize],
+    order: &[usize],
+) -> Result<(), NoMemory>
+    requires rest { 1 ≤ length places.old.items }
+    requires entries { AreLaid places.old.items entries.old }
+    ensures stand { IfOk result (λ _. (named : List NamedOf) → HasNoCycle named → names.now ≡ route_names named → IsOrder (leads_of named) order.now
+        → Lays named places.old.items entries.old slots.old [] → (n : ℕ) → entered places.new.items entries.new n ≡ named_at named n) }
+    ensures laid { IfOk result (λ _. AreLaid places.new.items entries.new) }
+{
+    for n in order {
+        lay_one(places, names, slots, entries, *n)?;
+    }
+    Ok(())
+}
+
+/// Lays out all named routes of a server.
+#[tactic(auto, using(crate::proofs::LaidOut::none_laid, crate::proofs::LaidOut::all_lead, crate::proofs::Standing::all_named))]
+pub(crate) fn lay_all(alloc: Global, named: List<NamedRoute>) -> Result<Layout, NoMemory>
+    requires { HasNoCycle named }
+    ensures named { IfOk result (λ made. entered_by made.places.items made.entries.items made.names ≡ named_routes named) }
+    ensures laid { IfOk result (λ made. AreLaid made.places.items made.entries.items) }
+{
+    let parts = parted(alloc, named)?;
+    let Parts { names, mut slots } = parts;
+    let leads = leads_of(alloc, names.as_slice(), slots.as_slice())?;
+    let order = order_of(alloc, leads.as_slice())?;
+    let mut entries = first_entries(alloc, names.len())?;
+    let mut places = first_places(alloc)?;
+    lay_named(
+        &mut places,
+        names.as_slice(),
+        slots.as_mut_slice(),
+        entries.as_mut_slice(),
+        order.as_slice(),
+    )?;
+    Ok(Layout {
+        places,
+        names,
+        entries,
+    })
+}
