@@ -6,4 +6,5 @@ mod Unpublished
 mod RunEnds
 mod Declined
 mod Storms
+mod Completing
 mod Examples

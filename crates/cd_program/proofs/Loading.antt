@@ -51,7 +51,7 @@ all_loaded plan bytes (Some left) found loads =
     read_so plan loads.bytes bytes left (Some-injective loads.gave.given) loads.gave.all ∙ loads.is
 all_loaded plan bytes None found loads = let none = loads.gave.given in cc
 
-apart : (t : Tree) (refusal : Refusal) → ◌≡◌ {A = Result Tree Refusal} (Ok t) (Err refusal) → ⊥
+pub apart : (t : Tree) (refusal : Refusal) → ◌≡◌ {A = Result Tree Refusal} (Ok t) (Err refusal) → ⊥
 apart t refusal e = cc
 
 -- where the tree null may run, what is refused is that of a file

@@ -1,8 +1,7 @@
 -- What a table by status says of the exit status.
 use Rattle.std.proofs.Common.{◌≡◌, ◌≤◌, ◌↔◌, ◌∙◌, ℕ, refl, sym, subst, arith}
 use Rattle.cd_program.specs.declared.command.Command.{Command}
-use Rattle.cd_program.specs.declared.command.Command.TheVariants.{Serve, Unknown}
-use Rattle.cd_program.specs.declared.initial.Initial.{Initial}
+use Rattle.cd_program.specs.declared.command.Command.TheVariants.{Unknown}
 use Rattle.cd_program.specs.declared.status.Status.{Status}
 use Rattle.cd_program.specs.declared.status.Status.TheVariants as status
 use Rattle.cd_program.specs.Top.{code_of, ExitsWith}
@@ -36,6 +35,3 @@ module _ (code : ℕ) (IsSo : Status → Type 0) (e : ExitsWith code IsSo) where
 -- so it is not where the words ask for something that is known
 pub never_2 : (code : ℕ) (IsSo : Status → Type 0) → ExitsWith code IsSo → (IsSo status.Usage → ⊥) → (command : Command) → (command ≡ Unknown → ⊥) → (code ≡ 2) ↔ (command ≡ Unknown)
 never_2 code IsSo e none command known = (λ two. absurd (not_usage code IsSo e none two), λ is. absurd (known is))
-
-pub serve_is : (one other : Initial) → Serve one ≡ Serve other → one ≡ other
-serve_is one other e = cc

@@ -6,3 +6,4 @@ pub mod Output
 pub mod Top
 pub mod Endings
 pub mod Storm
+pub mod Complete

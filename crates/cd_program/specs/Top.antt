@@ -1,5 +1,5 @@
 -- Part of the main theorem.
--- How the program ended, and why: a table by status for each command.
+-- How the program ended, and why: a table by command, and for each command one by status.
 use Rattle.std.specs.Prelude.{◌≡◌, ◌⊎◌, ℕ, Bool, true, false, List, Option, Result, Ok, Err}
 use Rattle.cd_outside.specs.declared.key.Key.{Key}
 use Rattle.cd_tree.specs.declared.tree.Tree.{Tree}
@@ -13,6 +13,8 @@ use Rattle.cd_serve.specs.Meanings.{Meaning}
 use Rattle.cd_host.specs.Hosting.{serving_line}
 use Rattle.cd_host.specs.Program.{Start}
 use Rattle.cd_host.specs.Runs.{Ran}
+use Rattle.cd_program.specs.declared.command.Command as commands
+use Rattle.cd_program.specs.declared.command.Command.TheVariants as Command
 use Rattle.cd_program.specs.declared.initial.Initial.{Initial}
 use Rattle.cd_program.specs.declared.initial.Initial.TheVariants.{OfFile, Null}
 use Rattle.cd_program.specs.declared.refusal.Refusal.{Refusal}
@@ -20,8 +22,9 @@ use Rattle.cd_program.specs.declared.status.Status.{Status}
 use Rattle.cd_program.specs.declared.status.Status.TheVariants as status
 use Rattle.cd_program.specs.Config.{Gave}
 use Rattle.cd_program.specs.Configuration.{configured, if_planned, words_of}
-use Rattle.cd_program.specs.Output.{Writes, WroteLess, Says, run_text, valid_line, read_fault_line, refused_line, unopened_line}
-use Rattle.cd_program.specs.Seen.{Device, HasFailed, Seen, IsUnserved, IsUntouched, observed_in}
+use Rattle.cd_program.specs.Output.{FellShort, Writes, WroteLess, Says, run_text, valid_line, read_fault_line, refused_line, unopened_line}
+use Rattle.cd_program.specs.Seen.{Device, HasFailed, Seen, IsBack, IsUnserved, IsUntouched, observed_in}
+use Rattle.cd_program.specs.Storm.{Storms}
 use Rattle.cd_program.specs.Words.{is_of_file, usage_line}
 
 -- the exit status of the program
@@ -133,3 +136,14 @@ Validates plan source output status.NoMemory = output.told_now ≡ output.told_b
 abbrev pub Declines : Device (List ℕ) → Status → Type 0
 Declines output status.Usage = Says usage_line output
 Declines output other = ⊥
+
+-- ---- the table of commands
+
+-- what is seen of a call with this exit status, by the command: the row of its status, and what comes back of a call that runs
+-- nothing; no lane is served before the whole first line was written
+module _ {F L : Type 0} (s : Seen F L) (code : ℕ) where
+  abbrev pub EndsAs : commands.Command → Type 0
+  EndsAs (Command.Serve initial) = ExitsWith code (Serves standard initial s) × (FellShort serving_line s.output.told_before s.output.told_now → IsUnserved s)
+  EndsAs Command.Validate = ExitsWith code (Validates plan_of_tree s.source s.output) × IsUntouched s
+  EndsAs (Command.Storm number) = ExitsWith code (Storms standard number s.answered s.published s.output) × IsBack s
+  EndsAs Command.Unknown = ExitsWith code (Declines s.output) × IsUntouched s

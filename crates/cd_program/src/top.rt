@@ -1,12 +1,8 @@
-ghost use Rattle.std.specs.Prelude.{◌≡◌, ◌≤◌, ◌↔◌, ℕ, false, length, All};
+ghost use Rattle.std.specs.Prelude.{◌≡◌, ◌≤◌, ◌↔◌, false, length, All};
 ghost use Rattle.cd_legal.specs.declared.limits.TheConstants.{MAX_LANES};
-ghost use Rattle.cd_standard.specs.Acting.{plan_of_tree};
-ghost use Rattle.cd_host.specs.Hosting.{serving_line};
-ghost use Rattle.cd_program.specs.declared.initial.Initial.{Initial};
-ghost use Rattle.cd_program.specs.Output.{FellShort};
-ghost use Rattle.cd_program.specs.Seen.{IsBack, IsUnserved, IsUntouched, device, seen};
-ghost use Rattle.cd_program.specs.Storm.{Storms};
-ghost use Rattle.cd_program.specs.Top.{Declines, ExitsWith, Serves, Validates, standard};
+ghost use Rattle.cd_program.specs.Complete.{CompletesAs};
+ghost use Rattle.cd_program.specs.Seen.{seen};
+ghost use Rattle.cd_program.specs.Top.{EndsAs};
 ghost use Rattle.cd_program.specs.Words.{command, has_file};
 
 use crate::command::Command;
@@ -61,26 +57,14 @@ pub fn caddy_main<R: Threads + Wait + Sync, S: Source, O: Sink, F: Fixtures + Se
     ensures usage { (result.status ≡ 2) ↔ (command words.now ≡ Command.Unknown) }
     ensures unread { has_file (command words.now) ≡ false → config.new ≡ config.old }
 
-    // `run` and `stdio`: how they end, by status. No lane is served before the whole first line was written.
-    ensures serves { (initial : Initial) → command words.now ≡ Command.Serve initial → ExitsWith result.status (Serves standard initial
-        (seen S.left S.faults O.holds O.faults F.calls F.faults L.past L.faults config.old config.new out.old out.new fixtures lanes result)) }
-    ensures unbegun { (initial : Initial) → command words.now ≡ Command.Serve initial → FellShort serving_line (O.holds out.old) (O.holds out.new) → IsUnserved
-        (seen S.left S.faults O.holds O.faults F.calls F.faults L.past L.faults config.old config.new out.old out.new fixtures lanes result) }
+    // How each command ends, by status.
+    ensures ends { EndsAs (seen S.left S.faults O.holds O.faults F.calls F.faults L.past L.faults config.old config.new out.old out.new fixtures lanes result)
+        result.status (command words.now) }
 
-    // `validate` loads the configuration, and runs nothing.
-    ensures validates { command words.now ≡ Command.Validate
-        → ExitsWith result.status (Validates plan_of_tree (device S.left S.faults config.old config.new) (device O.holds O.faults out.old out.new)) × IsUntouched
-        (seen S.left S.faults O.holds O.faults F.calls F.faults L.past L.faults config.old config.new out.old out.new fixtures lanes result) }
-
-    // `storm` runs over forms of its own.
-    ensures storms { (number : ℕ) → command words.now ≡ Command.Storm number
-        → ExitsWith result.status (Storms standard number result.answered result.published (device O.holds O.faults out.old out.new)) × IsBack
-        (seen S.left S.faults O.holds O.faults F.calls F.faults L.past L.faults config.old config.new out.old out.new fixtures lanes result) }
-
-    // Other words do nothing.
-    ensures declines { command words.now ≡ Command.Unknown
-        → ExitsWith result.status (Declines (device O.holds O.faults out.old out.new)) × IsUntouched
-        (seen S.left S.faults O.holds O.faults F.calls F.faults L.past L.faults config.old config.new out.old out.new fixtures lanes result) }
+    // Completeness: where no call on a part of the outside has failed, the status is 0 or 5; and a run that ended with status 0, and
+    // lacked memory for no connection, has given each of them all its answers, up to its own end.
+    ensures completes { CompletesAs (seen S.left S.faults O.holds O.faults F.calls F.faults L.past L.faults config.old config.new out.old out.new fixtures lanes result)
+        result.status (command words.now) }
 {
     match Command::of(words) {
         Command::Serve(initial) => run_all::<Standard, R, S, O, F, L>(

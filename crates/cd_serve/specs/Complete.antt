@@ -1,3 +1,4 @@
+-- Part of the main theorem.
 -- What a connection has that was not interrupted: all its answers, up to its own end.
 use Rattle.std.specs.Prelude.{◌≡◌, ◌⊎◌, ℕ, true, List, [], ◌∷◌, ◌++◌}
 use Rattle.cd_outside.specs.declared.address.Address.{Address}

@@ -1,13 +1,14 @@
-use Rattle.std.proofs.Common.{◌∙◌, ap, refl, sym, subst}
+use Rattle.std.proofs.Common.{◌∙◌, refl, subst}
 use denote.Exit.{no}
 use denote.Param.Send.{arg_send, arg_sync, param_send, param_sync}
 use Rattle.cd_standard.specs.contracts.compiled.Compiled.{the_row}
 use Rattle.cd_standard.proofs.Crossing.{configuration_send, configuration_sync}
 use Rattle.cd_program.specs.declared.status.Status.TheVariants as status
 use Rattle.cd_program.specs.Seen.{seen}
-use Rattle.cd_program.specs.Top.{ExitsWith, Serves, standard}
+use Rattle.cd_program.specs.Top.{EndsAs}
+use Rattle.cd_program.proofs.Completing.{completes_as}
 use Rattle.cd_program.proofs.Loading.{null_may_run}
-use Rattle.cd_program.proofs.Statuses.{known, never_2, serve_is}
+use Rattle.cd_program.proofs.Statuses.{known, never_2}
 use Rattle.cd_program.proofs.top.caddy_main.Goals as goal
 
 -- a configuration may go to other threads, and be shared by them
@@ -37,17 +38,51 @@ returns-in-Serve-clause-known g c = known _ _ (c.run_all.ensures.ends null_may_r
 pub returns-in-Serve-clause-usage : goal.returns-in-Serve-clause-usage
 returns-in-Serve-clause-usage g c = never_2 _ _ (c.run_all.ensures.ends null_may_run) (λ no. no) _ (λ unknown. let e = c.in-Serve.ensures ∙ unknown in cc)
 
-pub returns-in-Serve-clause-serves : goal.returns-in-Serve-clause-serves
-returns-in-Serve-clause-serves g c = λ initial is.
-    subst (λ first. ExitsWith c.run_all.result.status (Serves standard first
-    (seen g.S.Source.left g.S.Source.faults g.O.Sink.holds g.O.Sink.faults g.F.Fixtures.calls g.F.Fixtures.faults g.L.Lane.past g.L.Lane.faults
-    c.args.config.now c.run_all.new.config c.args.out.now c.run_all.new.out c.args.fixtures c.args.lanes c.run_all.result)))
-    (serve_is _ _ (c.in-Serve.ensures ∙ is)) (c.run_all.ensures.ends null_may_run)
+pub returns-in-Serve-clause-ends : goal.returns-in-Serve-clause-ends
+returns-in-Serve-clause-ends g c =
+    subst (EndsAs (seen g.S.Source.left g.S.Source.faults g.O.Sink.holds g.O.Sink.faults g.F.Fixtures.calls g.F.Fixtures.faults g.L.Lane.past g.L.Lane.faults
+    c.args.config.now c.run_all.new.config c.args.out.now c.run_all.new.out c.args.fixtures c.args.lanes c.run_all.result) c.run_all.result.status) c.in-Serve.ensures (c.run_all.ensures.ends null_may_run, c.run_all.ensures.unbegun)
+
+-- ---- validate
+
+pub returns-in-Validate-clause-ends : goal.returns-in-Validate-clause-ends
+returns-in-Validate-clause-ends g c =
+    subst (EndsAs (seen g.S.Source.left g.S.Source.faults g.O.Sink.holds g.O.Sink.faults g.F.Fixtures.calls g.F.Fixtures.faults g.L.Lane.past g.L.Lane.faults
+    c.args.config.now c.validate.new.config c.args.out.now c.validate.new.out c.args.fixtures c.args.lanes c.unbegun.result) c.unbegun.result.status) c.in-Validate.ensures (
+      rw c.unbegun.ensures (record { status = c.validate.result; is = refl; so = c.validate.ensures }),
+      rw c.unbegun.ensures (record { unserved = record { lanes = refl; unanswered = refl; uncut = refl }; fixtures = refl; unpublished = refl }),
+    )
+
+-- ---- storm
+
+pub returns-in-Storm-clause-ends : goal.returns-in-Storm-clause-ends
+returns-in-Storm-clause-ends g c =
+    subst (EndsAs (seen g.S.Source.left g.S.Source.faults g.O.Sink.holds g.O.Sink.faults g.F.Fixtures.calls g.F.Fixtures.faults g.L.Lane.past g.L.Lane.faults
+    c.args.config.now c.args.config.now c.args.out.now c.run_storm.new.out c.args.fixtures c.args.lanes c.after_storm.result) c.after_storm.result.status) c.in-Storm.ensures (
+      rw c.after_storm.ensures (record { status = c.run_storm.result.status; is = refl; so = c.run_storm.ensures }),
+      rw c.after_storm.ensures (record { fixtures = refl; lanes = refl; uncut = refl }),
+    )
 
 -- ---- words that ask for nothing that is known
 
-pub returns-in-Unknown-clause-declines : goal.returns-in-Unknown-clause-declines
-returns-in-Unknown-clause-declines g c = λ is. (
-  rw c.unbegun-in-Unknown.ensures (record { status = status.Usage; is = refl; so = c.say_line.ensures.unfailing }),
-  rw c.unbegun-in-Unknown.ensures (record { unserved = record { lanes = refl; unanswered = refl; uncut = refl }; fixtures = refl; unpublished = refl }),
-)
+pub returns-in-Unknown-clause-ends : goal.returns-in-Unknown-clause-ends
+returns-in-Unknown-clause-ends g c =
+    subst (EndsAs (seen g.S.Source.left g.S.Source.faults g.O.Sink.holds g.O.Sink.faults g.F.Fixtures.calls g.F.Fixtures.faults g.L.Lane.past g.L.Lane.faults
+    c.args.config.now c.args.config.now c.args.out.now c.say_line.new.out c.args.fixtures c.args.lanes c.unbegun-in-Unknown.result) c.unbegun-in-Unknown.result.status) c.in-Unknown.ensures (
+      rw c.unbegun-in-Unknown.ensures (record { status = status.Usage; is = refl; so = c.say_line.ensures.unfailing }),
+      rw c.unbegun-in-Unknown.ensures (record { unserved = record { lanes = refl; unanswered = refl; uncut = refl }; fixtures = refl; unpublished = refl }),
+    )
+
+-- ---- completeness
+
+pub returns-in-Serve-clause-completes : goal.returns-in-Serve-clause-completes
+returns-in-Serve-clause-completes g c = completes_as _ _ _ (returns-in-Serve-clause-ends g c)
+
+pub returns-in-Validate-clause-completes : goal.returns-in-Validate-clause-completes
+returns-in-Validate-clause-completes g c = completes_as _ _ _ (returns-in-Validate-clause-ends g c)
+
+pub returns-in-Storm-clause-completes : goal.returns-in-Storm-clause-completes
+returns-in-Storm-clause-completes g c = completes_as _ _ _ (returns-in-Storm-clause-ends g c)
+
+pub returns-in-Unknown-clause-completes : goal.returns-in-Unknown-clause-completes
+returns-in-Unknown-clause-completes g c = completes_as _ _ _ (returns-in-Unknown-clause-ends g c)
