@@ -1,3 +1,5 @@
-pub mod Numbers
+pub mod Counted
+pub mod Gaps
 pub mod Giving
 pub mod Named
+pub mod Numbers

@@ -1,6 +1,5 @@
 -- The numbers of leases after a take, a give and a reservation.
-use Rattle.std.proofs.Common.{◌≡◌, ℕ, zero, suc, ◌+◌, ◌-◌, ◌≤◌, ◌==◌, Bool, true, false, cond, List, [], ◌∷◌, ◌++◌, refl, sym, ap, ◌∙◌, arith, append_assoc, Some, None, nat_lt, subst, take, drop}
-use Rattle.std.specs.List.{remove}
+use Rattle.std.proofs.Common.{◌≡◌, ℕ, zero, suc, ◌+◌, ◌-◌, ◌≤◌, ◌==◌, Bool, true, false, cond, List, [], ◌∷◌, ◌++◌, refl, sym, ap, ◌∙◌, arith, append_assoc, Some, None, nat_lt, subst, length, length-append}
 use Rattle.std.specs.Option.{IsSome}
 use Rattle.std.proofs.lemmas.Bool.Decides.{nat_tests}
 use Rattle.std.proofs.lemmas.Bool.{eqb-true}
@@ -110,9 +109,7 @@ one_further from number before ys zs le so_far added =
 pub same_numbers : (p q k m : ℕ) → p ≡ q → m ≡ k → numbers_from p m ≡ numbers_from q k
 same_numbers p q k m same count = ap (λ z. numbers_from z m) same ∙ ap (λ z. numbers_from q z) count
 
--- what is left of the leases where the first with this number is taken out
-pub rest_at : (n at : ℕ) (held : List Leased) (h : Leased) → drop at held ≡ h ∷ drop (suc at) held → (h.number == n) ≡ true
-    → without n held ≡ take at held ++ without n (drop at held) → remove held at ≡ without n held
-rest_at n at held h there hit before =
-    let here : without n (drop at held) ≡ drop (suc at) held = ap (without n) there ∙ ap (λ b. cond b (drop (suc at) held) (h ∷ without n (drop (suc at) held))) hit in
-    sym (before ∙ ap (λ z. take at held ++ z) here)
+-- there are as many numbers as were asked for
+pub length-numbers_from : (n k : ℕ) → length (numbers_from n k) ≡ k
+length-numbers_from n zero = refl
+length-numbers_from n (suc k) = omega (arith, length-append (numbers_from n k) ((n + k) ∷ []), length-numbers_from n k)

@@ -1,2 +1,4 @@
-pub mod Pairs
+pub mod Hashes
 pub mod Numbers
+pub mod Pairs
+pub mod Slots

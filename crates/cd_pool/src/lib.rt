@@ -7,10 +7,15 @@
 //! Contracts see a pool as its pairs of a key and a holder, in the order in which they were taken, each with the number of
 //! its lease, beside how many pairs more there is room for (specs/Pairs.antt). `reserve` takes all memory: `take` and `give`
 //! take none, so nothing can be refused while a configuration is shut down. Opening and closing is left to the caller.
+//!
+//! No call but `count` and `holds` walks over all pairs: a key is looked for by its hash (hashes.rt), and a pair where it was
+//! put (slots.rt). Where to look is only a hint, which is tested; where it is out of date all pairs are compared.
 #![tactic(auto)]
 
+mod hashes;
 mod lease;
 mod pool;
+mod slots;
 
 pub use lease::{Gave, Lease, Took};
 pub use pool::Pool;

@@ -1,4 +1,4 @@
-ghost use Rattle.std.specs.Prelude.{◌≡◌, ◌≢◌, ◌<◌, ◌≤◌, ◌+◌, ◌-◌, ◌++◌, ◌∷◌, ◌↔◌, [], ℕ, List, cond, get_or, max, length, remove, Some, None, IsSome, IfSome, IsTrue, is_some, OnOk, OnErr};
+ghost use Rattle.std.specs.Prelude.{◌≡◌, ◌≢◌, ◌<◌, ◌≤◌, ◌+◌, ◌-◌, ◌++◌, ◌∷◌, ◌↔◌, [], ℕ, List, cond, max, length, Some, None, IsSome, IfSome, IsTrue, is_some, OnOk, OnErr};
 ghost use Rattle.std.specs.Vec.{vec_len, vec_capacity};
 ghost use Rattle.cd_outside.specs.declared.holder.Holder.{Holder};
 ghost use Rattle.cd_outside.specs.Keys.{key_count, keys_in, has_key};
@@ -7,7 +7,9 @@ ghost use Rattle.cd_pool.specs.declared.lease.Gave.TheVariants as gave;
 ghost use Rattle.cd_pool.specs.Pairs.{pairs, pair_at, without, leases_of, GivesLast};
 ghost use Rattle.cd_pool.specs.Numbers.{numbers_from};
 
+use crate::hashes::{Hashes, forget, hash_of, latest, note};
 use crate::lease::{Gave, Lease, Leased, Took};
+use crate::slots::{Slot, count_in, is_held, is_named, make_room, put_last, put_place, take_out};
 use cd_outside::{Holder, Key, Pair};
 use cd_text::NoMemory;
 use std::alloc::Global;
@@ -17,71 +19,29 @@ use std::marker::Model;
 ///
 /// A pool is not dropped but ended, once it has no pair, so that no key is forgotten that should be closed.
 pub struct Pool {
-    pub(crate) held: Vec<Leased>,
-    // the numbers of the leases to come; for each there is room among those that are held, and for all numbers here
+    // the pairs in their order, with gaps where some were given back, so that none changes its place
+    pub(crate) slots: Vec<Option<Slot>>,
+    pub(crate) count: usize,
+    // the numbers of the leases to come; for each there is room in the slots, and for all numbers here
     pub(crate) free: Vec<usize>,
+    // where the pair of each number was put; a pair is looked for there first
+    pub(crate) places: Vec<usize>,
+    // how many keys have each hash, as long as that is known
+    pub(crate) hashes: Hashes,
+    pub(crate) known: bool,
 }
 
 impl Model for Pool {
-    ghost use Rattle.std.specs.Prelude.{◌≤◌, ◌+◌, length};
-    ghost use Rattle.std.specs.Vec.{vec_len, vec_capacity};
+    ghost use Rattle.std.specs.Prelude.{length};
+    ghost use Rattle.std.specs.Vec.{vec_capacity};
     ghost use Rattle.cd_pool.specs.Pairs.{Holdings};
-    ghost use Rattle.cd_pool.specs.Numbers.{AreNumbers};
+    ghost use Rattle.cd_pool.specs.Slots.{leases, IsPool};
 
     ghost Value = { Holdings };
 
-    ghost view = { λ pool. record { held = pool.held.items; spare = length pool.free.items } };
+    ghost view = { λ pool. record { held = leases pool.slots.items; spare = length pool.free.items } };
 
-    ghost invariant = { λ pool. AreNumbers pool.held.items pool.free.items (vec_len pool.held + vec_len pool.free) × ((vec_len pool.held + vec_len pool.free ≤ vec_capacity pool.held) × (vec_len pool.held + vec_len pool.free ≤ vec_capacity pool.free)) };
-}
-
-fn place_of(held: &[Leased], number: usize) -> usize
-    requires { IsSome (pair_at number held.now) }
-    ensures within { result < length held.now }
-    ensures number { (d : _) → (get_or held.now result d).number ≡ number }
-    ensures pair { (d : _) → pair_at number held.now ≡ Some (get_or held.now result d).pair }
-    ensures rest { remove held.now result ≡ without number held.now }
-{
-    for (at, leased) in held.iter().enumerate() {
-        if leased.number == number {
-            return at;
-        }
-    }
-    unreachable!()
-}
-
-fn is_held(held: &[Leased], key: &Key) -> bool
-    ensures { result ≡ has_key key.now (keys_in (pairs held.now)) }
-{
-    for leased in held {
-        if key.same(&leased.pair.key) {
-            return true;
-        }
-    }
-    false
-}
-
-fn is_named(held: &[Leased], number: usize) -> bool
-    ensures { result ≡ is_some (pair_at number held.now) }
-{
-    for leased in held {
-        if leased.number == number {
-            return true;
-        }
-    }
-    false
-}
-
-fn count_in(held: &[Leased], key: &Key) -> u64
-    ensures { result ≡ key_count key.now (pairs held.now) }
-{
-    let mut count = 0;
-    for leased in held {
-        if key.same(&leased.pair.key) {
-            count += 1;
-        }
-    }
-    count
+    ghost invariant = { λ pool. IsPool pool.slots.items pool.free.items pool.count (vec_capacity pool.slots) (vec_capacity pool.free) pool.known pool.hashes };
 }
 
 // Adds the numbers in a row, for which there is room.
@@ -97,14 +57,37 @@ fn add_numbers(free: &mut Vec<usize>, from: usize, to: usize)
     }
 }
 
+// Adds so many places at which nothing was put.
+fn add_places(places: &mut Vec<usize>, count: usize)
+    requires { vec_len places.old + count ≤ vec_capacity places.old }
+{
+    for _ in 0..count {
+        places.push_reserved(0);
+    }
+}
+
+fn given_back(is_held: bool, key: Key) -> Gave
+    ensures { result ≡ cond is_held gave.Still (gave.Last key) }
+{
+    if is_held {
+        Gave::Still
+    } else {
+        Gave::Last(key)
+    }
+}
+
 impl Pool {
     /// A pool without pairs, and without room for one.
     pub fn new(alloc: Global) -> Pool
         ensures { result ≡ record { held = []; spare = 0 } }
     {
         Pool {
-            held: Vec::new(alloc),
+            slots: Vec::new(alloc),
+            count: 0,
             free: Vec::new(alloc),
+            places: Vec::new(alloc),
+            hashes: Hashes::new(alloc),
+            known: true,
         }
     }
 
@@ -112,16 +95,21 @@ impl Pool {
     pub fn end(self)
         requires { self.held ≡ [] }
     {
-        let Pool { held, free } = self;
-        drop(held);
-        drop(free);
+        let Pool {
+            slots: _slots,
+            count: _count,
+            free: _free,
+            places: _places,
+            hashes: _hashes,
+            known: _known,
+        } = self;
     }
 
     /// Whether it has no pair.
     pub fn is_empty(&self) -> bool
         ensures { IsTrue result ↔ (self.now.held ≡ []) }
     {
-        self.held.is_empty()
+        self.count == 0
     }
 
     /// For how many pairs more there is room.
@@ -142,11 +130,15 @@ impl Pool {
         if count <= spare {
             return Ok(());
         }
-        let places = self.held.len() + spare;
+        let numbers = self.count + spare;
         let missing = count - spare;
-        self.held.reserve(count)?;
-        self.free.reserve(self.held.len() + missing)?;
-        add_numbers(&mut self.free, places, places + missing);
+        // With room for twice as many, gaps are closed only after as many pairs were given back.
+        self.slots.reserve(count + count)?;
+        self.free.reserve(self.count + missing)?;
+        self.places.reserve(missing)?;
+        self.hashes.reserve(count)?;
+        add_numbers(&mut self.free, numbers, numbers + missing);
+        add_places(&mut self.places, missing);
         Ok(())
     }
 
@@ -160,7 +152,7 @@ impl Pool {
         ensures others { (n : ℕ) → n ≢ result.0 → pair_at n self.new.held ≡ pair_at n self.old.held }
         ensures took { result.1 ≡ cond (has_key key (keys_in (pairs self.old.held))) took.Shared took.First }
     {
-        let took = if is_held(self.held.as_slice(), &key) {
+        let took = if self.has(&key) {
             Took::Shared
         } else {
             Took::First
@@ -168,8 +160,17 @@ impl Pool {
         let Some(number) = self.free.pop() else {
             unreachable!()
         };
-        let pair = Pair { key, holder };
-        self.held.push_reserved(Leased { number, pair });
+        make_room(&mut self.slots, self.places.as_mut_slice());
+        put_place(self.places.as_mut_slice(), number, self.slots.len());
+        let hash = hash_of(&key);
+        let earlier = latest(&self.hashes, hash).unwrap_or(number);
+        self.known = note(self.known, &mut self.hashes, hash, number);
+        let leased = Leased {
+            number,
+            pair: Pair { key, holder },
+        };
+        put_last(&mut self.slots, leased, earlier);
+        self.count += 1;
         (Lease { number }, took)
     }
 
@@ -184,35 +185,40 @@ impl Pool {
         ensures last { (h : Holder) (ns : List ℕ) → leases_of h self.old.held ≡ ns ++ lease ∷ [] → GivesLast h ns lease self.old.held self.new.held }
     {
         let Lease { number } = lease;
-        let at = place_of(self.held.as_slice(), number);
-        let leased = self.held.remove(at);
+        let Slot { leased, earlier } = take_out(&mut self.slots, self.places.as_slice(), number);
         let key = leased.pair.key;
+        self.count -= 1;
         self.free.push_reserved(number);
-        if is_held(self.held.as_slice(), &key) {
-            Gave::Still
-        } else {
-            Gave::Last(key)
-        }
+        let hash = hash_of(&key);
+        self.known = forget(self.known, &mut self.hashes, hash, number, earlier);
+        let is_held = self.has(&key);
+        given_back(is_held, key)
     }
 
     /// Whether the lease names a pair of this pool.
     pub fn holds(&self, lease: &Lease) -> bool
         ensures { result ≡ is_some (pair_at lease.now self.now.held) }
     {
-        is_named(self.held.as_slice(), lease.number)
+        is_named(self.slots.as_slice(), lease.number)
     }
 
     /// Whether somebody has the key.
     pub fn has(&self, key: &Key) -> bool
         ensures { result ≡ has_key key.now (keys_in (pairs self.now.held)) }
     {
-        is_held(self.held.as_slice(), key)
+        is_held(
+            self.slots.as_slice(),
+            self.places.as_slice(),
+            self.known,
+            &self.hashes,
+            key,
+        )
     }
 
     /// How many pairs have the key.
     pub fn count(&self, key: &Key) -> u64
         ensures { result ≡ key_count key.now (pairs self.now.held) }
     {
-        count_in(self.held.as_slice(), key)
+        count_in(self.slots.as_slice(), key)
     }
 }
