@@ -16,7 +16,7 @@ use crate::position::place_of;
 use crate::too_deep::puts_too_deep;
 use crate::verb::Verb;
 use cd_text::{List, Text};
-use cd_tree::{MAX_DEPTH, MAX_TEXT_BYTES, Path, Shared, Tree, nesting, print_ordered};
+use cd_tree::{MAX_DEPTH, MAX_TEXT_BYTES, Path, Shared, Tree, nesting, text_length};
 use std::alloc::Global;
 
 /// The tree that the verb makes of this one at a path. The old tree stays, and the new one shares with it what the edit leaves
@@ -89,7 +89,7 @@ fn change_within(
         return Err(EditFault::ResultTooDeep);
     }
     let made = change_ordered(alloc, verb, body, parts, tree)?;
-    limited(alloc, made)
+    limited(made)
 }
 
 /// The edit of a tree in which keys rise and numbers are in range, as they are in the result.
@@ -159,15 +159,15 @@ fn enter<'a>(verb: Verb, value: Option<&'a Tree>, null: &'a Tree, empty: &'a Tre
 }
 
 /// The tree, unless it is too deep or too long.
-fn limited(alloc: Global, tree: Tree) -> Result<Tree, EditFault>
+fn limited(tree: Tree) -> Result<Tree, EditFault>
     requires { IsTrue (is_ordered tree) }
-    ensures exact { Gives EditFault.NoMemory result (within_limits tree) }
+    ensures exact { result ≡ within_limits tree }
     ensures sound { IfOk result IsSound }
 {
     if nesting(&tree) > MAX_DEPTH {
         return Err(EditFault::ResultTooDeep);
     }
-    if print_ordered(alloc, &tree)?.len() > MAX_TEXT_BYTES {
+    if text_length(&tree) > MAX_TEXT_BYTES {
         return Err(EditFault::ResultTooLong);
     }
     Ok(tree)

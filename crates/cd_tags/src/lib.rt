@@ -22,4 +22,4 @@ pub use fault::{IfMatchFault, TagFault};
 pub use if_match::{Tag, read_if_match};
 pub use laws::{made_tags_hold, tags_read_back, values_have_one_tag};
 pub use limits::{HEX_DIGITS, digits_in_numbers};
-pub use tags::{holds, tag};
+pub use tags::{holds, tag, tag_of_text};

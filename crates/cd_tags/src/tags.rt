@@ -1,6 +1,11 @@
 ghost use Rattle.std.specs.Prelude.{◌≡◌, IfOk};
 ghost use Rattle.cd_text.specs.Gives.{Gives};
 ghost use Rattle.cd_tree.specs.Tree.{IsSound};
+ghost use Rattle.hex.specs.Hex.{encode_lower};
+ghost use Rattle.sha2.specs.Sha256.{sha256};
+ghost use Rattle.cd_tree.specs.Tree.{text as text_of};
+ghost use Rattle.cd_tree.specs.declared.tree.Tree.{Tree};
+ghost use Rattle.cd_tags.specs.Encoding.{tag_text as tag_text_of};
 ghost use Rattle.cd_tags.specs.Tags.{digest, digest_at, tag_of, tag_holds};
 
 use crate::encoding::tag_text;
@@ -48,12 +53,30 @@ fn digest_at(alloc: Global, tree: &Tree, path: &Path) -> Result<Text, TagFault>
     }
 }
 
+/// The tag of a value at a path, from the value's compact text.
+pub fn tag_of_text(alloc: Global, path: &Path, text: &Text) -> Result<Text, NoMemory>
+    ensures { (value : Tree) → text.now ≡ text_of value
+        → IfOk result (λ made. made ≡ tag_text_of path.now (digest value)) }
+{
+    let hex = hex_digest(alloc, text.as_str())?;
+    let made = tag_text(alloc, path, hex.as_str())?;
+    Ok(made)
+}
+
 /// The digits of a value.
 fn digest(alloc: Global, tree: &Tree) -> Result<Text, NoMemory>
     requires { IsSound tree.now }
     ensures { IfOk result (λ hex. hex ≡ digest tree.now) }
 {
     let text = print(alloc, tree)?;
-    let hex = hex::encode(alloc, Sha256::digest(text.as_str()))?;
+    let hex = hex_digest(alloc, text.as_str())?;
+    Ok(hex)
+}
+
+/// SHA-256 (FIPS 180-4), in lower-case hexadecimal digits.
+fn hex_digest(alloc: Global, text: &str) -> Result<Text, NoMemory>
+    ensures { IfOk result (λ hex. hex ≡ encode_lower (sha256 text.now)) }
+{
+    let hex = hex::encode(alloc, Sha256::digest(text))?;
     Ok(Text::from_string(hex))
 }

@@ -5,6 +5,7 @@ pub mod Readings
 pub mod Rising
 pub mod Signs
 pub mod Soundness
+pub mod TextLengths
 pub mod Placing
 pub mod Converted
 pub mod Found

@@ -1,18 +1,16 @@
 -- A reading has the text and the depth of its tree.
 use Rattle.std.proofs.Common.{◌≡◌, ℤ, pos, negsuc, List, [], ◌∷◌, ◌++◌, map, max, suc, Bool, false, Ok, refl, sym, ap, ap₂, ◌∙◌, append_assoc}
 use Rattle.std.specs.Prelude.{◌||◌}
-use Rattle.json.specs.Print.{print}
 use Rattle.json.specs.Token.{key, begin_array, end_array, begin_object, end_object}
 use Rattle.json.specs.Tree.{json_tokens, items_tokens, members_tokens}
 use Rattle.serde_json.specs.Data as json
-use Rattle.serde_json.specs.Written.{outline, items_outline, members_outline, has_float, items_have_float, members_have_float, compact_text}
-use Rattle.serde_json.proofs.Texts.{print-outline}
+use Rattle.serde_json.specs.Written.{outline, items_outline, members_outline, has_float, items_have_float, members_have_float}
 use Rattle.cd_text.specs.Steps.{◌▷◌, joined}
-use Rattle.cd_tree.specs.Tree.{depth, member_depth, largest, tokens, member_tokens, text}
+use Rattle.cd_tree.specs.Tree.{depth, member_depth, largest, tokens, member_tokens}
 use Rattle.cd_tree.specs.Reading.{num_of, of_number, of_reading, of_items, of_members}
 use Rattle.cd_tree.specs.declared.tree.Member.{Member, roll-Member}
 use Rattle.cd_tree.specs.declared.tree.Tree as tree
-use Rattle.cd_tree.specs.declared.tree.Tree.{Tree, Null, Items, Object, the_lemmas}
+use Rattle.cd_tree.specs.declared.tree.Tree.{Tree, Null, Items, Object}
 use Rattle.cd_tree.proofs.Outcomes.{chained}
 use Rattle.cd_tree.proofs.Trees.{depth-Items, depth-Object, tokens-Items, tokens-Object, depth-Null, tokens-Null, depth-Bool, tokens-Bool, depth-Num, tokens-Num, depth-Text, tokens-Text, member_tokens-roll, member_depth-roll}
 
@@ -93,6 +91,3 @@ mutual
             ∙ ap (λ ts. (ts ++ joined (map member_tokens r.0)) ++ end_object ∷ []) (sym (member_tokens-roll k c.0)) ∙ ap (λ us. joined (map member_tokens us) ++ end_object ∷ []) is;
         deep = ap₂ max (here.deep ∙ sym (member_depth-roll k c.0)) below.deep ∙ ap (λ us. largest (map member_depth us)) is;
       }
-
-pub same_text : (d : json.Data) (t : Tree) → of_reading d ≡ Ok t → compact_text d ≡ text t
-same_text d t e = sym (print-outline d) ∙ ap print (is_same d t e).same

@@ -1,6 +1,7 @@
 pub mod Counted
 pub mod Direct
 pub mod Fields
+pub mod Lengths
 pub mod Path
 pub mod Reading
 pub mod Tree

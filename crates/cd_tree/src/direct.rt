@@ -5,8 +5,8 @@ ghost use Rattle.json.specs.Value.{value_view, items_view, members_view};
 ghost use Rattle.cd_tree.specs.Direct.{Fits, IsTreeOf, AreTreesOf, AreMembersOf, GoesAt};
 ghost use Rattle.cd_tree.specs.Reading.{tree_of};
 
+use crate::lengths::text_length;
 use crate::limits::{MAX_DEPTH, MAX_TEXT_BYTES};
-use crate::printing::print_ordered;
 use crate::shared::Shared;
 use crate::tree::{Member, Num, Tree};
 use cd_text::{List, Text};
@@ -35,7 +35,7 @@ pub(crate) fn read_directly(alloc: Global, bytes: &[u8]) -> Option<Tree>
     }
     let tree = tree_directly(alloc, &value, MAX_DEPTH)?;
     // As in `read`: the definition tests the compact text too.
-    if print_ordered(alloc, &tree).ok()?.len() > MAX_TEXT_BYTES {
+    if text_length(&tree) > MAX_TEXT_BYTES {
         return None;
     }
     Some(tree)

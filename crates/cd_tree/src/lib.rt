@@ -9,7 +9,7 @@
 //! text stops being JSON.
 //!
 //! `print` gives the compact text of a sound tree, which reads back as that tree; `reads_back` says the same of a tree that is
-//! not printed. `equal` says whether two trees are equal.
+//! not printed. `text_length` says how long the text is, and writes nothing. `equal` says whether two trees are equal.
 //!
 //! Trees share their lists and objects (`Shared`): `copy` gives an equal tree that owns them together with the first, and
 //! costs no more than a text. No list is changed once it is shared. Contracts see plain data, whoever owns it: they compare
@@ -29,6 +29,7 @@ mod equality;
 mod fault;
 mod fields;
 mod json_place;
+mod lengths;
 mod limits;
 mod measure;
 mod nested;
@@ -46,6 +47,7 @@ pub use equality::equal;
 pub use fault::{FieldFault, TreeFault};
 pub use fields::Fields;
 pub use json_place::{JsonPlace, place_of_json_fault};
+pub use lengths::text_length;
 pub use limits::{MAX_DEPTH, MAX_TEXT_BYTES, limits_in_numbers};
 pub use measure::nesting;
 pub use path::Path;

@@ -8,6 +8,7 @@ ghost use Rattle.std.specs.Result.{result_map_both};
 use crate::converting::tree_from;
 use crate::direct::read_directly;
 use crate::fault::TreeFault;
+use crate::lengths::text_length;
 use crate::limits::{MAX_DEPTH, MAX_TEXT_BYTES};
 use crate::nested::is_deeper;
 use crate::tree::Tree;
@@ -31,10 +32,9 @@ pub fn read(alloc: Global, bytes: &[u8]) -> Result<Tree, TreeFault>
     if is_deeper(&value, MAX_DEPTH) {
         return Err(TreeFault::TooDeep);
     }
-    // The definition tests the compact text too, though with its escapes it is never longer than what was read.
-    let length = value.to_vec(alloc)?.as_slice().len();
     let tree = tree_from(alloc, value)?;
-    if is_too_long(length) {
+    // The definition tests the compact text too, though with its escapes it is never longer than what was read.
+    if is_too_long(text_length(&tree)) {
         return Err(TreeFault::TooLong);
     }
     Ok(tree)

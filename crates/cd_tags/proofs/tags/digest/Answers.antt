@@ -6,6 +6,4 @@ use Rattle.cd_tags.proofs.tags.digest.Goals as goal
 
 pub returns : goal.returns
 unfolding digest
-returns c =
-    let text = c.as_str.ensures ∙ c.in_ok-text.ensures.text in
-    c.from_string.ensures ∙ c.in_ok-hex.ensures ∙ ap encode_lower (c.digest.ensures ∙ ap sha256 text)
+returns c = c.in_ok-hex.ensures ∙ ap (λ z. encode_lower (sha256 z)) (c.as_str.ensures ∙ c.in_ok-text.ensures.text)

@@ -1,10 +1,9 @@
-use Rattle.std.proofs.Common.{length, ◌<◌, sym, ◌∙◌, rules}
+use Rattle.std.proofs.Common.{length, ◌<◌, arith, rules}
 use Rattle.std.proofs.lemmas.Result.{err_from_is_err_and}
 use Rattle.serde_json.specs.Data.{depth}
 use Rattle.serde_json.specs.View.{view}
 use Rattle.cd_tree.specs.declared.limits.TheConstants.{MAX_DEPTH, MAX_TEXT_BYTES}
 use Rattle.cd_tree.proofs.Outcomes.{not_above, too_long, unread, too_deep, no_tree, long_text, is_tree}
-use Rattle.cd_tree.proofs.Readings.{is_same, same_text}
 use Rattle.cd_tree.proofs.Soundness.{tree_of-sound}
 use Rattle.cd_tree.proofs.reading.read.Goals as goal
 
@@ -44,8 +43,8 @@ returns-then-is_too_long-2-clause-exact c _ =
     let t = c.in_ok-tree.tree in
     let is = c.in_ok-tree.ensures in
     let shallow = not_above MAX_DEPTH (depth d) c.if-is_deeper.ensures.1 in
-    let printed = c.as_slice-length.ensures.value ∙ c.in_ok-to_vec.ensures.text (is_same d t is).whole ∙ same_text d t is in
-    long_text c.args.bytes.now d t short c.in_ok-value.ensures shallow is (rw (sym printed) (c.if-is_too_long-2.ensures.0 (search rules)))
+    let above : MAX_TEXT_BYTES < c.text_length.result = c.if-is_too_long-2.ensures.0 (search rules) in
+    long_text c.args.bytes.now d t short c.in_ok-value.ensures shallow is (omega (arith, above, c.text_length.ensures))
 
 pub returns-clause-exact : goal.returns-clause-exact
 returns-clause-exact c =
@@ -54,8 +53,8 @@ returns-clause-exact c =
     let t = c.in_ok-tree.tree in
     let is = c.in_ok-tree.ensures in
     let shallow = not_above MAX_DEPTH (depth d) c.if-is_deeper.ensures.1 in
-    let printed = c.as_slice-length.ensures.value ∙ c.in_ok-to_vec.ensures.text (is_same d t is).whole ∙ same_text d t is in
-    is_tree c.args.bytes.now d t short c.in_ok-value.ensures shallow is (rw (sym printed) (not_above MAX_TEXT_BYTES _ c.if-is_too_long-2.ensures.1))
+    let below = not_above MAX_TEXT_BYTES c.text_length.result c.if-is_too_long-2.ensures.1 in
+    is_tree c.args.bytes.now d t short c.in_ok-value.ensures shallow is (omega (arith, below, c.text_length.ensures))
 
 pub returns-clause-sound : goal.returns-clause-sound
 returns-clause-sound c = tree_of-sound c.args.bytes.now c.in_ok-tree.tree (returns-clause-exact c)
