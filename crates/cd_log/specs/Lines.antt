@@ -1,12 +1,11 @@
 -- Part of the main theorem.
 -- The lines of an answer in access logs. Their form is this project's own.
-use Rattle.std.specs.Prelude.{ℕ, ◌&&◌, Bool, not, if◌then◌else◌, List, [], ◌∷◌, ◌++◌, length, map, codes, decimal}
+use Rattle.std.specs.Prelude.{ℕ, ◌&&◌, not, if◌then◌else◌, List, [], ◌∷◌, ◌++◌, length, map, codes, decimal}
 use Rattle.std.specs.Char.{is_ascii_graphic}
 use Rattle.std.specs.List.{flat_map}
-use Rattle.std.specs.Str.{bytes_eq}
 use Rattle.cd_tree.specs.Tree as tree
 use Rattle.cd_tree.specs.declared.tree.Tree.{Text}
-use Rattle.cd_wire.specs.Render.{has_body}
+use Rattle.cd_wire.specs.Render.{has_body, is_head}
 use Rattle.cd_wire.specs.declared.request.Request.{Request}
 use Rattle.cd_wire.specs.declared.answer.Answer.{Answer}
 use Rattle.cd_module_set.specs.declared.target.Line.{Line}
@@ -23,9 +22,6 @@ abbrev pub visible : ℕ → ℕ
 visible byte = if is_ascii_graphic byte then byte else 63
 
 -- what is sent of the body, as in the bytes of an answer: nothing to a HEAD, or with a status that has no body
-abbrev pub is_head : Request → Bool
-is_head request = bytes_eq request.method (codes "HEAD")
-
 abbrev pub body_sent : Request → Answer → List ℕ
 body_sent request answer = if not (is_head request) && has_body answer.status then answer.body else []
 

@@ -82,7 +82,7 @@ fn put_number(line: &mut String, number: usize) -> Result<(), NoMemory>
 fn bytes_sent(request: &Request, answer: &Answer<'_>) -> usize
     ensures { result ≡ length (body_sent request.now answer.now) }
 {
-    if request.method() == b"HEAD".as_slice() || answer.status == 204 || answer.status == 304 {
+    if request.is_head() || answer.status == 204 || answer.status == 304 {
         0
     } else {
         answer.body.len()

@@ -45,7 +45,7 @@ pub trait Fixtures {
         ensures tells { IfSome (calls self.old) (λ told. has_key key.now (open_keys told) ≡ true → is_some (calls self.new) ≡ true) }
         ensures faults { faults self.new ≡ faults self.old };
 
-    /// Tells the lanes of the same doorway that no connection will come any more: their next `accept` answers `Ended`. It
+    /// Tells the lanes that take connections from the same addresses that no connection will come any more: their next `accept` answers `Ended`. It
     /// cannot fail. Fixtures that tell their calls go on telling them after the first.
     fn shut(&mut self)
         ensures calls { CallsGrow (calls self.old) (call.Shut ∷ []) (calls self.new) }

@@ -1,7 +1,6 @@
 -- Part of the main theorem.
 -- What configurations mean to those who serve requests under them.
-use Rattle.std.specs.Prelude.{◌≡◌, ℕ, ◌+◌, ◌<◌, ◌⊎◌, ◌||◌, Bool, List, [], ◌++◌, length, take, map, codes, Result}
-use Rattle.std.specs.Str.{bytes_eq}
+use Rattle.std.specs.Prelude.{◌≡◌, ℕ, ◌+◌, ◌<◌, ◌⊎◌, ◌||◌, Bool, List, [], ◌++◌, length, take, map, Result}
 use Rattle.cd_outside.specs.declared.address.Address.{Address}
 use Rattle.cd_outside.specs.declared.past.Connection.{Connection}
 use Rattle.cd_outside.specs.declared.past.KeepRecord.{KeepRecord}
@@ -9,7 +8,7 @@ use Rattle.cd_outside.specs.declared.past.Logged.{Logged}
 use Rattle.cd_tree.specs.declared.tree.Tree.{Tree}
 use Rattle.cd_wire.specs.declared.answer.Answer.{Answer}
 use Rattle.cd_wire.specs.declared.request.Request.{Request}
-use Rattle.cd_wire.specs.Render.{render}
+use Rattle.cd_wire.specs.Render.{is_head, render}
 use Rattle.cd_module.specs.declared.fault.LoadFault.{LoadFault}
 use Rattle.cd_legal.specs.declared.plan.Plan.{Plan}
 use Rattle.cd_legal.specs.State.{Conf}
@@ -26,10 +25,6 @@ pub record Meaning : Type 0 where
   pub plan : Tree → Result Plan LoadFault
 
 -- ---- what is sent for an answer
-
--- the request is HEAD, whose answer has no body (RFC 9110, section 9.3.2)
-abbrev pub is_head : Request → Bool
-is_head q = bytes_eq q.method (codes "HEAD")
 
 -- the bytes of an answer to the request
 abbrev pub sent : Request → Answer → List ℕ

@@ -9,6 +9,7 @@ use Rattle.http.specs.StatusCode.{reason_phrase}
 use Rattle.cd_text.specs.ByKey.{by_key}
 use Rattle.cd_wire.specs.declared.fields.Field.{Field}
 use Rattle.cd_wire.specs.declared.answer.Answer.{Answer}
+use Rattle.cd_wire.specs.declared.request.Request.{Request}
 
 -- the field has that name, which is in lower case: names of fields are case-insensitive (RFC 9110, section 5.1)
 abbrev pub has_name : List ℕ → Field → Bool
@@ -41,6 +42,10 @@ field_line field = titled true field.name ++ codes ": " ++ map clean_byte field.
 -- an answer with this status has a length and may have a body (RFC 9110, sections 15.3.5 and 15.4.5)
 abbrev pub has_body : ℕ → Bool
 has_body status = not (status == 204) && not (status == 304)
+
+-- the request is HEAD, whose answer has no body (RFC 9110, section 9.3.2)
+abbrev pub is_head : Request → Bool
+is_head request = bytes_eq request.method (codes "HEAD")
 
 -- the reason phrase of a status, or nothing where it has none
 unfoldable pub phrase_of : ℕ → List ℕ

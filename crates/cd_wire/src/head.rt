@@ -73,18 +73,6 @@ impl Head {
         })
     }
 
-    /// An equal head.
-    pub fn copy(&self, alloc: Global) -> Result<Head, NoMemory>
-        ensures { IfOk result (λ made. made ≡ self.now) }
-    {
-        Ok(Head {
-            bytes: Vec::from_slice(alloc, self.bytes.as_slice())?,
-            line: self.line,
-            minor: self.minor,
-            places: Vec::from_slice(alloc, self.places.as_slice())?,
-        })
-    }
-
     /// The method.
     pub fn method(&self) -> &[u8]
         ensures { result.now ≡ self.now.method }

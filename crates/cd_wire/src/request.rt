@@ -2,6 +2,7 @@ ghost use Rattle.std.specs.Prelude.{◌≡◌, [], IfOk};
 ghost use Rattle.std.specs.Option.{option_copied};
 ghost use Rattle.std.specs.List.{list_any};
 ghost use Rattle.cd_wire.specs.Framing.{is_closing, request_of};
+ghost use Rattle.cd_wire.specs.Render.{is_head};
 
 use crate::asking::read_path;
 use crate::head::Head;
@@ -58,15 +59,6 @@ pub(crate) fn request_of(
     })
 }
 
-fn copy_path(alloc: Global, path: &Option<Octets>) -> Result<Option<Octets>, NoMemory>
-    ensures { IfOk result (λ made. made ≡ path.now) }
-{
-    match path {
-        Some(path) => Ok(Some(path.copy(alloc)?)),
-        None => Ok(None),
-    }
-}
-
 #[tactic(auto, unfolding(crate::specs::Framing::request_of))]
 impl Request {
     /// A request without fields and without a body.
@@ -109,23 +101,18 @@ impl Request {
         }
     }
 
-    /// An equal request.
-    pub fn copy(&self, alloc: Global) -> Result<Request, NoMemory>
-        ensures { IfOk result (λ made. made ≡ self.now) }
-    {
-        Ok(Request {
-            head: self.head.copy(alloc)?,
-            path: copy_path(alloc, &self.path)?,
-            close: self.close,
-            body: self.body.copy(alloc)?,
-        })
-    }
-
     /// The method, such as `GET`. Case counts.
     pub fn method(&self) -> &[u8]
         ensures { result.now ≡ self.now.method }
     {
         self.head.method()
+    }
+
+    /// Whether the method is `HEAD`, whose answer has no body (RFC 9110, section 9.3.2).
+    pub fn is_head(&self) -> bool
+        ensures { result ≡ is_head self.now }
+    {
+        self.method() == b"HEAD".as_slice()
     }
 
     /// The target, as it stands in the head.
