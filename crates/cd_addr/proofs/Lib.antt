@@ -3,3 +3,4 @@ mod Cuts
 mod Hosts
 mod ReadBack
 pub mod Ranges
+pub mod Sure

@@ -1,5 +1,5 @@
 -- Requests by a host, or from an origin, that is not expected.
-use Rattle.std.proofs.Common.{◌≡◌, ℕ, List, ◌∷◌, [], true, false, Result, Ok, refl, ap, ◌∙◌}
+use Rattle.std.proofs.Common.{◌≡◌, ℕ, List, ◌∷◌, [], true, false, Result, Ok, refl, ap}
 use Rattle.std.specs.Prelude.{codes}
 use Rattle.cd_text.specs.Steps.{◌▷◌}
 use Rattle.cd_tree.specs.declared.tree.Tree.{Tree}

@@ -1,7 +1,10 @@
 pub mod Examples
 pub mod Fine
 pub mod Foreign
+pub mod Halts
 pub mod Nulls
+pub mod Stops
+pub mod Sure
 pub mod Tags
 pub mod Texts
 pub mod Types

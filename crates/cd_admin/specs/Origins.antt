@@ -1,6 +1,6 @@
 -- Part of the main theorem.
 -- By which hosts, and from which origins, the admin API may be asked (Caddy, JSON Config Structure, `admin`; RFC 6454, section 7).
-use Rattle.std.specs.Prelude.{ℕ, ◌==◌, not, Bool, if◌then◌else◌, List, [], ◌∷◌, length, take, drop, codes, Option, Some, None, Result, Ok}
+use Rattle.std.specs.Prelude.{ℕ, ◌==◌, not, Bool, if◌then◌else◌, List, [], ◌∷◌, length, take, drop, codes, Option, Some, None, Ok}
 use Rattle.std.specs.List.{list_any}
 use Rattle.std.specs.Str.{str_eq_ignore_ascii_case}
 use Rattle.cd_text.specs.Steps.{◌▷◌}

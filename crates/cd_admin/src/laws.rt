@@ -1,5 +1,5 @@
 //! What the definitions mean, each law as a call that does nothing.
-ghost use Rattle.std.specs.Prelude.{◌≡◌, ℕ, List, ◌∷◌, codes, true, false, Some, Ok, Result};
+ghost use Rattle.std.specs.Prelude.{◌≡◌, ℕ, List, ◌∷◌, codes, true, false, Some, Ok, Err, Result};
 ghost use Rattle.std.specs.Result.{IsOk};
 ghost use Rattle.cd_tree.specs.declared.tree.Tree.{Tree};
 ghost use Rattle.cd_wire.specs.Fields.{values};
@@ -10,9 +10,11 @@ ghost use Rattle.cd_tags.specs.IfMatch.{IsTagOf};
 ghost use Rattle.cd_tags.specs.declared.if_match.Tag.{Tag};
 ghost use Rattle.cd_admin.specs.Admin.{admin_of};
 ghost use Rattle.cd_admin.specs.Answers.{refusal};
-ghost use Rattle.cd_admin.specs.Deciding.{tag_of_value, decided, reply, new_tree, change_of};
+ghost use Rattle.cd_admin.specs.Asking.{asked};
+ghost use Rattle.cd_admin.specs.Deciding.{tag_of_value, decided, reply, halt, new_tree, change_of};
 ghost use Rattle.cd_admin.specs.Origins.{expected, is_among, without_scheme};
 ghost use Rattle.cd_admin.specs.declared.denial.Denial.TheVariants.{OtherHost, OtherOrigin};
+ghost use Rattle.cd_admin.specs.declared.ending.Ending.TheVariants.{Halt};
 
 use crate::administered::Administered;
 
@@ -48,4 +50,10 @@ pub fn changes_are_fine()
 #[tactic(auto, unfolding(crate::specs::Deciding::change_of))]
 pub fn changes_are_decided<M: Administered>()
     ensures { (tree : Tree) (request : Request) → M.change tree request ≡ new_tree (decided M.plan tree request) }
+{}
+
+/// The server halts only where a request asks for the halt, which is a POST to `/stop`: no test halts it for want of memory.
+pub fn halts_are_asked_for<M: Administered>()
+    ensures asked { (tree : Tree) (request : Request) → decided M.plan tree request ≡ halt → asked request ≡ Err Halt }
+    ensures stop { (request : Request) → asked request ≡ Err Halt → (request.path ≡ codes "/stop") × (request.method ≡ codes "POST") }
 {}

@@ -7,7 +7,8 @@
 //! others look at the tree. The words of refusals are in specs/Words.antt, the answers in specs/Answers.antt.
 //!
 //! `Administered` is a set of modules whose meaning of a change is this decision by its own verdict. The functions of `laws` do
-//! nothing: their contracts are laws of the definitions, as that a request makes no tree with a fault.
+//! nothing: their contracts are laws of the definitions, as that a request makes no tree with a fault, and halts nothing unless it
+//! asks for that.
 //!
 //! A GET prints what it asks for and nothing around it. A change copies what `cd_path::edit` copies, and the request is not copied.
 //!
@@ -38,5 +39,6 @@ pub use answers::{done, error_answer};
 pub use deciding::decide;
 pub use decision::Decision;
 pub use laws::{
-    changes_are_decided, changes_are_fine, foreign_requests_are_refused, tags_have_their_form,
+    changes_are_decided, changes_are_fine, foreign_requests_are_refused, halts_are_asked_for,
+    tags_have_their_form,
 };

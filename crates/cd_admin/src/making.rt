@@ -8,7 +8,7 @@ ghost use Rattle.cd_path.specs.Editing.{edit};
 ghost use Rattle.cd_path.specs.Looking.{look};
 ghost use Rattle.cd_ids.specs.Ids.{id_fault, ids, path_of};
 ghost use Rattle.cd_tags.specs.Encoding.{tag_text};
-ghost use Rattle.cd_tags.specs.Tags.{digest, digest_at};
+ghost use Rattle.cd_tags.specs.Tags.{digest};
 ghost use Rattle.cd_admin.specs.Deciding.{below_id, path_in, looked, verb_of, tag_of_value, tag_test, tags_test, matches, edited, differs, made};
 
 use crate::action::Action;
@@ -19,7 +19,7 @@ use crate::endpoint::Endpoint;
 use crate::fields::{must_revalidate, values_of};
 use cd_ids::{IdFault, Index};
 use cd_path::{EditFault, Verb, edit, look};
-use cd_tags::{IfMatchFault, Tag, TagFault, holds, read_if_match, tag};
+use cd_tags::{IfMatchFault, Tag, holds, read_if_match, tag_of_text};
 use cd_text::{List, NoMemory, Text};
 use cd_tree::{Path, Tree, equal, print, reads_back};
 use cd_wire::Field;
@@ -111,36 +111,24 @@ fn look_at(alloc: Global, tree: &Tree, path: &Path) -> Ending
     ensures { result ≢ Ending.NoMemory → result ≡ looked path.now (look tree.now path.now) }
 {
     match look(tree, path) {
-        Ok(Some(value)) => show(alloc, tree, path, value),
-        Ok(None) => show(alloc, tree, path, &Tree::Null),
+        Ok(Some(value)) => show(alloc, path, value),
+        Ok(None) => show(alloc, path, &Tree::Null),
         Err(fault) => Ending::Denied(Denial::Edit(fault)),
     }
 }
 
-/// What a path leads to, with its tag.
-fn show(alloc: Global, tree: &Tree, path: &Path, value: &Tree) -> Ending
-    requires sound { IsSound tree.now }
-    requires value { IsSound value.now }
-    requires found { digest_at tree.now path.now ≡ Ok (digest value.now) }
+/// What a path leads to, with its tag. The text is made once, for both.
+fn show(alloc: Global, path: &Path, value: &Tree) -> Ending
+    requires { IsSound value.now }
     ensures { result ≢ Ending.NoMemory
         → result ≡ Ending.Shown (tag_text path.now (digest value.now)) (text value.now) }
 {
-    match (tag_of(alloc, tree, path, value), print(alloc, value)) {
-        (Ok(tag), Ok(value)) => Ending::Shown(tag, value),
-        _ => Ending::NoMemory,
-    }
-}
-
-fn tag_of(alloc: Global, tree: &Tree, path: &Path, value: &Tree) -> Result<Text, NoMemory>
-    requires sound { IsSound tree.now }
-    requires found { digest_at tree.now path.now ≡ Ok (digest value.now) }
-    ensures { IfOk result (λ made. made ≡ tag_text path.now (digest value.now)) }
-{
-    let _ = value;
-    match tag(alloc, tree, path) {
-        Ok(tag) => Ok(tag),
-        Err(TagFault::NoMemory) => Err(NoMemory),
-        Err(TagFault::NoPlace(_)) => unreachable!(),
+    let Ok(text) = print(alloc, value) else {
+        return Ending::NoMemory;
+    };
+    match tag_of_text(alloc, path, &text) {
+        Ok(tag) => Ending::Shown(tag, text),
+        Err(_) => Ending::NoMemory,
     }
 }
 

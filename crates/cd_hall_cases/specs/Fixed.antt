@@ -1,5 +1,5 @@
 -- The two configurations of the case program: what they consist of, and who answers while one runs.
-use Rattle.std.specs.Prelude.{ℕ, Bool, false, if◌then◌else◌, [], ◌∷◌, codes, Option, Some}
+use Rattle.std.specs.Prelude.{ℕ, Bool, false, if◌then◌else◌, [], ◌∷◌, codes, ◌≢◌, refl, Option, Some, Result, Ok, Err}
 use Rattle.cd_outside.specs.declared.address.Address.{Address}
 use Rattle.cd_outside.specs.declared.key.Key.TheVariants.{Listen, Writer}
 use Rattle.cd_tree.specs.declared.tree.Member.{Member}
@@ -7,6 +7,9 @@ use Rattle.cd_tree.specs.declared.tree.Tree.{Tree, out-Tree}
 use Rattle.cd_tree.specs.declared.tree.Tree.TheOpen.{Tree-F}
 use Rattle.cd_tree.specs.declared.tree.Tree.TheVariants.{Bool as Truth}
 use Rattle.cd_wire.specs.declared.request.Request.{Request}
+use Rattle.cd_module.specs.declared.fault.LoadFault.{LoadFault}
+use Rattle.cd_module.specs.declared.fault.LoadFault.TheVariants.{NoMemory}
+use Rattle.cd_module.proofs.Sure.{never_lacks}
 use Rattle.cd_legal.specs.declared.plan.Plan.{Plan}
 use Rattle.cd_module_set.specs.Acts.{Acts}
 use Rattle.cd_module_set.specs.declared.target.Target.TheVariants as target
@@ -45,6 +48,13 @@ is_true_layer (Tree-F.Object members) = false
 -- the tree true is that of the wide configuration, and each other one that of the plain one
 abbrev pub fixed_plan : Tree → Plan
 fixed_plan tree = if is_true_layer (out-Tree tree) then wide_plan else plain_plan
+
+-- no tree has a fault
+abbrev pub fixed_verdict : Tree → Result Plan LoadFault
+fixed_verdict tree = Ok (fixed_plan tree)
+
+pub fixed_sure : (tree : Tree) → fixed_verdict tree ≢ Err NoMemory
+fixed_sure tree = never_lacks (fixed_verdict tree) refl
 
 -- while it runs the admin API is everywhere, and else nobody; no app answers
 abbrev pub fixed_acts : Bool → Acts

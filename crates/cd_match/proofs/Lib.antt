@@ -3,3 +3,4 @@ pub mod Alike
 pub mod Naming
 pub mod Bare
 pub mod Labels
+pub mod Sure

@@ -1,4 +1,4 @@
-ghost use Rattle.std.specs.Prelude.{◌≡◌, IfOk, List, Option, Result};
+ghost use Rattle.std.specs.Prelude.{◌≡◌, ◌≢◌, IfOk, List, Option, Result, Err};
 ghost use Rattle.std.specs.Result.{result_map_both};
 ghost use Rattle.cd_text.specs.Gives.{Gives};
 ghost use Rattle.cd_tree.specs.Tree.{IsSound};
@@ -77,4 +77,7 @@ pub trait ModuleSet: Sized {
     ) -> Result<List<Line>, NoMemory>
         requires { responds compiled.now at.now responder }
         ensures { IfOk result (λ lines. lines ≡ (form compiled.now).lines at.now request.now answer.now) };
+
+    /// Which modules and apps a tree comes to, or which fault it has, does not depend on memory.
+    ghost sure: { (tree : Tree) → plan tree ≢ Err LoadFault.NoMemory };
 }

@@ -1,11 +1,14 @@
 -- The two configurations of the case program: where their app listens, and who answers while one runs.
-use Rattle.std.specs.Prelude.{ℕ, Bool, true, false, if◌then◌else◌, [], ◌∷◌, codes, Option, Some}
+use Rattle.std.specs.Prelude.{ℕ, Bool, true, false, if◌then◌else◌, [], ◌∷◌, codes, ◌≢◌, refl, Option, Some, Result, Ok, Err}
 use Rattle.cd_outside.specs.declared.key.Key.TheVariants.{Listen}
 use Rattle.cd_tree.specs.declared.tree.Member.{Member}
 use Rattle.cd_tree.specs.declared.tree.Tree.{Tree, out-Tree}
 use Rattle.cd_tree.specs.declared.tree.Tree.TheOpen.{Tree-F}
 use Rattle.cd_tree.specs.declared.tree.Tree.TheVariants.{Bool as Truth}
 use Rattle.cd_wire.specs.declared.request.Request.{Request}
+use Rattle.cd_module.specs.declared.fault.LoadFault.{LoadFault}
+use Rattle.cd_module.specs.declared.fault.LoadFault.TheVariants.{NoMemory}
+use Rattle.cd_module.proofs.Sure.{never_lacks}
 use Rattle.cd_legal.specs.declared.plan.Plan.{Plan}
 use Rattle.cd_legal.specs.State.{Conf}
 use Rattle.cd_module_set.specs.Acts.{Acts}
@@ -30,6 +33,13 @@ plan_at port = record {
 -- the tree true is that of the other configuration, and each other one that of the first
 abbrev pub fixed_plan : Tree → Plan
 fixed_plan tree = plan_at (if is_true_layer (out-Tree tree) then 8443 else 8080)
+
+-- no tree has a fault
+abbrev pub fixed_verdict : Tree → Result Plan LoadFault
+fixed_verdict tree = Ok (fixed_plan tree)
+
+pub fixed_sure : (tree : Tree) → fixed_verdict tree ≢ Err NoMemory
+fixed_sure tree = never_lacks (fixed_verdict tree) refl
 
 -- while it runs the admin API is everywhere, and else nobody; no app answers
 abbrev pub fixed_acts : Bool → Acts

@@ -23,12 +23,12 @@ pub struct Form {
 }
 
 impl ModuleSet for Fixed {
-    ghost use Rattle.std.specs.Prelude.{Ok, true};
-    ghost use Rattle.cd_serve_cases.specs.Fixed.{fixed_plan, fixed_acts, fixed_change};
+    ghost use Rattle.std.specs.Prelude.{true};
+    ghost use Rattle.cd_serve_cases.specs.Fixed.{fixed_verdict, fixed_sure, fixed_acts, fixed_change};
 
     type Compiled = Form;
 
-    ghost plan = { λ tree. Ok (fixed_plan tree) };
+    ghost plan = { fixed_verdict };
 
     ghost acts = { λ tree. fixed_acts true };
 
@@ -38,6 +38,8 @@ impl ModuleSet for Fixed {
     ghost responds = { λ form at responder. Unit {0} };
 
     ghost change = { fixed_change };
+
+    ghost sure = { fixed_sure };
 
     fn nothing(_alloc: Global) -> Result<Form, NoMemory> {
         Ok(Form { running: false })

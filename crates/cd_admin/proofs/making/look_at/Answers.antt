@@ -1,5 +1,5 @@
 use Rattle.cd_tree.proofs.Inside.{null_sound}
 use Rattle.cd_admin.proofs.making.look_at.Goals as goal
 
-pub show-requires-in-Ok-None-clause-value : goal.show-requires-in-Ok-None-clause-value
-show-requires-in-Ok-None-clause-value c = null_sound
+pub show-requires-in-Ok-None : goal.show-requires-in-Ok-None
+show-requires-in-Ok-None c = null_sound
