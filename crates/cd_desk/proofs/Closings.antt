@@ -1,22 +1,22 @@
 -- What is left of a draft that is given up.
-use Rattle.std.proofs.Common.{◌≡◌, ℕ, ◌+◌, ◌||◌, true, Bool, refl, sym, ap, ◌∙◌, arith, subst, Some, None, slice_get}
+use Rattle.std.proofs.Common.{◌≡◌, ℕ, ◌||◌, true, Bool, refl, ap, ◌∙◌, arith, subst, None}
 use Rattle.cd_tree.specs.declared.tree.Tree.{Tree}
 use Rattle.cd_legal.specs.declared.state.Life.{Life}
 use Rattle.cd_legal.specs.declared.state.Life.TheVariants.{Abandoned}
 use Rattle.cd_legal.specs.Abandoned.{is_abandoned}
-use Rattle.cd_desk.specs.declared.row.Row.{Row}
 use Rattle.cd_desk.specs.declared.books.Books.{Books}
 use Rattle.cd_desk.specs.declared.left.Left.{Left}
-use Rattle.cd_desk.specs.Books.{RowAt, Lives}
+use Rattle.cd_desk.specs.Books.{HasRowAt, Lives}
 use Rattle.cd_desk.specs.Publishing.{CanAbandon}
 use Rattle.cd_desk.specs.Lefts.{IsLeft, Follows}
 use Rattle.cd_desk.specs.Closings.{IsRest, MayClean, may_clean_row}
 use Rattle.cd_desk.proofs.Counts.{now_at, was_at}
+use Rattle.cd_desk.proofs.Numbers.{row_same}
 
 pub can_abandon : (b : Books) (t : Tree) (l : Left) → IsLeft b t l → CanAbandon b l.number
 can_abandon b t l i = record { place = i.place; row = i.row; at = i.at; live = i.follows.live }
 
-module _ (v w : Books) (t : Tree) (l : Left) (place : ℕ) (number : l.number ≡ v.first + place) (m : Lives Abandoned place v w) (i : IsLeft v t l) where
+module _ (v w : Books) (t : Tree) (l : Left) (place : ℕ) (number : HasRowAt v l.number place) (m : Lives Abandoned place v w) (i : IsLeft v t l) where
   same : i.row ≡ m.changes.was
   same = was_at v w l.number place i.place i.row m.changes number i.at
 
@@ -43,14 +43,7 @@ module _ (v w : Books) (t : Tree) (l : Left) (place : ℕ) (number : l.number �
 or_true : (b : Bool) → (true || b) ≡ true
 or_true b = refl
 
-pub abandoned_may : (v w : Books) (d place : ℕ) → d ≡ v.first + place → (m : Lives Abandoned place v w) → MayClean w d
+pub abandoned_may : (v w : Books) (d place : ℕ) → HasRowAt v d place → (m : Lives Abandoned place v w) → MayClean w d
 abandoned_may v w d place number m other r at =
-    let same : r ≡ m.changes.is = row_there w d place other r m.changes.is (now_at v w d place m.changes number) at in
+    let same : r ≡ m.changes.is = row_same w d other place r m.changes.is at (now_at v w d place m.changes number) in
     ap may_clean_row same ∙ ap (λ (z : Life). is_abandoned z || m.changes.is.retired) m.life
-  where
-    row_there : (w : Books) (d place other : ℕ) (r s : Row) → RowAt w d place s → RowAt w d other r → r ≡ s
-    row_there w d place other r s at its =
-        let one = at.number in
-        let two = its.number in
-        let here : other ≡ place = omega (arith, one, two) in
-        let got : Some r ≡ Some s = sym its.there ∙ (ap (slice_get w.rows.items) here ∙ at.there) in cc

@@ -1,5 +1,5 @@
 -- What is known of a draft after one more is opened.
-use Rattle.std.proofs.Common.{◌≡◌, ℕ, ◌+◌, ◌<◌, false, Option, Result, sym, ap, ◌∙◌, arith, List, length, slice_get, Some, subst, is_err}
+use Rattle.std.proofs.Common.{◌≡◌, ℕ, ◌+◌, ◌<◌, false, Option, Result, sym, ap, ◌∙◌, arith, List, length, slice_get, subst, is_err}
 use Rattle.std.proofs.lemmas.List.{length-set}
 use Rattle.cd_tree.specs.declared.tree.Tree.{Tree}
 use Rattle.cd_outside.specs.declared.key.Key.{Key}
@@ -9,7 +9,7 @@ use Rattle.cd_legal.specs.declared.part.Part.TheVariants.{Instance, App}
 use Rattle.cd_desk.specs.declared.row.Row.{Row}
 use Rattle.cd_desk.specs.declared.books.Books.{Books}
 use Rattle.cd_desk.specs.declared.left.Left.{Left}
-use Rattle.cd_desk.specs.Books.{RowAt, Changes, Opens}
+use Rattle.cd_desk.specs.Books.{RowAt, HasRowAt, Changes, Opens}
 use Rattle.cd_legal.specs.declared.entry.Entry.TheVariants.{Made, Started}
 use Rattle.cd_desk.specs.declared.desk.Desk.{Desk}
 use Rattle.cd_desk.specs.Instances.{failed_of}
@@ -24,16 +24,15 @@ use Rattle.cd_legal.specs.declared.state.Life.TheVariants.{Live}
 use Rattle.cd_desk.proofs.Wholes.{live_whole}
 use Rattle.cd_desk.proofs.Openings.{line_part, line_plan, length_map}
 use Rattle.cd_desk.proofs.Lists.{get_set_same, same_at}
+use Rattle.cd_desk.proofs.Numbers.{at_place, number_of}
 
 -- the row that is at the place afterwards
-pub now_at : (v w : Books) (d place : ℕ) (m : Changes place v w) → d ≡ v.first + place → RowAt w d place m.is
-now_at v w d place m number = record { number = number ∙ ap (λ (z : ℕ). z + place) (sym m.first); there = ap (λ z. slice_get z place) m.rows ∙ get_set_same v.rows.items place m.was m.is m.there }
+pub now_at : (v w : Books) (d place : ℕ) (m : Changes place v w) → HasRowAt v d place → RowAt w d place m.is
+now_at v w d place m at = record { number = number_of v w d place m at ∙ sym m.number; there = ap (λ z. slice_get z place) m.rows ∙ get_set_same v.rows.items place m.was m.is m.there }
 
 -- the row that was there
-pub was_at : (v w : Books) (d place other : ℕ) (r : Row) (m : Changes place v w) → d ≡ v.first + place → RowAt v d other r → r ≡ m.was
-was_at v w d place other r m number at =
-    let same : other ≡ place = (let n = at.number in omega arith) in
-    same_at v.rows.items place r m.was (subst (λ z. slice_get v.rows.items z ≡ Some r) same at.there) m.there
+pub was_at : (v w : Books) (d place other : ℕ) (r : Row) (m : Changes place v w) → HasRowAt v d place → RowAt v d other r → r ≡ m.was
+was_at v w d place other r m at its = same_at v.rows.items place r m.was (at_place v d other place r its at) m.there
 
 pub can_make : (b : Books) (t : Tree) (l : Left) → IsLeft b t l → l.made < l.modules → l.failed ≡ false → CanOpenOf Instance b l.number
 can_make b t l i more unfailed =
@@ -49,7 +48,7 @@ can_start b t l i ready more unfailed =
     let all = f.apps in
     record { place = i.place; row = i.row; at = i.at; live = f.live; unfailed = f.failed ∙ unfailed; ready = f.made ∙ (ready ∙ sym f.modules); left = omega arith; unended = f.unended.1 }
 
-module _ (v w : Books) (l : Left) (place : ℕ) (before after : Option (List FixtureCall)) (result : Result (Unit {0}) Key) (number : l.number ≡ v.first + place) where
+module _ (v w : Books) (l : Left) (place : ℕ) (before after : Option (List FixtureCall)) (result : Result (Unit {0}) Key) (number : HasRowAt v l.number place) where
   pub made_left : Opens Instance place v w before after result → (t : Tree) → IsLeft v t l → IsLeft w t (one_made l (is_err result))
   made_left o t i =
       let same : i.row ≡ o.changes.was = was_at v w l.number place i.place i.row o.changes number i.at in
@@ -90,10 +89,10 @@ module _ (v w : Books) (l : Left) (place : ℕ) (before after : Option (List Fix
         tree = ap (λ z. z.value) o.changes.tree ∙ (ap (λ z. z.tree.value) (sym same) ∙ i.tree);
       }
 
-made_place : (v w : Books) (t : Tree) (l : Left) (place : ℕ) (before after : Option (List FixtureCall)) (result : Result (Unit {0}) Key) → l.number ≡ v.first + place → (o : Opens Instance place v w before after result) → IsLeft v t l → o.changes.was.modules.opened ≡ l.made
+made_place : (v w : Books) (t : Tree) (l : Left) (place : ℕ) (before after : Option (List FixtureCall)) (result : Result (Unit {0}) Key) → HasRowAt v l.number place → (o : Opens Instance place v w before after result) → IsLeft v t l → o.changes.was.modules.opened ≡ l.made
 made_place v w t l place before after result number o i = ap (λ z. z.modules.opened) (sym (was_at v w l.number place i.place i.row o.changes number i.at)) ∙ i.follows.made
 
-started_place : (v w : Books) (t : Tree) (l : Left) (place : ℕ) (before after : Option (List FixtureCall)) (result : Result (Unit {0}) Key) → l.number ≡ v.first + place → (o : Opens App place v w before after result) → IsLeft v t l → o.changes.was.apps.opened ≡ l.started
+started_place : (v w : Books) (t : Tree) (l : Left) (place : ℕ) (before after : Option (List FixtureCall)) (result : Result (Unit {0}) Key) → HasRowAt v l.number place → (o : Opens App place v w before after result) → IsLeft v t l → o.changes.was.apps.opened ≡ l.started
 started_place v w t l place before after result number o i = ap (λ z. z.apps.opened) (sym (was_at v w l.number place i.place i.row o.changes number i.at)) ∙ i.follows.started
 
 module _ {F : Type 0} (calls : F → Option (List FixtureCall)) (v w : Desk F) (t : Tree) (l : Left) (result : Result (Unit {0}) Key) (failed : Option Key) (is : failed_of result ≡ failed) (i : IsLeft v.books t l) where
@@ -101,14 +100,14 @@ module _ {F : Type 0} (calls : F → Option (List FixtureCall)) (v w : Desk F) (
   made_entry e = (
     length e.opens.opens.takes.0,
     subst (λ (z : Option Key). AddsTo calls v w (Made l.number l.made (length e.opens.opens.takes.0) z)) is
-        (subst (λ (z : ℕ). AddsTo calls v w (Made l.number z (length e.opens.opens.takes.0) (failed_of result))) (made_place v.books w.books t l e.place (calls v.fixtures) (calls w.fixtures) result e.number e.opens i) e.adds),
+        (subst (λ (z : ℕ). AddsTo calls v w (Made l.number z (length e.opens.opens.takes.0) (failed_of result))) (made_place v.books w.books t l e.place (calls v.fixtures) (calls w.fixtures) result e.at e.opens i) e.adds),
   )
 
   pub started_entry : OpensEntry calls App v w l.number result → (taken : ℕ) × AddsTo calls v w (Started l.number l.started taken failed)
   started_entry e = (
     length e.opens.opens.takes.0,
     subst (λ (z : Option Key). AddsTo calls v w (Started l.number l.started (length e.opens.opens.takes.0) z)) is
-        (subst (λ (z : ℕ). AddsTo calls v w (Started l.number z (length e.opens.opens.takes.0) (failed_of result))) (started_place v.books w.books t l e.place (calls v.fixtures) (calls w.fixtures) result e.number e.opens i) e.adds),
+        (subst (λ (z : ℕ). AddsTo calls v w (Started l.number z (length e.opens.opens.takes.0) (failed_of result))) (started_place v.books w.books t l e.place (calls v.fixtures) (calls w.fixtures) result e.at e.opens i) e.adds),
   )
 
 line_length : (p : Part) (r : Row) (plan : Plan) → r.life ≡ Live → r.plan.value ≡ plan → length (line_at p r).parts.items ≡ length (part_keys p plan)

@@ -74,4 +74,4 @@ module _ {F : Type 0} (calls : F → Option (List FixtureCall)) (b : Desk F) (h 
       all_rows is_closed_row b.books.rows.items
       (λ j r there.
       (let sh = draft_at calls h.0 b s _ _ (legal-agree (entries h.1) h.2.is_legal) h.2.agrees j r there in
-      sym (closed_shown s.retired r sh.draft sh.shows) ∙ each_passes (is_closed s.retired) s.drafts (b.books.first + j) sh.draft h.3.closed sh.is))
+      sym (closed_shown s.retired r sh.draft sh.shows) ∙ each_passes (is_closed s.retired) s.drafts r.number sh.draft h.3.closed sh.is))

@@ -1,6 +1,5 @@
 -- What a desk stands for after a draft is published, or given up.
-use Rattle.std.proofs.Common.{◌≡◌, ℕ, ◌+◌, ◌<◌, Bool, true, false, List, length, drop, refl, sym, ap, ◌∙◌, arith, Some, Option, slice_get, subst}
-use Rattle.std.proofs.lemmas.List.{length-set}
+use Rattle.std.proofs.Common.{◌≡◌, ℕ, ◌+◌, ◌<◌, Bool, true, false, List, length, refl, sym, ap, ◌∙◌, arith, Some, None, Option, slice_get, subst}
 use Rattle.cd_outside.specs.declared.fixtures.FixtureCall.{FixtureCall}
 use Rattle.cd_outside.specs.FixtureCall.{CallsGrow}
 use Rattle.cd_pool.specs.Pairs.{pairs}
@@ -20,10 +19,11 @@ use Rattle.cd_legal.proofs.Facts.{is_complete-by, allowed-by}
 use Rattle.cd_desk.specs.declared.row.Row.{Row}
 use Rattle.cd_desk.specs.declared.books.Books.{Books}
 use Rattle.cd_desk.specs.declared.desk.Desk.{Desk}
-use Rattle.cd_desk.specs.Rows.{Shows, ShowsAt, line_at, is_retired}
-use Rattle.cd_desk.specs.Books.{Lives}
+use Rattle.cd_desk.specs.Rows.{Shows, ShowsAt, line_at, is_retired, row_with}
+use Rattle.cd_desk.specs.Books.{HasRowAt, Lives}
 use Rattle.cd_desk.specs.Publishing.{IsComplete, CanPublish, CanAbandon}
-use Rattle.cd_desk.proofs.Lists.{get_drop, drop_change, same_at}
+use Rattle.cd_desk.proofs.Lists.{same_at}
+use Rattle.cd_desk.proofs.Numbers.{with_at, at_place, number_of, none_before}
 use Rattle.cd_desk.proofs.Standing.{Steps, Shown, shown, rows_after, closed_stays, plain_calls}
 use Rattle.cd_desk.proofs.Openings.{none_is, length_map, line_part, line_plan}
 use Rattle.cd_desk.proofs.Ticketing.{no_calls}
@@ -54,18 +54,17 @@ live_unretired : (retired : List ℕ) (r : Row) (x : Drafted) → Shows retired 
 live_unretired retired r x sh live = sym sh.over ∙ ap (is_retired retired) (sh.life ∙ live)
 
 module _ {F : Type 0} (calls : F → Option (List FixtureCall)) where
-  pub publishes : (v : Desk F) (books : Books) (d place : ℕ) (change : Change) (can : CanPublish v d) → d ≡ v.books.first + place → (m : Lives (Published (v.serial + 1)) place v.books books)
+  pub publishes : (v : Desk F) (books : Books) (d place : ℕ) (change : Change) (can : CanPublish v d) → HasRowAt v.books d place → (m : Lives (Published (v.serial + 1)) place v.books books)
       → Steps calls v (record v { books = books; serial = v.serial + 1; begun = 0 }) (Publish d (v.serial + 1) v.serial change)
-  publishes v books d place change can number m opening s told count known a =
-      let first : ℕ = v.books.first in
+  publishes v books d place change can at m opening s told count known a =
       let r : Row = m.changes.was in
       let n : ℕ = v.serial + 1 in
-      let rest : List Drafted = drop first s.drafts in
-      let here : can.place ≡ place = (let e = can.at.number in omega arith) in
-      let row_is : can.row ≡ r = same_at v.books.rows.items place can.row r (subst (λ z. slice_get v.books.rows.items z ≡ Some can.row) here can.at.there) m.changes.there in
-      let sh : Shown s.retired r (slice_get rest place) = shown s.retired r (slice_get rest place) (subst (λ z. ShowsAt s.retired z (slice_get rest place)) m.changes.there (a.rows place)) in
+      let number : d ≡ r.number = number_of v.books books d place m.changes at in
+      let row_is : can.row ≡ r = same_at v.books.rows.items place can.row r (at_place v.books d can.place place can.row can.at at) m.changes.there in
+      let with_is : row_with d v.books.rows.items ≡ Some r = ap (λ (z : ℕ). row_with z v.books.rows.items) number ∙ with_at 0 v.books.rows.items v.books.next place r v.books.numbers m.changes.there in
+      let sh : Shown s.retired r (slice_get s.drafts d) = shown s.retired r (slice_get s.drafts d) (subst (λ z. ShowsAt s.retired z (slice_get s.drafts d)) with_is (a.rows d)) in
       let x : Drafted = sh.draft in
-      let there : slice_get s.drafts d ≡ Some x = ap (slice_get s.drafts) number ∙ (sym (get_drop first s.drafts place) ∙ sh.is) in
+      let there : slice_get s.drafts d ≡ Some x = sh.is in
       let whole : IsComplete r = subst (λ z. IsComplete z) row_is can.complete in
       let passes : is_complete x ≡ true = is_complete-by x (record {
         opened = record { live = sh.shows.life ∙ whole.live; unfailed = none_is x.failed (sh.shows.failed ∙ whole.unfailed) };
@@ -74,8 +73,6 @@ module _ {F : Type 0} (calls : F → Option (List FixtureCall)) where
       }) in
       let may : allowed s (Publish d n v.serial change) ≡ true = allowed-by s (Publish d n v.serial change) (record { running = a.halted ∙ can.running; complete = ap (holds is_complete) there ∙ passes; current = sym a.serial; next = refl }) in
       let f : Drafted → Drafted = λ y. record y { life = Published n } in
-      let at_place : drop first (change_at f d s.drafts) ≡ change_at f place rest = ap (λ z. drop first (change_at f z s.drafts)) number ∙ drop_change f first s.drafts place in
-      let same_rows : length books.rows.items ≡ length v.books.rows.items = ap length m.changes.rows ∙ length-set v.books.rows.items place m.changes.is in
       let serial : s.serial ≡ v.serial = a.serial in
       let fresh : has_number n s.retired ≡ false = not_there (has_number n s.retired) (λ has. let below = a.retired n has in omega arith) in
       let over : is_retired s.retired (Published n) ≡ r.retired = fresh ∙ sym (live_unretired s.retired r x sh.shows whole.live) in (
@@ -84,11 +81,11 @@ module _ {F : Type 0} (calls : F → Option (List FixtureCall)) where
           serial = refl;
           halted = a.halted;
           begun = refl;
-          drafts = length_change f s.drafts d ∙ (a.drafts ∙ (ap (λ (z : ℕ). z + length v.books.rows.items) (sym m.changes.first) ∙ ap (λ (z : ℕ). books.first + z) (sym same_rows)));
-          rows = λ j. subst (λ z. ShowsAt s.retired (slice_get books.rows.items j) (slice_get (drop z (change_at f d s.drafts)) j)) (sym m.changes.first)
-              (subst (λ z. ShowsAt s.retired (slice_get books.rows.items j) (slice_get z j)) (sym at_place) (subst (λ z. ShowsAt s.retired (slice_get z j) (slice_get (change_at f place rest) j)) (sym m.changes.rows)
-              (rows_after s.retired v.books.rows.items rest f place r m.changes.is x m.changes.there sh.is (lives_shows s.retired (Published n) place v.books books x m sh.shows over) a.rows j)));
-          closed = λ j lt. closed_stays s (Publish d n v.serial change) j may (a.closed j (subst (λ z. j < z) m.changes.first lt));
+          drafts = length_change f s.drafts d ∙ (a.drafts ∙ sym m.changes.next);
+          rows = λ j. subst (λ z. ShowsAt s.retired (row_with j z) (slice_get (change_at f d s.drafts) j)) (sym m.changes.rows)
+              (rows_after s.retired v.books.rows.items s.drafts f d v.books.next place r m.changes.is x v.books.numbers m.changes.there m.changes.number number sh.is (lives_shows s.retired (Published n) place v.books books x m sh.shows over) a.rows j);
+          closed = λ j lt none. closed_stays s (Publish d n v.serial change) j may
+              (a.closed j (subst (λ z. j < z) m.changes.next lt) (none_before j 0 v.books.rows.items v.books.next place r m.changes.is v.books.numbers m.changes.there m.changes.number (subst (λ z. row_with j z ≡ None) m.changes.rows none)));
           retired = λ k has. (let below = a.retired k has in omega arith);
           opening_retired = a.opening_retired;
           pairs = a.pairs ∙ ap (λ z. pairs z.held) (sym m.pool);
@@ -99,32 +96,29 @@ module _ {F : Type 0} (calls : F → Option (List FixtureCall)) where
         },
       )
 
-  pub abandons : (v : Desk F) (books : Books) (d place : ℕ) (can : CanAbandon v.books d) → d ≡ v.books.first + place → (m : Lives Abandoned place v.books books) → Steps calls v (record v { books = books }) (Abandon d)
-  abandons v books d place can number m opening s told count known a =
-      let first : ℕ = v.books.first in
+  pub abandons : (v : Desk F) (books : Books) (d place : ℕ) (can : CanAbandon v.books d) → HasRowAt v.books d place → (m : Lives Abandoned place v.books books) → Steps calls v (record v { books = books }) (Abandon d)
+  abandons v books d place can at m opening s told count known a =
       let r : Row = m.changes.was in
-      let rest : List Drafted = drop first s.drafts in
-      let here : can.place ≡ place = (let e = can.at.number in omega arith) in
-      let row_is : can.row ≡ r = same_at v.books.rows.items place can.row r (subst (λ z. slice_get v.books.rows.items z ≡ Some can.row) here can.at.there) m.changes.there in
+      let number : d ≡ r.number = number_of v.books books d place m.changes at in
+      let row_is : can.row ≡ r = same_at v.books.rows.items place can.row r (at_place v.books d can.place place can.row can.at at) m.changes.there in
+      let with_is : row_with d v.books.rows.items ≡ Some r = ap (λ (z : ℕ). row_with z v.books.rows.items) number ∙ with_at 0 v.books.rows.items v.books.next place r v.books.numbers m.changes.there in
       let live : r.life ≡ Live = ap (λ z. z.life) (sym row_is) ∙ can.live in
-      let sh : Shown s.retired r (slice_get rest place) = shown s.retired r (slice_get rest place) (subst (λ z. ShowsAt s.retired z (slice_get rest place)) m.changes.there (a.rows place)) in
+      let sh : Shown s.retired r (slice_get s.drafts d) = shown s.retired r (slice_get s.drafts d) (subst (λ z. ShowsAt s.retired z (slice_get s.drafts d)) with_is (a.rows d)) in
       let x : Drafted = sh.draft in
-      let there : slice_get s.drafts d ≡ Some x = ap (slice_get s.drafts) number ∙ (sym (get_drop first s.drafts place) ∙ sh.is) in
+      let there : slice_get s.drafts d ≡ Some x = sh.is in
       let may : allowed s (Abandon d) ≡ true = ap (holds (λ x. is_live x.life)) there ∙ ap is_live (sh.shows.life ∙ live) in
       let f : Drafted → Drafted = λ y. record y { life = Abandoned } in
-      let at_place : drop first (change_at f d s.drafts) ≡ change_at f place rest = ap (λ z. drop first (change_at f z s.drafts)) number ∙ drop_change f first s.drafts place in
-      let same_rows : length books.rows.items ≡ length v.books.rows.items = ap length m.changes.rows ∙ length-set v.books.rows.items place m.changes.is in
       let over : is_retired s.retired Abandoned ≡ r.retired = sym (live_unretired s.retired r x sh.shows live) in (
         may,
         record {
           serial = a.serial;
           halted = a.halted;
           begun = a.begun;
-          drafts = length_change f s.drafts d ∙ (a.drafts ∙ (ap (λ (z : ℕ). z + length v.books.rows.items) (sym m.changes.first) ∙ ap (λ (z : ℕ). books.first + z) (sym same_rows)));
-          rows = λ j. subst (λ z. ShowsAt s.retired (slice_get books.rows.items j) (slice_get (drop z (change_at f d s.drafts)) j)) (sym m.changes.first)
-              (subst (λ z. ShowsAt s.retired (slice_get books.rows.items j) (slice_get z j)) (sym at_place) (subst (λ z. ShowsAt s.retired (slice_get z j) (slice_get (change_at f place rest) j)) (sym m.changes.rows)
-              (rows_after s.retired v.books.rows.items rest f place r m.changes.is x m.changes.there sh.is (lives_shows s.retired Abandoned place v.books books x m sh.shows over) a.rows j)));
-          closed = λ j lt. closed_stays s (Abandon d) j may (a.closed j (subst (λ z. j < z) m.changes.first lt));
+          drafts = length_change f s.drafts d ∙ (a.drafts ∙ sym m.changes.next);
+          rows = λ j. subst (λ z. ShowsAt s.retired (row_with j z) (slice_get (change_at f d s.drafts) j)) (sym m.changes.rows)
+              (rows_after s.retired v.books.rows.items s.drafts f d v.books.next place r m.changes.is x v.books.numbers m.changes.there m.changes.number number sh.is (lives_shows s.retired Abandoned place v.books books x m sh.shows over) a.rows j);
+          closed = λ j lt none. closed_stays s (Abandon d) j may
+              (a.closed j (subst (λ z. j < z) m.changes.next lt) (none_before j 0 v.books.rows.items v.books.next place r m.changes.is v.books.numbers m.changes.there m.changes.number (subst (λ z. row_with j z ≡ None) m.changes.rows none)));
           retired = a.retired;
           opening_retired = a.opening_retired;
           pairs = a.pairs ∙ ap (λ z. pairs z.held) (sym m.pool);

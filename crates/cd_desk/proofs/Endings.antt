@@ -1,6 +1,5 @@
 -- What a desk stands for after an app is stopped, or an instance is cleaned.
-use Rattle.std.proofs.Common.{◌≡◌, ℕ, ◌+◌, ◌-◌, ◌<◌, ◌||◌, Bool, true, false, List, ◌++◌, length, drop, refl, sym, ap, ◌∙◌, arith, Some, Option, slice_get, subst, min}
-use Rattle.std.proofs.lemmas.List.{length-set}
+use Rattle.std.proofs.Common.{◌≡◌, ℕ, ◌+◌, ◌-◌, ◌<◌, ◌||◌, Bool, true, false, List, ◌++◌, None, refl, sym, ap, ◌∙◌, arith, Some, Option, slice_get, subst, min}
 use Rattle.cd_outside.specs.declared.fixtures.FixtureCall.{FixtureCall}
 use Rattle.cd_outside.specs.FixtureCall.{CallsGrow}
 use Rattle.cd_outside.specs.Counts.{count_end}
@@ -26,12 +25,13 @@ use Rattle.cd_legal.proofs.Facts.{may_stop-by, may_clean-by}
 use Rattle.cd_desk.specs.declared.row.Row.{Row}
 use Rattle.cd_desk.specs.declared.books.Books.{Books}
 use Rattle.cd_desk.specs.declared.desk.Desk.{Desk}
-use Rattle.cd_desk.specs.Rows.{Shows, ShowsAt, line_at, is_retired}
-use Rattle.cd_desk.specs.Books.{Ends, other}
+use Rattle.cd_desk.specs.Rows.{Shows, ShowsAt, line_at, is_retired, row_with}
+use Rattle.cd_desk.specs.Books.{HasRowAt, Ends, other}
 use Rattle.cd_desk.specs.Desks.{Agrees}
 use Rattle.cd_desk.specs.Closings.{CanEndOf, MayEnd, ending_entry}
 use Rattle.cd_desk.proofs.Keeping.{calls_join}
-use Rattle.cd_desk.proofs.Lists.{get_drop, drop_change, same_at}
+use Rattle.cd_desk.proofs.Lists.{same_at}
+use Rattle.cd_desk.proofs.Numbers.{with_at, at_place, number_of, none_before}
 use Rattle.cd_desk.proofs.Openings.{line_part}
 use Rattle.cd_desk.proofs.Standing.{Known, Shown, shown, rows_after, closed_stays}
 
@@ -105,27 +105,24 @@ pub record Ended {F : Type 0} (calls : F → Option (List FixtureCall)) (p : Par
   pub agrees : Agrees calls opening w (after s (ending_entry p d i)) (told ++ key_calls s (ending_entry p d i)) (begins_by count (ending_entry p d i))
 
 module _ {F : Type 0} (calls : F → Option (List FixtureCall)) where
-  pub ends : (p : Part) (v : Desk F) (fixtures : F) (books : Books) (d place : ℕ) (can : CanEndOf p v d) → d ≡ v.books.first + place → (o : Ends p place v.books books (calls v.fixtures) (calls fixtures)) (opening : Desk F) (s : State) (told : List FixtureCall) (count : ℕ) → Known s → Agrees calls opening v s told count
+  pub ends : (p : Part) (v : Desk F) (fixtures : F) (books : Books) (d place : ℕ) (can : CanEndOf p v d) → HasRowAt v.books d place → (o : Ends p place v.books books (calls v.fixtures) (calls fixtures)) (opening : Desk F) (s : State) (told : List FixtureCall) (count : ℕ) → Known s → Agrees calls opening v s told count
       → Ended calls p opening (record v { fixtures = fixtures; books = books }) s told count d ((line_at p o.changes.was).opened - (line_at p o.changes.was).ended - 1) o.changes.was
-  ends p v fixtures books d place can number o opening s told count known a =
+  ends p v fixtures books d place can at o opening s told count known a =
       let w : Desk F = record v { fixtures = fixtures; books = books } in
-      let first : ℕ = v.books.first in
       let r : Row = o.changes.was in
       let t : Row = o.changes.is in
       let i : ℕ = (line_at p r).opened - (line_at p r).ended - 1 in
       let e : Entry = ending_entry p d i in
-      let rest : List Drafted = drop first s.drafts in
-      let here : can.place ≡ place = (let n = can.at.number in omega (arith, n, number)) in
-      let row_is : can.row ≡ r = same_at v.books.rows.items place can.row r (subst (λ z. slice_get v.books.rows.items z ≡ Some can.row) here can.at.there) o.changes.there in
-      let sh : Shown s.retired r (slice_get rest place) = shown s.retired r (slice_get rest place) (subst (λ z. ShowsAt s.retired z (slice_get rest place)) o.changes.there (a.rows place)) in
+      let number : d ≡ r.number = number_of v.books books d place o.changes at in
+      let row_is : can.row ≡ r = same_at v.books.rows.items place can.row r (at_place v.books d can.place place can.row can.at at) o.changes.there in
+      let with_is : row_with d v.books.rows.items ≡ Some r = ap (λ (z : ℕ). row_with z v.books.rows.items) number ∙ with_at 0 v.books.rows.items v.books.next place r v.books.numbers o.changes.there in
+      let sh : Shown s.retired r (slice_get s.drafts d) = shown s.retired r (slice_get s.drafts d) (subst (λ z. ShowsAt s.retired z (slice_get s.drafts d)) with_is (a.rows d)) in
       let x : Drafted = sh.draft in
-      let there : slice_get s.drafts d ≡ Some x = ap (slice_get s.drafts) number ∙ (sym (get_drop first s.drafts place) ∙ sh.is) in
+      let there : slice_get s.drafts d ≡ Some x = sh.is in
       let left : (line_at p r).ended < (line_at p r).opened = subst (λ (z : Row). (line_at p z).ended < (line_at p z).opened) row_is can.left in
       let may : allowed s e ≡ true = entry_may p s d i ∙ (ap (holds (may_end p i s)) there ∙ may_ends p v s r x i a.serial sh.shows (subst (λ (z : Row). MayEnd p v z) row_is can.may) left refl) in
-      let holder : part_of (line_at p r).part (first + place) i ≡ part_of p d i = ap (λ z. part_of z (first + place) i) (line_part p r) ∙ ap (λ z. part_of p z i) (sym number) in
+      let holder : part_of (line_at p r).part r.number i ≡ part_of p d i = ap (λ z. part_of z r.number i) (line_part p r) ∙ ap (λ z. part_of p z i) (sym number) in
       let f : Drafted → Drafted = one_ended p in
-      let at_place : drop first (change_at f d s.drafts) ≡ change_at f place rest = ap (λ z. drop first (change_at f z s.drafts)) number ∙ drop_change f first s.drafts place in
-      let same_rows : length books.rows.items ≡ length v.books.rows.items = ap length o.changes.rows ∙ length-set v.books.rows.items place t in
       record {
         draft = x;
         there = there;
@@ -136,11 +133,11 @@ module _ {F : Type 0} (calls : F → Option (List FixtureCall)) where
               serial = a.serial;
               halted = a.halted;
               begun = ap (λ (z : ℕ). min z count_end) (entry_begun p d i count) ∙ a.begun;
-              drafts = length_change f s.drafts d ∙ (a.drafts ∙ (ap (λ (z : ℕ). z + length v.books.rows.items) (sym o.changes.first) ∙ ap (λ (z : ℕ). books.first + z) (sym same_rows)));
-              rows = λ j. subst (λ z. ShowsAt s.retired (slice_get books.rows.items j) (slice_get (drop z (change_at f d s.drafts)) j)) (sym o.changes.first)
-                  (subst (λ z. ShowsAt s.retired (slice_get books.rows.items j) (slice_get z j)) (sym at_place) (subst (λ z. ShowsAt s.retired (slice_get z j) (slice_get (change_at f place rest) j)) (sym o.changes.rows)
-                  (rows_after s.retired v.books.rows.items rest f place r t x o.changes.there sh.is (shows_ended p s.retired r t x sh.shows o.changes.tree o.changes.plan o.ends.opened o.ends.ended o.others o.failed o.life o.retired) a.rows j)));
-              closed = λ j lt. subst (λ z. is_closed_in z j ≡ true) (entry_after p s d i) (closed_stays s e j may (a.closed j (subst (λ z. j < z) o.changes.first lt)));
+              drafts = length_change f s.drafts d ∙ (a.drafts ∙ sym o.changes.next);
+              rows = λ j. subst (λ z. ShowsAt s.retired (row_with j z) (slice_get (change_at f d s.drafts) j)) (sym o.changes.rows)
+                  (rows_after s.retired v.books.rows.items s.drafts f d v.books.next place r t x v.books.numbers o.changes.there o.changes.number number sh.is (shows_ended p s.retired r t x sh.shows o.changes.tree o.changes.plan o.ends.opened o.ends.ended o.others o.failed o.life o.retired) a.rows j);
+              closed = λ j lt none. subst (λ z. is_closed_in z j ≡ true) (entry_after p s d i)
+                  (closed_stays s e j may (a.closed j (subst (λ z. j < z) o.changes.next lt) (none_before j 0 v.books.rows.items v.books.next place r t v.books.numbers o.changes.there o.changes.number (subst (λ z. row_with j z ≡ None) o.changes.rows none))));
               retired = a.retired;
               opening_retired = a.opening_retired;
               pairs = ap (λ z. without_holder (part_of p d i) z) a.pairs ∙ (ap (λ (z : Holder). without_holder z (pairs v.books.pool.held)) (sym holder) ∙ sym o.ends.gives.left);

@@ -1,5 +1,6 @@
 -- What a desk has of what a history leaves for which it stands.
-use Rattle.std.proofs.Common.{◌≡◌, ℕ, zero, suc, ◌+◌, ◌<◌, Bool, true, false, List, [], ◌∷◌, length, refl, sym, ap, ◌∙◌, arith, Some, None, Option, slice_get, is_some, ◌&&◌, ◌≤◌, ◌-◌, ⊎_elim, drop, subst}
+use Rattle.std.proofs.Common.{◌≡◌, ℕ, zero, suc, ◌<◌, Bool, true, false, List, [], ◌∷◌, length, refl, sym, ap, ◌∙◌, arith, Some, None, Option, slice_get, is_some, ◌&&◌, subst}
+use Rattle.std.proofs.lemmas.Option.{slice_get_within}
 use Rattle.cd_outside.specs.declared.fixtures.FixtureCall.{FixtureCall}
 use Rattle.cd_tree.specs.declared.tree.Tree.{Tree}
 use Rattle.cd_legal.specs.declared.part.Part.TheVariants.{Instance, App}
@@ -18,11 +19,12 @@ use Rattle.cd_legal.proofs.Serials.{legal-agree}
 use Rattle.cd_desk.specs.declared.row.Row.{Row}
 use Rattle.cd_desk.specs.declared.desk.Desk.{Desk}
 use Rattle.cd_desk.specs.declared.left.Left.{Left}
-use Rattle.cd_desk.specs.Rows.{Shows, ShowsAt}
+use Rattle.cd_desk.specs.Rows.{Shows, ShowsAt, row_with}
+use Rattle.cd_desk.specs.Books.{RowAt}
 use Rattle.cd_desk.specs.Desks.{Holds, HasTicket, told_ticket}
 use Rattle.cd_desk.specs.Lefts.{IsLeft, Follows, left_of}
-use Rattle.cd_desk.proofs.Placing.{draft_at, split_at}
-use Rattle.cd_desk.proofs.Lists.{get_drop}
+use Rattle.cd_desk.proofs.Placing.{draft_at}
+use Rattle.cd_desk.proofs.Numbers.{row_at_with}
 use Rattle.cd_desk.proofs.Standing.{Shown}
 use Rattle.cd_desk.proofs.Ending.{many}
 use Rattle.cd_desk.proofs.Openings.{length_map}
@@ -47,7 +49,7 @@ module _ {F : Type 0} (calls : F → Option (List FixtureCall)) (opening b : Des
   pub left_is : (t : Tree) (l : Left) → IsLeft b.books t l → LeftDraft (state_at log) t l
   left_is t l i =
       let s : State = state_at log in
-      let sh : Shown s.retired i.row (slice_get s.drafts (b.books.first + i.place)) = draft_at calls opening b s _ _ (legal-agree (entries log) h.is_legal) h.agrees i.place i.row i.at.there in
+      let sh : Shown s.retired i.row (slice_get s.drafts i.row.number) = draft_at calls opening b s _ _ (legal-agree (entries log) h.is_legal) h.agrees i.place i.row i.at.there in
       let x : Drafted = sh.draft in
       let f : Follows l i.row = i.follows in
       let w : Shows s.retired i.row x = sh.shows in
@@ -95,17 +97,16 @@ module _ {F : Type 0} (calls : F → Option (List FixtureCall)) (opening b : Des
       let s : State = state_at log in
       let sound = sound_from opening_state (entries log) h.is_legal refl in
       let whole = live_whole (bound_of s) x live (first (is_sound (bound_of s) x) _ (ap (holds (λ y. is_sound (bound_of s) y && is_live y.life)) (sym there) ∙ sound_at s d (λ y. is_live y.life) sound (ap (holds (λ y. is_live y.life)) there ∙ ap is_live live))) in
-      ⊎_elim (λ q. absurd (let f : false ≡ true = not_closed s x live (ap (holds (is_closed s.retired)) (sym there) ∙ h.agrees.closed d q) in cc))
-      (λ q. with_row d x there live whole q (slice_get b.books.rows.items (d - b.books.first)) refl) (split_at d b.books.first)
+      by_row d x there live whole (row_with d b.books.rows.items) refl
     where
       not_closed : (s : State) (x : Drafted) → x.life ≡ Live → is_closed s.retired x ≡ true → false ≡ true
       not_closed s x live closed = sym (ap (may_clean_instances s.retired) live) ∙ first (may_clean_instances s.retired x.life) _ closed
 
-      row_left : (d : ℕ) (x : Drafted) (r : Row) → x.life ≡ Live → (x.stopped ≡ 0) × (x.cleaned ≡ 0) → b.books.first ≤ d → slice_get b.books.rows.items (d - b.books.first) ≡ Some r → Shows (state_at log).retired r x → IsLeft b.books x.tree (left_of d x)
-      row_left d x r live whole le is w = record {
-        place = d - b.books.first;
+      row_left : (d place : ℕ) (x : Drafted) (r : Row) → x.life ≡ Live → (x.stopped ≡ 0) × (x.cleaned ≡ 0) → RowAt b.books d place r → Shows (state_at log).retired r x → IsLeft b.books x.tree (left_of d x)
+      row_left d place x r live whole at w = record {
+        place = place;
         row = r;
-        at = record { number = omega (arith, le); there = is };
+        at = at;
         follows = record {
           live = sym w.life ∙ live;
           failed = sym w.failed;
@@ -118,11 +119,11 @@ module _ {F : Type 0} (calls : F → Option (List FixtureCall)) (opening b : Des
         tree = sym w.tree;
       }
 
-      by_row : (d : ℕ) (x : Drafted) → x.life ≡ Live → (x.stopped ≡ 0) × (x.cleaned ≡ 0) → b.books.first ≤ d → (o : Option Row) → slice_get b.books.rows.items (d - b.books.first) ≡ o → ShowsAt (state_at log).retired o (Some x) → IsLeft b.books x.tree (left_of d x)
-      by_row d x live whole le None is sh = absurd sh
-      by_row d x live whole le (Some r) is sh = row_left d x r live whole le is sh
-
-      with_row : (d : ℕ) (x : Drafted) → slice_get (state_at log).drafts d ≡ Some x → x.life ≡ Live → (x.stopped ≡ 0) × (x.cleaned ≡ 0) → b.books.first ≤ d → (o : Option Row) → slice_get b.books.rows.items (d - b.books.first) ≡ o → IsLeft b.books x.tree (left_of d x)
-      with_row d x there live whole le o is =
-          let at : slice_get (drop b.books.first (state_at log).drafts) (d - b.books.first) ≡ Some x = get_drop b.books.first (state_at log).drafts (d - b.books.first) ∙ (ap (slice_get (state_at log).drafts) (let e : b.books.first + (d - b.books.first) ≡ d = omega (arith, le) in e) ∙ there) in
-          by_row d x live whole le o is (subst (λ z. ShowsAt (state_at log).retired o z) at (subst (λ z. ShowsAt (state_at log).retired z (slice_get (drop b.books.first (state_at log).drafts) (d - b.books.first))) is (h.agrees.rows (d - b.books.first))))
+      by_row : (d : ℕ) (x : Drafted) → slice_get (state_at log).drafts d ≡ Some x → x.life ≡ Live → (x.stopped ≡ 0) × (x.cleaned ≡ 0) → (o : Option Row) → row_with d b.books.rows.items ≡ o → IsLeft b.books x.tree (left_of d x)
+      by_row d x there live whole None is =
+          let low = slice_get_within (state_at log).drafts d x there in
+          let all = h.agrees.drafts in
+          absurd (let f : false ≡ true = not_closed (state_at log) x live (ap (holds (is_closed (state_at log).retired)) (sym there) ∙ h.agrees.closed d (omega (arith, low, all)) is) in cc)
+      by_row d x there live whole (Some r) is =
+          let p = row_at_with b.books d r is in
+          row_left d p.0 x r live whole p.1 (subst (λ z. ShowsAt (state_at log).retired (Some r) z) there (subst (λ z. ShowsAt (state_at log).retired z (slice_get (state_at log).drafts d)) is (h.agrees.rows d)))

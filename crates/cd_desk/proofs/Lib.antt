@@ -1,5 +1,6 @@
 pub mod Keeping
 pub mod Lists
+pub mod Numbers
 pub mod Parts
 pub mod Standing
 pub mod Ticketing
@@ -20,4 +21,3 @@ pub mod Supersedings
 pub mod Trims
 pub mod Emptied
 pub mod Wholes
-pub mod Clearings

@@ -1,6 +1,6 @@
 -- What a desk stands for after an instance is made, or an app is started.
-use Rattle.std.proofs.Common.{◌≡◌, ℕ, zero, suc, ◌+◌, ◌<◌, true, false, List, [], ◌∷◌, ◌++◌, length, drop, take, map, refl, sym, ap, ◌∙◌, arith, Some, None, Ok, Err, Option, Result, slice_get, subst, eq-eqb, is_some, is_err, reverse, min}
-use Rattle.std.proofs.lemmas.List.{append-nil, length-set}
+use Rattle.std.proofs.Common.{◌≡◌, ℕ, zero, suc, ◌+◌, ◌<◌, true, false, List, [], ◌∷◌, ◌++◌, length, take, map, refl, sym, ap, ◌∙◌, arith, Some, None, Ok, Err, Option, Result, slice_get, subst, eq-eqb, is_some, is_err, reverse, min}
+use Rattle.std.proofs.lemmas.List.{append-nil}
 use Rattle.std.proofs.Math.Seq.{take-append_seam}
 use Rattle.cd_outside.specs.declared.key.Key.{Key}
 use Rattle.cd_outside.specs.declared.fixtures.FixtureCall.{FixtureCall}
@@ -28,14 +28,15 @@ use Rattle.cd_desk.specs.declared.row.Row.{Row}
 use Rattle.cd_desk.specs.declared.books.Books.{Books}
 use Rattle.cd_desk.specs.declared.desk.Desk.{Desk}
 use Rattle.cd_desk.specs.Instances.{Ends, failed_of}
-use Rattle.cd_desk.specs.Rows.{Shows, ShowsAt, line_at}
-use Rattle.cd_desk.specs.Books.{Opens, other}
+use Rattle.cd_desk.specs.Rows.{Shows, ShowsAt, line_at, row_with}
+use Rattle.cd_desk.specs.Books.{HasRowAt, Opens, other}
 use Rattle.cd_desk.specs.Desks.{Agrees}
 use Rattle.cd_desk.specs.Opening.{CanOpenOf, IsReady, opening_entry}
 use Rattle.cd_legal.specs.declared.state.Life.TheVariants.{Live}
 use Rattle.cd_desk.proofs.Wholes.{live_whole}
 use Rattle.cd_desk.proofs.Keeping.{calls_join}
-use Rattle.cd_desk.proofs.Lists.{get_drop, drop_change, same_at}
+use Rattle.cd_desk.proofs.Lists.{same_at}
+use Rattle.cd_desk.proofs.Numbers.{with_at, at_place, number_of, none_before}
 use Rattle.cd_desk.proofs.Standing.{Known, Steps, Shown, shown, rows_after, closed_stays, plain_calls}
 
 slice_get-seam : {A : Type 0} (xs ys : List A) (y : A) → slice_get (xs ++ y ∷ ys) (length xs) ≡ Some y
@@ -134,23 +135,22 @@ entry_begun Instance d i taken failed count = refl
 entry_begun App d i taken failed count = refl
 
 module _ {F : Type 0} (calls : F → Option (List FixtureCall)) where
-  pub opens : (p : Part) (v : Desk F) (fixtures : F) (books : Books) (d place : ℕ) (result : Result (Unit {0}) Key) (can : CanOpenOf p v.books d) → d ≡ v.books.first + place → (o : Opens p place v.books books (calls v.fixtures) (calls fixtures) result)
+  pub opens : (p : Part) (v : Desk F) (fixtures : F) (books : Books) (d place : ℕ) (result : Result (Unit {0}) Key) (can : CanOpenOf p v.books d) → HasRowAt v.books d place → (o : Opens p place v.books books (calls v.fixtures) (calls fixtures) result)
       → Steps calls v (record v { fixtures = fixtures; books = books }) (opening_entry p d (line_at p o.changes.was).opened (length o.opens.takes.0) (failed_of result))
-  opens p v fixtures books d place result can number o opening s told count known a =
+  opens p v fixtures books d place result can at o opening s told count known a =
       let w : Desk F = record v { fixtures = fixtures; books = books } in
-      let first : ℕ = v.books.first in
       let r : Row = o.changes.was in
       let t : Row = o.changes.is in
       let i : ℕ = (line_at p r).opened in
       let failed : Option Key = failed_of result in
       let done : List Key = o.opens.takes.0 in
       let e : Entry = opening_entry p d i (length done) failed in
-      let rest : List Drafted = drop first s.drafts in
-      let here : can.place ≡ place = (let n = can.at.number in omega arith) in
-      let row_is : can.row ≡ r = same_at v.books.rows.items place can.row r (subst (λ z. slice_get v.books.rows.items z ≡ Some can.row) here can.at.there) o.changes.there in
-      let sh : Shown s.retired r (slice_get rest place) = shown s.retired r (slice_get rest place) (subst (λ z. ShowsAt s.retired z (slice_get rest place)) o.changes.there (a.rows place)) in
+      let number : d ≡ r.number = number_of v.books books d place o.changes at in
+      let row_is : can.row ≡ r = same_at v.books.rows.items place can.row r (at_place v.books d can.place place can.row can.at at) o.changes.there in
+      let with_is : row_with d v.books.rows.items ≡ Some r = ap (λ (z : ℕ). row_with z v.books.rows.items) number ∙ with_at 0 v.books.rows.items v.books.next place r v.books.numbers o.changes.there in
+      let sh : Shown s.retired r (slice_get s.drafts d) = shown s.retired r (slice_get s.drafts d) (subst (λ z. ShowsAt s.retired z (slice_get s.drafts d)) with_is (a.rows d)) in
       let x : Drafted = sh.draft in
-      let there : slice_get s.drafts d ≡ Some x = ap (slice_get s.drafts) number ∙ (sym (get_drop first s.drafts place) ∙ sh.is) in
+      let there : slice_get s.drafts d ≡ Some x = sh.is in
       let live : r.life ≡ Live = ap (λ (z : Row). z.life) (sym row_is) ∙ can.live in
       let wait = (line_at p r).wait i o.opens.was o.opens.there (omega arith) in
       let keys : List Key = keys_at (part_keys p x.plan) i in
@@ -170,22 +170,20 @@ module _ {F : Type 0} (calls : F → Option (List FixtureCall)) where
       }) in
       let may : allowed s e ≡ true = entry_may p s d i (length done) failed ∙ (ap (holds (may_open p i (length done) failed s.pairs)) there ∙ passes) in
       let taken : take (length done) (keys_for p i (slice_get s.drafts d)) ≡ done = ap (λ z. take (length done) (keys_for p i z)) there ∙ taken_keys keys done result v.books.pool.held ends in
-      let holder : part_of (line_at p r).part (first + place) i ≡ part_of p d i = ap (λ z. part_of z (first + place) i) (line_part p r) ∙ ap (λ z. part_of p z i) (sym number) in
+      let holder : part_of (line_at p r).part r.number i ≡ part_of p d i = ap (λ z. part_of z r.number i) (line_part p r) ∙ ap (λ z. part_of p z i) (sym number) in
       let its : entry_calls s e ≡ takings s.pairs done ++ failing failed = entry_told p s d i (length done) failed may known ∙ ap (λ z. takings s.pairs z ++ failing failed) taken in
-      let f : Drafted → Drafted = one_opened p failed in
-      let at_place : drop first (change_at f d s.drafts) ≡ change_at f place rest = ap (λ z. drop first (change_at f z s.drafts)) number ∙ drop_change f first s.drafts place in
-      let same_rows : length books.rows.items ≡ length v.books.rows.items = ap length o.changes.rows ∙ length-set v.books.rows.items place t in (
+      let f : Drafted → Drafted = one_opened p failed in (
         may,
         subst (λ z. Agrees calls opening w z (told ++ entry_calls s e) (begins_by count e)) (sym (entry_after p s d i (length done) failed))
             (record {
               serial = a.serial;
               halted = a.halted;
               begun = ap (λ (z : ℕ). min z count_end) (entry_begun p d i (length done) failed count) ∙ a.begun;
-              drafts = length_change f s.drafts d ∙ (a.drafts ∙ (ap (λ (z : ℕ). z + length v.books.rows.items) (sym o.changes.first) ∙ ap (λ (z : ℕ). books.first + z) (sym same_rows)));
-              rows = λ j. subst (λ z. ShowsAt s.retired (slice_get books.rows.items j) (slice_get (drop z (change_at f d s.drafts)) j)) (sym o.changes.first)
-                  (subst (λ z. ShowsAt s.retired (slice_get books.rows.items j) (slice_get z j)) (sym at_place) (subst (λ z. ShowsAt s.retired (slice_get z j) (slice_get (change_at f place rest) j)) (sym o.changes.rows)
-                  (rows_after s.retired v.books.rows.items rest f place r t x o.changes.there sh.is (shows_opened p s.retired r t x result sh.shows o.changes.tree o.changes.plan o.opens.opened o.opens.ended o.others o.failed o.life o.retired) a.rows j)));
-              closed = λ j lt. subst (λ z. is_closed_in z j ≡ true) (entry_after p s d i (length done) failed) (closed_stays s e j may (a.closed j (subst (λ z. j < z) o.changes.first lt)));
+              drafts = length_change f s.drafts d ∙ (a.drafts ∙ sym o.changes.next);
+              rows = λ j. subst (λ z. ShowsAt s.retired (row_with j z) (slice_get (change_at f d s.drafts) j)) (sym o.changes.rows)
+                  (rows_after s.retired v.books.rows.items s.drafts f d v.books.next place r t x v.books.numbers o.changes.there o.changes.number number sh.is (shows_opened p s.retired r t x result sh.shows o.changes.tree o.changes.plan o.opens.opened o.opens.ended o.others o.failed o.life o.retired) a.rows j);
+              closed = λ j lt none. subst (λ z. is_closed_in z j ≡ true) (entry_after p s d i (length done) failed)
+                  (closed_stays s e j may (a.closed j (subst (λ z. j < z) o.changes.next lt) (none_before j 0 v.books.rows.items v.books.next place r t v.books.numbers o.changes.there o.changes.number (subst (λ z. row_with j z ≡ None) o.changes.rows none))));
               retired = a.retired;
               opening_retired = a.opening_retired;
               pairs = ap (λ z. s.pairs ++ pairs_for (part_of p d i) z) taken ∙ (ap (λ z. z ++ pairs_for (part_of p d i) done) a.pairs ∙ (ap (λ z. pairs v.books.pool.held ++ pairs_for z done) (sym holder) ∙ sym o.opens.takes.2.added));

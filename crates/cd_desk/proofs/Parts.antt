@@ -1,5 +1,5 @@
 -- What the books keep while an instance is opened or ended.
-use Rattle.std.proofs.Common.{◌≡◌, ◌≢◌, ℕ, zero, suc, ◌+◌, ◌≤◌, Bool, true, false, List, [], ◌∷◌, ◌++◌, All, refl, sym, ap, ◌∙◌, arith, Some, None, Option, set, slice_get, get_or, ⊎_elim, subst, sum_by, eq-eqb, IfSome}
+use Rattle.std.proofs.Common.{◌≡◌, ◌≢◌, ℕ, zero, suc, ◌+◌, ◌-◌, ◌≤◌, Bool, true, false, List, [], ◌∷◌, ◌++◌, All, refl, sym, ap, ◌∙◌, arith, Some, None, Option, set, slice_get, get_or, ⊎_elim, subst, sum_by, eq-eqb, IfSome}
 use Rattle.std.proofs.lemmas.List.Sums.{sum_by-set, sum_by-cons, sum_by-append}
 use Rattle.std.proofs.lemmas.Option.{slice_get_within, get_or_from_slice_get}
 use Rattle.std.proofs.lemmas.Bool.Decides.{eqb_tells}
@@ -15,9 +15,10 @@ use Rattle.cd_legal.specs.State.{part_of, is_app}
 use Rattle.cd_desk.specs.declared.instance.Instance.{Instance as Held}
 use Rattle.cd_desk.specs.declared.row.Row.{Row}
 use Rattle.cd_desk.specs.Waiting.{Wait, waits, IsEmpty}
-use Rattle.cd_desk.specs.Rows.{line_by, line_at, leases_in, leases_at, place_in, line_waits, row_waits}
+use Rattle.cd_desk.specs.Rows.{Numbered, line_by, line_at, leases_in, leases_at, place_in, line_waits, row_waits, row_with}
 use Rattle.cd_desk.specs.Books.{other}
 use Rattle.cd_desk.proofs.Lists.{get_set_same, get_set_other}
+use Rattle.cd_desk.proofs.Numbers.{with_at, with_set_same, with_set_other, with_push_same, with_push_other}
 
 pub one_of_sum : {A : Type 0} (f : A → ℕ) (xs : List A) (d : ℕ) (x : A) → slice_get xs d ≡ Some x → f x ≤ sum_by f xs
 one_of_sum f [] d x e = cc
@@ -46,18 +47,18 @@ part_free None all = refl
 part_free (Some a) all = all a refl
 
 -- what waits holds nothing
-pub line_free : (p : Part) (rows : List Row) (j : ℕ) (r : Row) (keys : List (List Key)) → slice_get rows j ≡ Some r → Wait (line_at p r).opened (line_at p r).parts.items keys → leases_at (slice_get rows j) (is_app p) (line_at p r).opened ≡ []
-line_free p rows j r keys there w =
-    ap (λ z. leases_at z (is_app p) (line_at p r).opened) there ∙ (ap (λ z. leases_in (slice_get z.parts.items (line_at p r).opened)) (by_at p r) ∙ part_free (slice_get (line_at p r).parts.items (line_at p r).opened) (λ a e. (w (line_at p r).opened a e (omega arith)).1))
+pub line_free : (p : Part) (rows : List Row) (d : ℕ) (r : Row) (keys : List (List Key)) → row_with d rows ≡ Some r → Wait (line_at p r).opened (line_at p r).parts.items keys → leases_at (row_with d rows) (is_app p) (line_at p r).opened ≡ []
+line_free p rows d r keys is w =
+    ap (λ z. leases_at z (is_app p) (line_at p r).opened) is ∙ (ap (λ z. leases_in (slice_get z.parts.items (line_at p r).opened)) (by_at p r) ∙ part_free (slice_get (line_at p r).parts.items (line_at p r).opened) (λ a e. (w (line_at p r).opened a e (omega arith)).1))
 
 part_held : (o : Option Held) (ls : List ℕ) → ls ≡ leases_in o → IfSome o (λ a. a.leases.items ≡ ls)
 part_held None ls e = tt
 part_held (Some a) ls e = sym e
 
 -- what one of a row holds
-pub held_by : (p : Part) (d i : ℕ) (rows : List Row) (j : ℕ) (r : Row) (kind : Part) (held : List Leased) → slice_get rows j ≡ Some r → kind ≡ p → leases_of (place_in d (is_app p) i) held ≡ leases_at (slice_get rows j) (is_app p) i
+pub held_by : (p : Part) (d i : ℕ) (rows : List Row) (r : Row) (kind : Part) (held : List Leased) → row_with d rows ≡ Some r → kind ≡ p → leases_of (place_in d (is_app p) i) held ≡ leases_at (row_with d rows) (is_app p) i
     → IfSome (slice_get (line_at p r).parts.items i) (λ a. a.leases.items ≡ leases_of (part_of kind d i) held)
-held_by p d i rows j r kind held there is kept =
+held_by p d i rows r kind held there is kept =
     part_held (slice_get (line_at p r).parts.items i) (leases_of (part_of kind d i) held)
     (ap (λ (z : Part). leases_of (part_of z d i) held) is ∙ (kept ∙ (ap (λ z. leases_at z (is_app p) i) there ∙ ap (λ z. leases_in (slice_get z.parts.items i)) (by_at p r))))
 
@@ -74,32 +75,36 @@ same_line App true d i k r t is_ parts others ne =
     ap (λ z. leases_in (slice_get z k)) parts ∙ ap leases_in (get_set_other r.apps.parts.items i k is_ differ)
 same_line App false d i k r t is_ parts others ne = ap (λ z. leases_in (slice_get z.parts.items k)) others
 
-module _ (first j i : ℕ) (p : Part) (r t : Row) (was is_ : Held) (old new : List Leased) (part : slice_get (line_at p r).parts.items i ≡ Some was) (parts : (line_at p t).parts.items ≡ set (line_at p r).parts.items i is_) (others : line_at (other p) t ≡ line_at (other p) r)
-    (own : is_.leases.items ≡ leases_of (part_of p (first + j) i) new) (rest_ : (h : Holder) → holder_eq h (part_of p (first + j) i) ≡ false → leases_of h new ≡ leases_of h old) (rows : List Row) (there : slice_get rows j ≡ Some r) where
-  mine : leases_at (slice_get (set rows j t) j) (is_app p) i ≡ leases_of (part_of p (first + j) i) new
-  mine = ap (λ z. leases_at z (is_app p) i) (get_set_same rows j r t there) ∙ (ap (λ z. leases_in (slice_get z.parts.items i)) (by_at p t) ∙ (ap leases_in (ap (λ z. slice_get z i) parts ∙ get_set_same (line_at p r).parts.items i was is_ part) ∙ own))
+module _ (to j i : ℕ) (p : Part) (r t : Row) (was is_ : Held) (old new : List Leased) (part : slice_get (line_at p r).parts.items i ≡ Some was) (parts : (line_at p t).parts.items ≡ set (line_at p r).parts.items i is_) (others : line_at (other p) t ≡ line_at (other p) r) (same : t.number ≡ r.number)
+    (own : is_.leases.items ≡ leases_of (part_of p r.number i) new) (rest_ : (h : Holder) → holder_eq h (part_of p r.number i) ≡ false → leases_of h new ≡ leases_of h old) (rows : List Row) (numbers : Numbered 0 rows to) (there : slice_get rows j ≡ Some r) where
+  now_is : row_with r.number (set rows j t) ≡ Some t
+  now_is = with_set_same 0 rows to j r t numbers there same
 
-  rest : (k n : ℕ) (b : Bool) → holder_eq (place_in (first + k) b n) (part_of p (first + j) i) ≡ false → leases_at (slice_get (set rows j t) k) b n ≡ leases_at (slice_get rows k) b n
-  rest k n b ne = ⊎_elim
-      (λ q. ap (λ z. leases_at (slice_get (set rows j t) z) b n) q.1 ∙ (ap (λ z. leases_at z b n) (get_set_same rows j r t there)
-      ∙ (same_line p b (first + j) i n r t is_ parts others (subst (λ z. holder_eq (place_in (first + z) b n) (part_of p (first + j) i) ≡ false) q.1 ne) ∙ (ap (λ z. leases_at z b n) (sym there) ∙ ap (λ z. leases_at (slice_get rows z) b n) (sym q.1)))))
-      (λ q. ap (λ z. leases_at z b n) (get_set_other rows j k t q.1)) (eqb_tells k j)
+  mine : leases_at (row_with r.number (set rows j t)) (is_app p) i ≡ leases_of (part_of p r.number i) new
+  mine = ap (λ z. leases_at z (is_app p) i) now_is ∙ (ap (λ z. leases_in (slice_get z.parts.items i)) (by_at p t) ∙ (ap leases_in (ap (λ z. slice_get z i) parts ∙ get_set_same (line_at p r).parts.items i was is_ part) ∙ own))
 
-  pick : (k n : ℕ) (b c : Bool) → holder_eq (place_in (first + k) b n) (part_of p (first + j) i) ≡ c → leases_of (place_in (first + k) b n) old ≡ leases_at (slice_get rows k) b n → leases_of (place_in (first + k) b n) new ≡ leases_at (slice_get (set rows j t) k) b n
-  pick k n b true e kept =
-      let same : place_in (first + k) b n ≡ part_of p (first + j) i = holder_eq-true (place_in (first + k) b n) (part_of p (first + j) i) e in
-      let drafts : first + k ≡ first + j = ap (λ z. z.draft) same in
-      let at : k ≡ j = omega arith in
-      let kind : b ≡ is_app p = ap (λ z. z.app) same in
-      let place : n ≡ i = ap (λ z. z.place) same in
-      ap (λ z. leases_of z new) same ∙ (sym mine ∙ (ap (λ z. leases_at (slice_get (set rows j t) z) (is_app p) i) (sym at) ∙ (ap (λ z. leases_at (slice_get (set rows j t) k) z i) (sym kind) ∙ ap (leases_at (slice_get (set rows j t) k) b) (sym place))))
-  pick k n b false e kept = rest_ (place_in (first + k) b n) e ∙ (kept ∙ sym (rest k n b e))
+  rest : (d n : ℕ) (b : Bool) → holder_eq (place_in d b n) (part_of p r.number i) ≡ false → leases_at (row_with d (set rows j t)) b n ≡ leases_at (row_with d rows) b n
+  rest d n b ne = ⊎_elim
+      (λ q. ap (λ z. leases_at (row_with z (set rows j t)) b n) q.1 ∙ (ap (λ z. leases_at z b n) now_is
+      ∙ (same_line p b r.number i n r t is_ parts others (subst (λ z. holder_eq (place_in z b n) (part_of p r.number i) ≡ false) q.1 ne) ∙ (ap (λ z. leases_at z b n) (sym (with_at 0 rows to j r numbers there)) ∙ ap (λ z. leases_at (row_with z rows) b n) (sym q.1)))))
+      (λ q. ap (λ z. leases_at z b n) (with_set_other d rows j r t there same q.1)) (eqb_tells d r.number)
 
-  pub part_leases : ((k n : ℕ) (b : Bool) → leases_of (place_in (first + k) b n) old ≡ leases_at (slice_get rows k) b n) → (k n : ℕ) (b : Bool) → leases_of (place_in (first + k) b n) new ≡ leases_at (slice_get (set rows j t) k) b n
-  part_leases kept k n b = pick k n b (holder_eq (place_in (first + k) b n) (part_of p (first + j) i)) refl (kept k n b)
+  pick : (d n : ℕ) (b c : Bool) → holder_eq (place_in d b n) (part_of p r.number i) ≡ c → leases_of (place_in d b n) old ≡ leases_at (row_with d rows) b n → leases_of (place_in d b n) new ≡ leases_at (row_with d (set rows j t)) b n
+  pick d n b true e kept =
+      let its : place_in d b n ≡ part_of p r.number i = holder_eq-true (place_in d b n) (part_of p r.number i) e in
+      let draft : d ≡ r.number = ap (λ z. z.draft) its in
+      let kind : b ≡ is_app p = ap (λ z. z.app) its in
+      let place : n ≡ i = ap (λ z. z.place) its in
+      ap (λ z. leases_of z new) its ∙ (sym mine ∙ (ap (λ z. leases_at (row_with z (set rows j t)) (is_app p) i) (sym draft) ∙ (ap (λ z. leases_at (row_with d (set rows j t)) z i) (sym kind) ∙ ap (leases_at (row_with d (set rows j t)) b) (sym place))))
+  pick d n b false e kept = rest_ (place_in d b n) e ∙ (kept ∙ sym (rest d n b e))
 
-  pub part_room_kept : (now spare : ℕ) → spare + waits is_ ≤ now + waits was → sum_by row_waits rows ≤ spare → sum_by row_waits (set rows j t) ≤ now
-  part_room_kept now spare gone room =
+  pub part_leases : ((d n : ℕ) (b : Bool) → leases_of (place_in d b n) old ≡ leases_at (row_with d rows) b n) → (d n : ℕ) (b : Bool) → leases_of (place_in d b n) new ≡ leases_at (row_with d (set rows j t)) b n
+  part_leases kept d n b = pick d n b (holder_eq (place_in d b n) (part_of p r.number i)) refl (kept d n b)
+
+-- what is still to be taken in all
+module _ (j i : ℕ) (p : Part) (r t : Row) (was is_ : Held) (part : slice_get (line_at p r).parts.items i ≡ Some was) (parts : (line_at p t).parts.items ≡ set (line_at p r).parts.items i is_) (others : line_at (other p) t ≡ line_at (other p) r) (rows : List Row) (there : slice_get rows j ≡ Some r) where
+  pub part_sum : sum_by row_waits (set rows j t) + waits was ≡ sum_by row_waits rows + waits is_
+  part_sum =
       let whole = sum_by-set row_waits rows j t r (slice_get_within rows j r there) in
       let both = sum_by-set waits (line_at p r).parts.items i is_ was (slice_get_within (line_at p r).parts.items i was part) in
       let at : get_or rows j r ≡ r = get_or_from_slice_get rows j r r there in
@@ -108,21 +113,35 @@ module _ (first j i : ℕ) (p : Part) (r t : Row) (was is_ : Held) (old new : Li
       let same_others : line_waits (line_at (other p) t) ≡ line_waits (line_at (other p) r) = ap line_waits others in
       let whole2 : sum_by row_waits (set rows j t) + row_waits r ≡ sum_by row_waits rows + row_waits t = subst (λ z. sum_by row_waits (set rows j t) + row_waits z ≡ sum_by row_waits rows + row_waits t) at whole in
       let both2 : sum_by waits (set (line_at p r).parts.items i is_) + waits was ≡ line_waits (line_at p r) + waits is_ = subst (λ z. sum_by waits (set (line_at p r).parts.items i is_) + waits z ≡ sum_by waits (line_at p r).parts.items + waits is_) in_part both in
-      fits (sum_by row_waits (set rows j t)) (sum_by row_waits rows) (row_waits r) (row_waits t) (line_waits (line_at p t)) (line_waits (line_at (other p) t)) (line_waits (line_at p r)) (line_waits (line_at (other p) r)) (sum_by waits (set (line_at p r).parts.items i is_)) (waits was) (waits is_) now spare whole2 both2 same same_others (split_waits p r) (split_waits p t) gone room
+      fits (sum_by row_waits (set rows j t)) (sum_by row_waits rows) (row_waits r) (row_waits t) (line_waits (line_at p t)) (line_waits (line_at (other p) t)) (line_waits (line_at p r)) (line_waits (line_at (other p) r)) (sum_by waits (set (line_at p r).parts.items i is_)) (waits was) (waits is_) whole2 both2 same same_others (split_waits p r) (split_waits p t)
     where
-      fits : (w' w rr rt tm ta rm ra s a b nf of : ℕ) → w' + rr ≡ w + rt → s + a ≡ rm + b → tm ≡ s → ta ≡ ra → rr ≡ rm + ra → rt ≡ tm + ta → of + b ≤ nf + a → w ≤ of → w' ≤ nf
-      fits w' w rr rt tm ta rm ra s a b nf of e1 e2 e3 e4 e5 e6 e7 le = omega arith
+      fits : (w' w rr rt tm ta rm ra s a b : ℕ) → w' + rr ≡ w + rt → s + a ≡ rm + b → tm ≡ s → ta ≡ ra → rr ≡ rm + ra → rt ≡ tm + ta → w' + a ≡ w + b
+      fits w' w rr rt tm ta rm ra s a b e1 e2 e3 e4 e5 e6 = omega arith
+
+  -- where it takes its keys, or is ended
+  pub sum_less : (w n : ℕ) → n ≡ waits was → waits is_ ≡ 0 → w ≡ sum_by row_waits rows → w - n ≡ sum_by row_waits (set rows j t)
+  sum_less w n taken none sum = let all = part_sum in omega (arith, all, taken, none, sum)
+
+  pub sum_kept : (w : ℕ) → waits is_ ≡ waits was → w ≡ sum_by row_waits rows → w ≡ sum_by row_waits (set rows j t)
+  sum_kept w same sum = let all = part_sum in omega (arith, all, same, sum)
+
+pub taken_is : (parts : List Held) (i : ℕ) (a : Held) (n : ℕ) → slice_get parts i ≡ Some a → IfSome (slice_get parts i) (λ b. n ≡ waits b) → n ≡ waits a
+taken_is parts i a n there is = subst (λ z. IfSome z (λ b. n ≡ waits b)) there is
+
+-- one takes no more than all are to take
+pub one_waits_of : (rows : List Row) (p : Part) (j : ℕ) (r : Row) (i : ℕ) (a : Held) → slice_get rows j ≡ Some r → slice_get (line_at p r).parts.items i ≡ Some a → waits a ≤ sum_by row_waits rows
+one_waits_of rows p j r i a there part = let one = one_of_sum waits (line_at p r).parts.items i a part in let all = one_of_sum row_waits rows j r there in let whole = split_waits p r in omega arith
 
 -- ---- a row that keeps its instances
-module _ (j : ℕ) (r t : Row) (modules : t.modules ≡ r.modules) (apps : t.apps ≡ r.apps) (rows : List Row) (there : slice_get rows j ≡ Some r) where
+module _ (to j : ℕ) (r t : Row) (modules : t.modules ≡ r.modules) (apps : t.apps ≡ r.apps) (same : t.number ≡ r.number) (rows : List Row) (numbers : Numbered 0 rows to) (there : slice_get rows j ≡ Some r) where
   by_same : (b : Bool) (n : ℕ) → leases_at (Some t) b n ≡ leases_at (Some r) b n
   by_same true n = ap (λ z. leases_in (slice_get z.parts.items n)) apps
   by_same false n = ap (λ z. leases_in (slice_get z.parts.items n)) modules
 
-  pub row_leases : (k n : ℕ) (b : Bool) → leases_at (slice_get (set rows j t) k) b n ≡ leases_at (slice_get rows k) b n
-  row_leases k n b = ⊎_elim
-      (λ q. ap (λ z. leases_at (slice_get (set rows j t) z) b n) q.1 ∙ (ap (λ z. leases_at z b n) (get_set_same rows j r t there) ∙ (by_same b n ∙ (ap (λ z. leases_at z b n) (sym there) ∙ ap (λ z. leases_at (slice_get rows z) b n) (sym q.1)))))
-      (λ q. ap (λ z. leases_at z b n) (get_set_other rows j k t q.1)) (eqb_tells k j)
+  pub row_leases : (d n : ℕ) (b : Bool) → leases_at (row_with d (set rows j t)) b n ≡ leases_at (row_with d rows) b n
+  row_leases d n b = ⊎_elim
+      (λ q. ap (λ z. leases_at (row_with z (set rows j t)) b n) q.1 ∙ (ap (λ z. leases_at z b n) (with_set_same 0 rows to j r t numbers there same) ∙ (by_same b n ∙ (ap (λ z. leases_at z b n) (sym (with_at 0 rows to j r numbers there)) ∙ ap (λ z. leases_at (row_with z rows) b n) (sym q.1)))))
+      (λ q. ap (λ z. leases_at z b n) (with_set_other d rows j r t there same q.1)) (eqb_tells d r.number)
 
   pub row_room : sum_by row_waits (set rows j t) ≡ sum_by row_waits rows
   row_room =
@@ -143,11 +162,10 @@ no_leases_by : (b : Bool) (r : Row) (i : ℕ) → All IsEmpty r.modules.parts.it
 no_leases_by true r i m a = no_leases r.apps.parts.items i a
 no_leases_by false r i m a = no_leases r.modules.parts.items i m
 
-pub added_leases : (rows : List Row) (r : Row) → All IsEmpty r.modules.parts.items → All IsEmpty r.apps.parts.items → (k n : ℕ) (b : Bool) → leases_at (slice_get (rows ++ r ∷ []) k) b n ≡ leases_at (slice_get rows k) b n
-added_leases [] r m a zero n b = no_leases_by b r n m a
-added_leases [] r m a (suc k) n b = refl
-added_leases (x ∷ rows) r m a zero n b = refl
-added_leases (x ∷ rows) r m a (suc k) n b = added_leases rows r m a k n b
+pub added_leases : (rows : List Row) (r : Row) → row_with r.number rows ≡ None → All IsEmpty r.modules.parts.items → All IsEmpty r.apps.parts.items → (d n : ℕ) (b : Bool) → leases_at (row_with d (rows ++ r ∷ [])) b n ≡ leases_at (row_with d rows) b n
+added_leases rows r none m a d n b = ⊎_elim
+    (λ q. ap (λ z. leases_at (row_with z (rows ++ r ∷ [])) b n) q.1 ∙ (ap (λ z. leases_at z b n) (with_push_same rows r none) ∙ (no_leases_by b r n m a ∙ (ap (λ z. leases_at z b n) (sym none) ∙ ap (λ z. leases_at (row_with z rows) b n) (sym q.1)))))
+    (λ q. ap (λ z. leases_at z b n) (with_push_other d rows r q.1)) (eqb_tells d r.number)
 
-pub added_room : (rows : List Row) (r : Row) (f : ℕ) → sum_by row_waits rows + row_waits r ≤ f → sum_by row_waits (rows ++ r ∷ []) ≤ f
-added_room rows r f le = let all = sum_by-append row_waits rows (r ∷ []) in let one = sum_by-cons row_waits r [] in omega arith
+pub added_sum : (rows : List Row) (r : Row) → sum_by row_waits (rows ++ r ∷ []) ≡ sum_by row_waits rows + row_waits r
+added_sum rows r = let all = sum_by-append row_waits rows (r ∷ []) in let one = sum_by-cons row_waits r [] in omega arith

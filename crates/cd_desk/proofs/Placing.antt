@@ -1,6 +1,7 @@
 -- The row of a serial, and the draft that was published with it.
-use Rattle.std.proofs.Common.{◌≡◌, ℕ, zero, suc, ◌+◌, ◌-◌, ◌<◌, ◌≤◌, ◌==◌, Bool, true, false, cond, List, [], ◌∷◌, length, drop, refl, sym, ap, ◌∙◌, arith, subst, Some, None, Option, slice_get, ⊎_elim, ◌⊎◌, inl, inr}
+use Rattle.std.proofs.Common.{◌≡◌, ℕ, zero, suc, ◌<◌, ◌≤◌, ◌==◌, Bool, true, false, cond, List, [], ◌∷◌, length, drop, refl, sym, ap, ◌∙◌, arith, subst, Some, None, Option, slice_get}
 use Rattle.std.proofs.lemmas.Bool.{eqb-true}
+use Rattle.std.proofs.lemmas.Option.{slice_get_within}
 use Rattle.cd_outside.specs.declared.fixtures.FixtureCall.{FixtureCall}
 use Rattle.cd_legal.specs.declared.state.State.{State}
 use Rattle.cd_legal.specs.declared.state.Drafted.{Drafted}
@@ -14,10 +15,11 @@ use Rattle.cd_legal.proofs.Facts.{There, there}
 use Rattle.cd_legal.proofs.Histories.{first}
 use Rattle.cd_desk.specs.declared.row.Row.{Row}
 use Rattle.cd_desk.specs.declared.desk.Desk.{Desk}
-use Rattle.cd_desk.specs.Rows.{Shows, ShowsAt, is_retired}
+use Rattle.cd_desk.specs.Rows.{Shows, ShowsAt, is_retired, row_with}
 use Rattle.cd_desk.specs.Desks.{Agrees}
 use Rattle.cd_desk.specs.Serials.{row_of}
-use Rattle.cd_desk.proofs.Lists.{get_drop, some_is, some_none}
+use Rattle.cd_desk.proofs.Lists.{some_is, some_none}
+use Rattle.cd_desk.proofs.Numbers.{at_with, with_at}
 use Rattle.cd_desk.proofs.Standing.{Shown, shown}
 
 -- it was published with the serial
@@ -59,11 +61,6 @@ pub record RowDraft (s : State) (n d : ℕ) (r : Row) : Type 0 where
   pub life : draft.life ≡ Published n
   pub serial : draft_of n s.published ≡ Some d
 
-pub split_at : (d first : ℕ) → (d < first) ⊎ (first ≤ d)
-split_at d zero = inr (omega arith)
-split_at zero (suc f) = inl (omega arith)
-split_at (suc d) (suc f) = ⊎_elim (λ q. inl (omega (arith, q))) (λ q. inr (omega (arith, q))) (split_at d f)
-
 get_there : {A : Type 0} (xs : List A) (n : ℕ) → n < length xs → (d : A) × (slice_get xs n ≡ Some d)
 get_there [] n lt = absurd (omega arith)
 get_there (x ∷ xs) zero lt = (x, refl)
@@ -74,13 +71,13 @@ bit true = omega arith
 bit false = omega arith
 
 module _ {F : Type 0} (calls : F → Option (List FixtureCall)) (opening b : Desk F) (s : State) (told : List FixtureCall) (count : ℕ) (agree : Agree s) (a : Agrees calls opening b s told count) where
-  -- the draft at a place of the rows
-  pub draft_at : (place : ℕ) (r : Row) → slice_get b.books.rows.items place ≡ Some r → Shown s.retired r (slice_get s.drafts (b.books.first + place))
+  -- the draft of a row
+  pub draft_at : (place : ℕ) (r : Row) → slice_get b.books.rows.items place ≡ Some r → Shown s.retired r (slice_get s.drafts r.number)
   draft_at place r there =
-      let sh : Shown s.retired r (slice_get (drop b.books.first s.drafts) place) = shown s.retired r (slice_get (drop b.books.first s.drafts) place) (subst (λ z. ShowsAt s.retired z (slice_get (drop b.books.first s.drafts) place)) there (a.rows place)) in
-      record { draft = sh.draft; is = sym (get_drop b.books.first s.drafts place) ∙ sh.is; shows = sh.shows }
+      let is : row_with r.number b.books.rows.items ≡ Some r = with_at 0 b.books.rows.items b.books.next place r b.books.numbers there in
+      shown s.retired r (slice_get s.drafts r.number) (subst (λ z. ShowsAt s.retired z (slice_get s.drafts r.number)) is (a.rows r.number))
 
-  pub found : (n place : ℕ) (r : Row) → slice_get b.books.rows.items place ≡ Some r → has_serial n r.life ≡ true → RowDraft s n (b.books.first + place) r
+  pub found : (n place : ℕ) (r : Row) → slice_get b.books.rows.items place ≡ Some r → has_serial n r.life ≡ true → RowDraft s n r.number r
   found n place r there has =
       let sh = draft_at place r there in
       let life : sh.draft.life ≡ Published n = sh.shows.life ∙ serial_life n r.life has in
@@ -89,23 +86,25 @@ module _ {F : Type 0} (calls : F → Option (List FixtureCall)) (opening b : Des
         there = sh.is;
         shows = sh.shows;
         life = life;
-        serial = agree.published n (b.books.first + place) (ap (holds (λ x. has_serial n x.life)) sh.is ∙ (ap (has_serial n) sh.shows.life ∙ has));
+        serial = agree.published n r.number (ap (holds (λ x. has_serial n x.life)) sh.is ∙ (ap (has_serial n) sh.shows.life ∙ has));
       }
 
-  -- a published draft without a row is closed
-  pub gone : (n d : ℕ) → row_of n b.books.rows.items ≡ None → draft_of n s.published ≡ Some d → is_closed_in s d ≡ true
-  gone n d none serial =
-      let t : There (λ x. has_serial n x.life) s.drafts d = there (λ x. has_serial n x.life) s.drafts d (agree.lives n d serial) in
-      ⊎_elim (λ q. a.closed d q) (λ q. absurd (let f : false ≡ true = with_row t q (slice_get b.books.rows.items (d - b.books.first)) refl in cc)) (split_at d b.books.first)
-    where
-      here : (t : There (λ x. has_serial n x.life) s.drafts d) → b.books.first ≤ d → slice_get (drop b.books.first s.drafts) (d - b.books.first) ≡ Some t.draft
-      here t le = get_drop b.books.first s.drafts (d - b.books.first) ∙ (ap (slice_get s.drafts) (let e : b.books.first + (d - b.books.first) ≡ d = omega (arith, le) in e) ∙ t.is)
+  within : (d : ℕ) (x : Drafted) → slice_get s.drafts d ≡ Some x → d < b.books.next
+  within d x is = let all = a.drafts in let low = slice_get_within s.drafts d x is in omega (arith, all, low)
 
-      with_row : (t : There (λ x. has_serial n x.life) s.drafts d) → b.books.first ≤ d → (o : Option Row) → slice_get b.books.rows.items (d - b.books.first) ≡ o → false ≡ true
-      with_row t le None is = absurd (subst (λ z. ShowsAt s.retired None z) (here t le) (subst (λ z. ShowsAt s.retired z (slice_get (drop b.books.first s.drafts) (d - b.books.first))) is (a.rows (d - b.books.first))))
-      with_row t le (Some r) is =
-          let sh : Shows s.retired r t.draft = subst (λ z. ShowsAt s.retired (Some r) z) (here t le) (subst (λ z. ShowsAt s.retired z (slice_get (drop b.books.first s.drafts) (d - b.books.first))) is (a.rows (d - b.books.first))) in
-          sym (row_of-none n b.books.rows.items (d - b.books.first) r none is) ∙ (ap (has_serial n) (sym sh.life) ∙ t.passes)
+  -- a published draft without a row of its serial is closed
+  pub gone : (n d : ℕ) → row_of n b.books.rows.items ≡ None → draft_of n s.published ≡ Some d → is_closed_in s d ≡ true
+  gone n d none serial = at (row_with d b.books.rows.items) refl
+    where
+      t : There (λ x. has_serial n x.life) s.drafts d
+      t = there (λ x. has_serial n x.life) s.drafts d (agree.lives n d serial)
+
+      at : (o : Option Row) → row_with d b.books.rows.items ≡ o → is_closed_in s d ≡ true
+      at None is = a.closed d (within d t.draft t.is) is
+      at (Some r) is =
+          let p = at_with d b.books.rows.items r is in
+          let sh : Shows s.retired r t.draft = subst (λ z. ShowsAt s.retired (Some r) z) t.is (subst (λ z. ShowsAt s.retired z (slice_get s.drafts d)) is (a.rows d)) in
+          absurd (let f : false ≡ true = sym (row_of-none n b.books.rows.items p.0 r none p.1) ∙ (ap (has_serial n) (sym sh.life) ∙ t.passes) in cc)
 
   -- ---- whether a serial is retired
 

@@ -1,6 +1,5 @@
 -- What a desk stands for after a serial is retired, or the host is halted.
-use Rattle.std.proofs.Common.{◌≡◌, ◌≢◌, ℕ, zero, suc, ◌+◌, ◌<◌, ◌==◌, ◌&&◌, ◌||◌, Bool, true, false, cond, List, [], ◌∷◌, ◌++◌, length, drop, refl, sym, ap, ◌∙◌, arith, Some, None, Option, set, slice_get, subst, ⊎_elim, ◌⊎◌, inl, inr, eq-eqb, ne_eqb}
-use Rattle.std.proofs.lemmas.List.{length-set}
+use Rattle.std.proofs.Common.{◌≡◌, ◌≢◌, ℕ, zero, suc, ◌+◌, ◌<◌, ◌==◌, ◌&&◌, ◌||◌, Bool, true, false, cond, List, [], ◌∷◌, ◌++◌, length, refl, sym, ap, ◌∙◌, arith, Some, None, Option, set, slice_get, subst, ⊎_elim, ◌⊎◌, inl, inr, eq-eqb, ne_eqb}
 use Rattle.std.proofs.lemmas.Bool.{eqb-true}
 use Rattle.std.proofs.lemmas.Bool.Decides.{eqb_tells}
 use Rattle.cd_outside.specs.declared.fixtures.FixtureCall.{FixtureCall}
@@ -24,12 +23,13 @@ use Rattle.cd_legal.proofs.Serials.{Agree, count_running}
 use Rattle.cd_desk.specs.declared.row.Row.{Row}
 use Rattle.cd_desk.specs.declared.books.Books.{Books}
 use Rattle.cd_desk.specs.declared.desk.Desk.{Desk}
-use Rattle.cd_desk.specs.Rows.{Shows, ShowsAt, is_retired}
+use Rattle.cd_desk.specs.Rows.{Shows, ShowsAt, is_retired, row_with}
 use Rattle.cd_desk.specs.Books.{Retires}
 use Rattle.cd_desk.specs.Serials.{row_of}
 use Rattle.cd_desk.specs.Desks.{Agrees, told_at}
 use Rattle.cd_desk.specs.Closings.{is_stopped_row, IsStopped, IsStoppedAt, CanRetire}
-use Rattle.cd_desk.proofs.Lists.{get_set_same, get_set_other, get_drop, some_is, some_none, same_at}
+use Rattle.cd_desk.proofs.Lists.{some_is, some_none, same_at}
+use Rattle.cd_desk.proofs.Numbers.{same_place, with_set_same, with_set_other, none_before}
 use Rattle.cd_desk.proofs.Placing.{RowDraft, found, gone, serial_life, row_of-has, row_of-none, retired_none, retired_row}
 use Rattle.cd_desk.proofs.Shuttings.{last_at, with_calls}
 use Rattle.cd_desk.proofs.Standing.{Steps, closed_stays, plain_calls}
@@ -59,7 +59,7 @@ module _ {F : Type 0} (calls : F → Option (List FixtureCall)) (opening b : Des
       at (Some d) is = ap (of_draft all_stopped s.drafts) is ∙ closed_stopped (slice_get s.drafts d) (gone calls opening b s told count agree a n d none is)
   row_stopped n (Some r) is =
       let p = row_of-at n b.books.rows.items r is in
-      let x : RowDraft s n (b.books.first + p.0) r = found calls opening b s told count agree a n p.0 r p.1 (row_of-has n b.books.rows.items r is) in
+      let x : RowDraft s n r.number r = found calls opening b s told count agree a n p.0 r p.1 (row_of-has n b.books.rows.items r is) in
       ap (of_draft all_stopped s.drafts) x.serial ∙ (ap (holds_if_there all_stopped) x.there ∙ (ap (λ (z : ℕ). z == x.draft.started) x.shows.stopped ∙ ap (λ (z : ℕ). r.apps.ended == z) x.shows.started))
 
 module _ {F : Type 0} (calls : F → Option (List FixtureCall)) where
@@ -121,7 +121,7 @@ shows_other ms n r x e sh = record { tree = sh.tree; plan = sh.plan; made = sh.m
 
 shows_all : (ms : List ℕ) (n : ℕ) (o : Option Row) (p : Option Drafted) → holds (λ x. has_serial n x.life) p ≡ false → ShowsAt ms o p → ShowsAt (ms ++ n ∷ []) o p
 shows_all ms n None None e sh = tt
-shows_all ms n None (Some x) e sh = sh
+shows_all ms n None (Some x) e sh = tt
 shows_all ms n (Some r) None e sh = sh
 shows_all ms n (Some r) (Some x) e sh = shows_other ms n r x e sh
 
@@ -143,8 +143,8 @@ module _ {F : Type 0} (calls : F → Option (List FixtureCall)) where
           halted = a.halted;
           begun = a.begun;
           drafts = a.drafts;
-          rows = λ j. shows_all s.retired 0 (slice_get v.books.rows.items j) (slice_get (drop v.books.first s.drafts) j) (ap (holds (λ x. has_serial 0 x.life)) (get_drop v.books.first s.drafts j) ∙ none (v.books.first + j)) (a.rows j);
-          closed = λ j lt. closed_stays s (Retire 0) j may (a.closed j lt);
+          rows = λ j. shows_all s.retired 0 (row_with j v.books.rows.items) (slice_get s.drafts j) (none j) (a.rows j);
+          closed = λ j lt unknown. closed_stays s (Retire 0) j may (a.closed j lt unknown);
           retired = λ k has. ⊎_elim (λ q. a.retired k q) (λ q. omega (arith, q, serial, below)) (has_push k s.retired 0 has);
           opening_retired = has_last 0 s.retired;
           pairs = a.pairs;
@@ -161,20 +161,17 @@ module _ {F : Type 0} (calls : F → Option (List FixtureCall)) where
   retires v books n place m some below has can free opening s told count known a =
       let r : Row = m.changes.was in
       let t : Row = m.changes.is in
-      let first : ℕ = v.books.first in
-      let rest : List Drafted = drop first s.drafts in
       let agree : Agree s = known.steady.agrees in
       let serial : s.serial ≡ v.serial = a.serial in
-      let x : RowDraft s n (first + place) r = found calls opening v s told count agree a n place r m.changes.there has in
-      let y : RowDraft s n (first + can.place) can.row = found calls opening v s told count agree a n can.place can.row can.there (ap (has_serial n) can.life ∙ eq-eqb n n refl) in
-      let drafts : first + can.place ≡ first + place = some_is (first + can.place) (first + place) (sym y.serial ∙ x.serial) in
-      let here : can.place ≡ place = omega (arith, drafts) in
+      let x : RowDraft s n r.number r = found calls opening v s told count agree a n place r m.changes.there has in
+      let y : RowDraft s n can.row.number can.row = found calls opening v s told count agree a n can.place can.row can.there (ap (has_serial n) can.life ∙ eq-eqb n n refl) in
+      let drafts : can.row.number ≡ r.number = some_is can.row.number r.number (sym y.serial ∙ x.serial) in
+      let here : can.place ≡ place = same_place 0 v.books.rows.items v.books.next can.place place can.row r v.books.numbers can.there m.changes.there drafts in
       let row_is : can.row ≡ r = same_at v.books.rows.items place can.row r (subst (λ (z : ℕ). slice_get v.books.rows.items z ≡ Some can.row) here can.there) m.changes.there in
       let facts : (r.retired ≡ false) × (r.apps.ended ≡ r.apps.opened) = subst (λ (z : Row). (z.retired ≡ false) × (z.apps.ended ≡ z.apps.opened)) row_is (can.unretired, can.stopped) in
       let unretired : has_number n s.retired ≡ false = ap (is_retired s.retired) (sym x.life) ∙ (x.shows.over ∙ facts.0) in
       let stopped : apps_stopped s n ≡ true = ap (of_draft all_stopped s.drafts) x.serial ∙ (ap (holds_if_there all_stopped) x.there ∙ eq-eqb x.draft.stopped x.draft.started (x.shows.stopped ∙ (facts.1 ∙ sym x.shows.started))) in
       let may : allowed s (Retire n) ≡ true = allowed-by s (Retire n) (record { superseded = omega (arith, serial, below); unretired = unretired; stopped = stopped; unticketed = is_ticketed-none n s.tickets (a.at_serial n ∙ free) }) in
-      let same_rows : length books.rows.items ≡ length v.books.rows.items = ap length m.changes.rows ∙ length-set v.books.rows.items place t in
       let now : Shows (s.retired ++ n ∷ []) t x.draft = record {
         tree = x.shows.tree ∙ ap (λ z. z.value) (sym m.changes.tree);
         plan = x.shows.plan ∙ ap (λ z. z.value) (sym m.changes.plan);
@@ -186,23 +183,22 @@ module _ {F : Type 0} (calls : F → Option (List FixtureCall)) where
         cleaned = x.shows.cleaned ∙ ap (λ z. z.ended) (sym m.modules);
         over = ap (is_retired (s.retired ++ n ∷ [])) x.life ∙ (has_last n s.retired ∙ sym m.retired);
       } in
-      let at_place : slice_get rest place ≡ Some x.draft = get_drop first s.drafts place ∙ x.there in
-      let none : (j : ℕ) → j ≢ place → holds (λ y. has_serial n y.life) (slice_get rest j) ≡ false =
-      λ j ne. decide (holds (λ y. has_serial n y.life) (slice_get rest j)) (λ its. ne (let e : first + j ≡ first + place = some_is (first + j) (first + place) (sym (agree.published n (first + j) (ap (holds (λ y. has_serial n y.life)) (sym (get_drop first s.drafts j)) ∙ its)) ∙ x.serial) in omega (arith, e))) in (
+      let none : (j : ℕ) → j ≢ r.number → holds (λ y. has_serial n y.life) (slice_get s.drafts j) ≡ false =
+      λ j ne. decide (holds (λ y. has_serial n y.life) (slice_get s.drafts j)) (λ its. ne (some_is j r.number (sym (agree.published n j its) ∙ x.serial))) in (
         may,
         record {
           serial = a.serial;
           halted = a.halted;
           begun = a.begun;
-          drafts = a.drafts ∙ (ap (λ (z : ℕ). z + length v.books.rows.items) (sym m.changes.first) ∙ ap (λ (z : ℕ). books.first + z) (sym same_rows));
-          rows = λ j. subst (λ z. ShowsAt (s.retired ++ n ∷ []) (slice_get books.rows.items j) (slice_get (drop z s.drafts) j)) (sym m.changes.first)
-              (subst (λ z. ShowsAt (s.retired ++ n ∷ []) (slice_get z j) (slice_get rest j)) (sym m.changes.rows)
+          drafts = a.drafts ∙ sym m.changes.next;
+          rows = λ j. subst (λ z. ShowsAt (s.retired ++ n ∷ []) (row_with j z) (slice_get s.drafts j)) (sym m.changes.rows)
               (⊎_elim
-              (λ q. subst (λ z. ShowsAt (s.retired ++ n ∷ []) (slice_get (set v.books.rows.items place t) z) (slice_get rest z)) (sym q.1)
-              (subst (λ z. ShowsAt (s.retired ++ n ∷ []) z (slice_get rest place)) (sym (get_set_same v.books.rows.items place r t m.changes.there)) (subst (λ z. ShowsAt (s.retired ++ n ∷ []) (Some t) z) (sym at_place) now)))
-              (λ q. subst (λ z. ShowsAt (s.retired ++ n ∷ []) z (slice_get rest j)) (sym (get_set_other v.books.rows.items place j t q.1)) (shows_all s.retired n (slice_get v.books.rows.items j) (slice_get rest j) (none j q.1) (a.rows j)))
-              (eqb_tells j place)));
-          closed = λ j lt. closed_stays s (Retire n) j may (a.closed j (subst (λ z. j < z) m.changes.first lt));
+              (λ q. subst (λ z. ShowsAt (s.retired ++ n ∷ []) (row_with z (set v.books.rows.items place t)) (slice_get s.drafts z)) (sym q.1)
+              (subst (λ z. ShowsAt (s.retired ++ n ∷ []) z (slice_get s.drafts r.number)) (sym (with_set_same 0 v.books.rows.items v.books.next place r t v.books.numbers m.changes.there m.changes.number)) (subst (λ z. ShowsAt (s.retired ++ n ∷ []) (Some t) z) (sym x.there) now)))
+              (λ q. subst (λ z. ShowsAt (s.retired ++ n ∷ []) z (slice_get s.drafts j)) (sym (with_set_other j v.books.rows.items place r t m.changes.there m.changes.number q.1)) (shows_all s.retired n (row_with j v.books.rows.items) (slice_get s.drafts j) (none j q.1) (a.rows j)))
+              (eqb_tells j r.number));
+          closed = λ j lt unknown. closed_stays s (Retire n) j may
+              (a.closed j (subst (λ z. j < z) m.changes.next lt) (none_before j 0 v.books.rows.items v.books.next place r t v.books.numbers m.changes.there m.changes.number (subst (λ z. row_with j z ≡ None) m.changes.rows unknown)));
           retired = λ k had. ⊎_elim (λ q. a.retired k q) (λ q. omega (arith, q, serial, below)) (has_push k s.retired n had);
           opening_retired = has_other 0 n s.retired (λ (e : 0 ≡ n). omega (arith, e, some)) ∙ a.opening_retired;
           pairs = a.pairs ∙ ap (λ z. pairs z.held) (sym m.pool);

@@ -1,5 +1,5 @@
 -- What a desk stands for after one entry more.
-use Rattle.std.proofs.Common.{◌≡◌, ℕ, zero, suc, ◌+◌, ◌≤◌, ◌==◌, Bool, true, false, ◌||◌, List, [], ◌∷◌, ◌++◌, refl, sym, ap, ◌∙◌, arith, Some, None, Option, set, slice_get, ⊎_elim, subst, IsTrue, option_map}
+use Rattle.std.proofs.Common.{◌≡◌, ℕ, zero, suc, ◌+◌, ◌≤◌, ◌==◌, Bool, true, false, ◌||◌, List, [], ◌∷◌, ◌++◌, length, refl, sym, ap, ◌∙◌, arith, Some, None, Option, set, slice_get, ⊎_elim, subst, IsTrue, option_map}
 use Rattle.std.proofs.lemmas.List.{append-nil}
 use Rattle.std.proofs.lemmas.Bool.{eqb-true}
 use Rattle.std.proofs.lemmas.Bool.Decides.{eqb_tells}
@@ -27,9 +27,10 @@ use Rattle.cd_legal.proofs.Places.{holds_kept, holds_push}
 use Rattle.cd_legal.proofs.Shutting.{shut_kept, may_shut}
 use Rattle.cd_desk.specs.declared.desk.Desk.{Desk}
 use Rattle.cd_desk.specs.declared.row.Row.{Row}
-use Rattle.cd_desk.specs.Rows.{Shows, ShowsAt}
+use Rattle.cd_desk.specs.Rows.{Numbered, Shows, ShowsAt, row_with}
 use Rattle.cd_desk.specs.Desks.{Agrees, AddsTo}
-use Rattle.cd_desk.proofs.Lists.{get_set_same, get_set_other}
+use Rattle.cd_desk.proofs.Numbers.{with_set_same, with_set_other, with_none_after, with_push_same, with_push_other}
+use Rattle.cd_desk.proofs.Lists.{get_last}
 use Rattle.cd_legal.proofs.Places.{get_change_same, get_change_other}
 
 -- what is known of each state of a legal history
@@ -109,22 +110,32 @@ pub shown : (retired : List ℕ) (r : Row) (o : Option Drafted) → ShowsAt reti
 shown retired r None h = absurd h
 shown retired r (Some x) h = record { draft = x; is = refl; shows = h }
 
--- a row in place of another, where a draft is changed
-pub rows_after : (retired : List ℕ) (rows : List Row) (drafts : List Drafted) (f : Drafted → Drafted) (d : ℕ) (r t : Row) (x : Drafted) → slice_get rows d ≡ Some r → slice_get drafts d ≡ Some x → Shows retired t (f x)
-    → ((j : ℕ) → ShowsAt retired (slice_get rows j) (slice_get drafts j)) → (j : ℕ) → ShowsAt retired (slice_get (set rows d t) j) (slice_get (change_at f d drafts) j)
-rows_after retired rows drafts f d r t x there draft shows all j = ⊎_elim
-    (λ q. subst (λ z. ShowsAt retired (slice_get (set rows d t) z) (slice_get (change_at f d drafts) z)) (sym q.1)
-    (subst (λ z. ShowsAt retired z (slice_get (change_at f d drafts) d)) (sym (get_set_same rows d r t there)) (subst (λ z. ShowsAt retired (Some t) z) (sym (get_change_same f drafts d ∙ ap (option_map f) draft)) shows)))
-    (λ q. subst (λ z. ShowsAt retired z (slice_get (change_at f d drafts) j)) (sym (get_set_other rows d j t q.1)) (subst (λ z. ShowsAt retired (slice_get rows j) z) (sym (get_change_other f drafts d j q.1)) (all j)))
-    (eqb_tells j d)
+-- a row in place of another, where its draft is changed
+pub rows_after : (retired : List ℕ) (rows : List Row) (drafts : List Drafted) (f : Drafted → Drafted) (d to j : ℕ) (r t : Row) (x : Drafted) → Numbered 0 rows to → slice_get rows j ≡ Some r → t.number ≡ r.number → d ≡ r.number → slice_get drafts d ≡ Some x → Shows retired t (f x)
+    → ((i : ℕ) → ShowsAt retired (row_with i rows) (slice_get drafts i)) → (i : ℕ) → ShowsAt retired (row_with i (set rows j t)) (slice_get (change_at f d drafts) i)
+rows_after retired rows drafts f d to j r t x numbers there same is draft shows all i = ⊎_elim
+    (λ q. subst (λ z. ShowsAt retired (row_with z (set rows j t)) (slice_get (change_at f d drafts) z)) (sym q.1)
+    (subst (λ z. ShowsAt retired z (slice_get (change_at f d drafts) d)) (sym (ap (λ (z : ℕ). row_with z (set rows j t)) is ∙ with_set_same 0 rows to j r t numbers there same)) (subst (λ z. ShowsAt retired (Some t) z) (sym (get_change_same f drafts d ∙ ap (option_map f) draft)) shows)))
+    (λ q. subst (λ z. ShowsAt retired z (slice_get (change_at f d drafts) i)) (sym (with_set_other i rows j r t there same (λ (e : i ≡ r.number). q.1 (e ∙ sym is)))) (subst (λ z. ShowsAt retired (row_with i rows) z) (sym (get_change_other f drafts d i q.1)) (all i)))
+    (eqb_tells i d)
 
-pub rows_added : (retired : List ℕ) (rows : List Row) (drafts : List Drafted) (r : Row) (x : Drafted) → Shows retired r x → ((j : ℕ) → ShowsAt retired (slice_get rows j) (slice_get drafts j)) → (j : ℕ) → ShowsAt retired (slice_get (rows ++ r ∷ []) j) (slice_get (drafts ++ x ∷ []) j)
-rows_added retired [] [] r x sh all zero = sh
-rows_added retired [] [] r x sh all (suc j) = tt
-rows_added retired [] (y ∷ ys) r x sh all j = absurd (all 0)
-rows_added retired (p ∷ ps) [] r x sh all j = absurd (all 0)
-rows_added retired (p ∷ ps) (y ∷ ys) r x sh all zero = all 0
-rows_added retired (p ∷ ps) (y ∷ ys) r x sh all (suc j) = rows_added retired ps ys r x sh (λ k. all (suc k)) j
+get_before : (drafts : List Drafted) (x y : Drafted) (d : ℕ) → slice_get drafts d ≡ Some y → slice_get (drafts ++ x ∷ []) d ≡ Some y
+get_before [] x y d e = cc
+get_before (z ∷ drafts) x y zero e = e
+get_before (z ∷ drafts) x y (suc d) e = get_before drafts x y d e
+
+shows_before : (retired : List ℕ) (o : Option Row) (drafts : List Drafted) (x : Drafted) (d : ℕ) (p : Option Drafted) → slice_get drafts d ≡ p → ShowsAt retired o p → ShowsAt retired o (slice_get (drafts ++ x ∷ []) d)
+shows_before retired None drafts x d p e sh = tt
+shows_before retired (Some r) drafts x d None e sh = absurd sh
+shows_before retired (Some r) drafts x d (Some y) e sh = subst (λ z. ShowsAt retired (Some r) z) (sym (get_before drafts x y d e)) sh
+
+pub rows_added : (retired : List ℕ) (rows : List Row) (drafts : List Drafted) (to : ℕ) (r : Row) (x : Drafted) → Numbered 0 rows to → r.number ≡ to → length drafts ≡ to → Shows retired r x → ((d : ℕ) → ShowsAt retired (row_with d rows) (slice_get drafts d))
+    → (d : ℕ) → ShowsAt retired (row_with d (rows ++ r ∷ [])) (slice_get (drafts ++ x ∷ []) d)
+rows_added retired rows drafts to r x numbers is count sh all d = ⊎_elim
+    (λ q. subst (λ z. ShowsAt retired (row_with z (rows ++ r ∷ [])) (slice_get (drafts ++ x ∷ []) z)) (sym q.1)
+    (subst (λ z. ShowsAt retired z (slice_get (drafts ++ x ∷ []) r.number)) (sym (with_push_same rows r (with_none_after r.number 0 rows to (let i = is in omega (arith, i)) numbers))) (subst (λ z. ShowsAt retired (Some r) z) (sym (get_last drafts (drafts ++ x ∷ []) r.number x refl (is ∙ sym count))) sh)))
+    (λ q. subst (λ z. ShowsAt retired z (slice_get (drafts ++ x ∷ []) d)) (sym (with_push_other d rows r q.1)) (shows_before retired (row_with d rows) drafts x d (slice_get drafts d) refl (all d)))
+    (eqb_tells d r.number)
 
 -- ---- one entry more
 

@@ -1,5 +1,5 @@
 -- A desk on which what was left of a draft is ended one by one.
-use Rattle.std.proofs.Common.{◌≡◌, ℕ, ◌+◌, ◌-◌, ◌<◌, ◌==◌, ◌&&◌, ◌||◌, Bool, true, cond, List, [], ◌∷◌, ◌++◌, refl, sym, ap, ◌∙◌, arith, Some, None, Option, slice_get, subst, append_assoc}
+use Rattle.std.proofs.Common.{◌≡◌, ℕ, ◌+◌, ◌-◌, ◌<◌, ◌==◌, ◌&&◌, ◌||◌, Bool, true, cond, List, [], ◌∷◌, ◌++◌, refl, sym, ap, ◌∙◌, arith, Some, None, Option, subst, append_assoc}
 use Rattle.cd_outside.specs.declared.fixtures.FixtureCall.{FixtureCall}
 use Rattle.cd_outside.specs.declared.fixtures.FixtureCall.TheVariants.{Shut}
 use Rattle.cd_outside.specs.FixtureCall.{CallsGrow}
@@ -19,10 +19,10 @@ use Rattle.cd_desk.specs.declared.row.Row.{Row}
 use Rattle.cd_desk.specs.declared.books.Books.{Books}
 use Rattle.cd_desk.specs.declared.desk.Desk.{Desk}
 use Rattle.cd_desk.specs.declared.closing.Closing.{Closing}
-use Rattle.cd_desk.specs.Books.{Ends, CanEnd}
+use Rattle.cd_desk.specs.Books.{HasRowAt, Ends, CanEnd}
 use Rattle.cd_desk.specs.Desks.{Agrees}
 use Rattle.cd_desk.specs.Closings.{IsRest, IsClosing, MayClean, may_clean_row, life_by, CanEndOf}
-use Rattle.cd_desk.proofs.Lists.{same_at}
+use Rattle.cd_desk.proofs.Numbers.{at_place, number_of, row_same}
 use Rattle.cd_desk.proofs.Counts.{now_at, was_at}
 use Rattle.cd_desk.proofs.Standing.{Steps, plain_calls}
 use Rattle.cd_desk.proofs.Endings.{Ended, ends}
@@ -47,15 +47,12 @@ can_clean v c is none more may =
     let instances = r.instances in
     record { place = r.place; row = r.row; at = r.at; may = (may r.place r.row r.at, omega (arith, apps, none)); left = omega (arith, instances, more) }
 
-pub can_end : {F : Type 0} (p : Part) (v : Desk F) (d place : ℕ) → CanEndOf p v d → d ≡ v.books.first + place → CanEnd p v.books place
-can_end p v d place can number =
-    let n = can.at.number in
-    let here : can.place ≡ place = omega (arith, n, number) in
-    (can.row, subst (λ (z : ℕ). slice_get v.books.rows.items z ≡ Some can.row) here can.at.there, can.left)
+pub can_end : {F : Type 0} (p : Part) (v : Desk F) (d place : ℕ) → CanEndOf p v d → HasRowAt v.books d place → CanEnd p v.books place
+can_end p v d place can at = (can.row, at_place v.books d can.place place can.row can.at at, can.left)
 
 -- ---- what is left afterwards
 
-module _ (v w : Books) (c : Closing) (place : ℕ) (before after : Option (List FixtureCall)) (number : c.number ≡ v.first + place) (r : IsRest v c) where
+module _ (v w : Books) (c : Closing) (place : ℕ) (before after : Option (List FixtureCall)) (number : HasRowAt v c.number place) (r : IsRest v c) where
   pub rest_stopped : Ends App place v w before after → 0 < c.apps → IsRest w (record c { apps = c.apps - 1 })
   rest_stopped o more =
       let same : r.row ≡ o.changes.was = was_at v w c.number place r.place r.row o.changes number r.at in
@@ -93,21 +90,15 @@ module _ (v w : Books) (c : Closing) (place : ℕ) (before after : Option (List 
       }
 
 -- instances that may be cleaned may be afterwards
-pub may_on : (p : Part) (v w : Books) (d place : ℕ) (before after : Option (List FixtureCall)) → d ≡ v.first + place → (o : Ends p place v w before after) → MayClean v d → MayClean w d
+pub may_on : (p : Part) (v w : Books) (d place : ℕ) (before after : Option (List FixtureCall)) → HasRowAt v d place → (o : Ends p place v w before after) → MayClean v d → MayClean w d
 may_on p v w d place before after number o may other r at =
-    let first = o.changes.first in
-    let n = at.number in
-    let here : other ≡ place = omega (arith, n, number, first) in
-    let same : r ≡ o.changes.is = is_row r o.changes.is (subst (λ (z : ℕ). slice_get w.rows.items z ≡ Some r) here at.there) (now_at v w d place o.changes number).there in
-    ap may_clean_row same ∙ (ap (λ (z : Life). is_abandoned z || o.changes.is.retired) o.life ∙ (ap (λ (z : Bool). is_abandoned o.changes.was.life || z) o.retired ∙ may place o.changes.was (record { number = number; there = o.changes.there })))
-  where
-    is_row : (r s : Row) → slice_get w.rows.items place ≡ Some r → slice_get w.rows.items place ≡ Some s → r ≡ s
-    is_row r s e f = same_at w.rows.items place r s e f
+    let same : r ≡ o.changes.is = row_same w d other place r o.changes.is at (now_at v w d place o.changes number) in
+    ap may_clean_row same ∙ (ap (λ (z : Life). is_abandoned z || o.changes.is.retired) o.life ∙ (ap (λ (z : Bool). is_abandoned o.changes.was.life || z) o.retired ∙ may place o.changes.was (record { number = number_of v w d place o.changes number; there = o.changes.there })))
 
 -- ---- the entries
 
 module _ {F : Type 0} (calls : F → Option (List FixtureCall)) where
-  pub cleans : (v : Desk F) (fixtures : F) (books : Books) (d place : ℕ) (can : CanEndOf Instance v d) → d ≡ v.books.first + place → (o : Ends Instance place v.books books (calls v.fixtures) (calls fixtures)) → Steps calls v (record v { fixtures = fixtures; books = books }) (Cleaned d (o.changes.was.modules.opened - o.changes.was.modules.ended - 1))
+  pub cleans : (v : Desk F) (fixtures : F) (books : Books) (d place : ℕ) (can : CanEndOf Instance v d) → HasRowAt v.books d place → (o : Ends Instance place v.books books (calls v.fixtures) (calls fixtures)) → Steps calls v (record v { fixtures = fixtures; books = books }) (Cleaned d (o.changes.was.modules.opened - o.changes.was.modules.ended - 1))
   cleans v fixtures books d place can number o opening s told count known a =
       let i : ℕ = o.changes.was.modules.opened - o.changes.was.modules.ended - 1 in
       let w : Desk F = record v { fixtures = fixtures; books = books } in
@@ -119,7 +110,7 @@ module _ {F : Type 0} (calls : F → Option (List FixtureCall)) where
       ap (λ (z : Bool). z && (has_serial (serial - 1) l && (x == p))) one
       ∙ (ap (λ (z : ℕ). c && (has_serial (z - 1) l && (x == p))) two ∙ (ap (λ (z : Life). c && (has_serial (serial2 - 1) z && (x == p))) three ∙ (ap (λ (z : ℕ). c && (has_serial (serial2 - 1) m && (z == p))) four ∙ ap (λ (z : ℕ). c && (has_serial (serial2 - 1) m && (y == z))) five)))
 
-  pub stops : (v : Desk F) (fixtures later : F) (books : Books) (d place : ℕ) (can : CanEndOf App v d) → d ≡ v.books.first + place → (o : Ends App place v.books books (calls v.fixtures) (calls fixtures)) (t : Row) (last : Bool) → t ≡ o.changes.is → last ≡ (v.halted && (has_serial (v.serial - 1) t.life && (t.apps.ended == t.apps.opened)))
+  pub stops : (v : Desk F) (fixtures later : F) (books : Books) (d place : ℕ) (can : CanEndOf App v d) → HasRowAt v.books d place → (o : Ends App place v.books books (calls v.fixtures) (calls fixtures)) (t : Row) (last : Bool) → t ≡ o.changes.is → last ≡ (v.halted && (has_serial (v.serial - 1) t.life && (t.apps.ended == t.apps.opened)))
       → CallsGrow (calls fixtures) (cond last (Shut ∷ []) []) (calls later) → Steps calls v (record v { fixtures = later; books = books }) (Stopped d (o.changes.was.apps.opened - o.changes.was.apps.ended - 1))
   stops v fixtures later books d place can number o t last is flag grow opening s told count known a =
       let i : ℕ = o.changes.was.apps.opened - o.changes.was.apps.ended - 1 in

@@ -1,6 +1,7 @@
 -- Books from which rows of closed drafts went.
-use Rattle.std.proofs.Common.{◌≡◌, ℕ, zero, suc, ◌+◌, ◌-◌, ◌<◌, ◌≤◌, ◌==◌, ◌&&◌, Bool, true, false, List, [], ◌∷◌, length, drop, refl, sym, ap, ◌∙◌, arith, Some, Option, slice_get, subst, ⊎_elim, sum_by}
-use Rattle.std.proofs.lemmas.List.{length-drop, drop-drop}
+use Rattle.std.proofs.Common.{◌≡◌, ℕ, zero, suc, ◌+◌, ◌<◌, ◌==◌, ◌&&◌, Bool, true, false, cond, List, [], ◌∷◌, refl, sym, ap, ◌∙◌, arith, Some, None, Option, slice_get, subst, ⊎_elim, sum_by}
+use Rattle.std.specs.List.{remove}
+use Rattle.std.proofs.lemmas.Bool.Decides.{eqb_tells}
 use Rattle.std.proofs.lemmas.List.Sums.{sum_by-cons}
 use Rattle.std.proofs.lemmas.Bool.{eqb-true}
 use Rattle.cd_outside.specs.declared.fixtures.FixtureCall.{FixtureCall}
@@ -10,7 +11,10 @@ use Rattle.cd_legal.specs.declared.state.Drafted.{Drafted}
 use Rattle.cd_legal.specs.declared.state.Life.{Life}
 use Rattle.cd_legal.specs.declared.state.Life.TheVariants.{Live, Published, Abandoned}
 use Rattle.cd_legal.specs.State.{holds, may_clean_instances}
+use Rattle.cd_legal.specs.Entry.{entries}
 use Rattle.cd_legal.specs.Legal.{state_at}
+use Rattle.cd_legal.specs.Calls.{fixture_calls}
+use Rattle.cd_legal.specs.Begins.{begins_now}
 use Rattle.cd_legal.specs.Whole.{is_closed, is_closed_in}
 use Rattle.cd_legal.proofs.Histories.{first, second}
 use Rattle.cd_pool.specs.Pairs.{pairs}
@@ -19,15 +23,15 @@ use Rattle.cd_desk.specs.declared.books.Books.{Books}
 use Rattle.cd_desk.specs.declared.desk.Desk.{Desk}
 use Rattle.cd_desk.specs.declared.left.Left.{Left}
 use Rattle.cd_desk.specs.declared.closing.Closing.{Closing}
-use Rattle.cd_desk.specs.Rows.{Shows, ShowsAt, is_retired, row_waits}
-use Rattle.cd_desk.specs.Books.{RowAt}
-use Rattle.cd_desk.specs.Desks.{Keeps}
+use Rattle.cd_desk.specs.Rows.{Numbered, Shows, ShowsAt, is_retired, leases_at, row_waits, row_with}
+use Rattle.cd_desk.specs.Books.{RowAt, HasRowAt}
+use Rattle.cd_desk.specs.Desks.{Agrees, Keeps}
 use Rattle.cd_desk.specs.Lefts.{IsLeft}
 use Rattle.cd_desk.specs.Closings.{IsRest, IsClosing, MayClean, IsStopped, IsStoppedAt, CanRetire}
-use Rattle.cd_desk.specs.Trimming.{is_done, is_closed_row, Trims}
-use Rattle.cd_desk.specs.Clearing.{IsCleared}
-use Rattle.cd_desk.proofs.Lists.{get_drop}
-use Rattle.cd_desk.proofs.Placing.{split_at}
+use Rattle.cd_desk.specs.Trimming.{is_done, is_closed_row, TrimsAt, Trims, IsClosedPlace, IsCleared}
+use Rattle.cd_desk.proofs.Lists.{some_is, some_none}
+use Rattle.cd_desk.proofs.Numbers.{with_at, with_remove_same, with_remove_other, row_same, row_with_at, row_at_with}
+use Rattle.cd_desk.proofs.Parts.{part_free}
 use Rattle.cd_desk.proofs.Standing.{Shown, shown}
 
 -- ---- a row, and the draft that it shows
@@ -53,53 +57,42 @@ closed_ended r is =
 
 -- ---- which rows went
 
+trims_same : (o : Option Row) → TrimsAt o o
+trims_same None = refl
+trims_same (Some r) = refl
+
 pub trims_none : (v : Books) → Trims v v
-trims_none v = record { gone = 0; within = omega arith; first = omega arith; rows = refl; closed = λ place r lt is. absurd (omega (arith, lt)); pool = refl }
+trims_none v = record { rows = λ d. trims_same (row_with d v.rows.items); next = refl; pool = refl }
+
+trims_twice : (o p q : Option Row) → TrimsAt o p → TrimsAt p q → TrimsAt o q
+trims_twice None p q e f = subst (λ z. TrimsAt z q) e f
+trims_twice (Some r) None q e f = subst (λ z. TrimsAt (Some r) z) (sym f) e
+trims_twice (Some r) (Some t) q e f = subst (λ (z : Row). TrimsAt (Some z) q) e f
+
+-- further rows went
+pub trims_on : (v w u : Books) → Trims v w → Trims w u → Trims v u
+trims_on v w u t q = record {
+  rows = λ d. trims_twice (row_with d v.rows.items) (row_with d w.rows.items) (row_with d u.rows.items) (t.rows d) (q.rows d);
+  next = q.next ∙ t.next;
+  pool = q.pool ∙ t.pool;
+}
+
+none_was : (o : Option Row) (r : Row) → TrimsAt o (Some r) → o ≡ Some r
+none_was None r e = absurd (let f : false ≡ true = some_none r e in cc)
+none_was (Some t) r e = ap (λ z. Some z) (sym e)
+
+is_still : (o : Option Row) (r : Row) → TrimsAt (Some r) o → (is_closed_row r ≡ true → ⊥) → o ≡ Some r
+is_still None r e unclosed = absurd (unclosed e)
+is_still (Some t) r e unclosed = ap (λ z. Some z) e
 
 module _ (v w : Books) (t : Trims v w) where
   -- a row that is there afterwards was there
-  was_there : (place : ℕ) (r : Row) → slice_get w.rows.items place ≡ Some r → slice_get v.rows.items (t.gone + place) ≡ Some r
-  was_there place r is = sym (get_drop t.gone v.rows.items place) ∙ (ap (λ z. slice_get z place) (sym t.rows) ∙ is)
-
-  row_was : (d place : ℕ) (r : Row) → RowAt w d place r → RowAt v d (t.gone + place) r
-  row_was d place r at = let number = at.number in let first = t.first in record { number = omega (arith, number, first); there = was_there place r at.there }
+  row_was : (d place : ℕ) (r : Row) → RowAt w d place r → (other : ℕ) × RowAt v d other r
+  row_was d place r at = row_at_with v d r (none_was (row_with d v.rows.items) r (subst (λ z. TrimsAt (row_with d v.rows.items) z) (row_with_at w d place r at) (t.rows d)))
 
   -- one that is not closed stays
-  still_there : (place : ℕ) (r : Row) → slice_get v.rows.items place ≡ Some r → (is_closed_row r ≡ true → ⊥) → (other : ℕ) × (place ≡ t.gone + other) × (slice_get w.rows.items other ≡ Some r)
-  still_there place r is unclosed = ⊎_elim (λ q. absurd (unclosed (t.closed place r q is)))
-      (λ q. (
-        place - t.gone,
-        omega (arith, q),
-        ap (λ z. slice_get z (place - t.gone)) t.rows ∙ (get_drop t.gone v.rows.items (place - t.gone) ∙ (ap (slice_get v.rows.items) (let e : t.gone + (place - t.gone) ≡ place = omega (arith, q) in e) ∙ is)),
-      ))
-      (split_at place t.gone)
-
   row_stays : (d place : ℕ) (r : Row) → RowAt v d place r → (is_closed_row r ≡ true → ⊥) → (other : ℕ) × RowAt w d other r
-  row_stays d place r at unclosed =
-      let s = still_there place r at.there unclosed in
-      let number = at.number in
-      let first = t.first in
-      let here = s.1 in
-      (s.0, record { number = omega (arith, number, first, here); there = s.2 })
-
-  -- further rows went
-  pub trims_on : (u : Books) → Trims w u → Trims v u
-  trims_on u q =
-      let rest : length w.rows.items ≡ length v.rows.items - t.gone = ap length t.rows ∙ length-drop t.gone v.rows.items in
-      let within = t.within in
-      let more = q.within in
-      let first = t.first in
-      let then_ = q.first in
-      record {
-        gone = t.gone + q.gone;
-        within = omega (arith, rest, within, more);
-        first = omega (arith, first, then_);
-        rows = q.rows ∙ (ap (drop q.gone) t.rows ∙ drop-drop q.gone t.gone v.rows.items);
-        closed = λ place r lt is. ⊎_elim (λ p. t.closed place r p is)
-            (λ p. q.closed (place - t.gone) r (omega (arith, lt, p)) (ap (λ z. slice_get z (place - t.gone)) t.rows ∙ (get_drop t.gone v.rows.items (place - t.gone) ∙ (ap (slice_get v.rows.items) (let e : t.gone + (place - t.gone) ≡ place = omega (arith, p) in e) ∙ is))))
-            (split_at place t.gone);
-        pool = q.pool ∙ t.pool;
-      }
+  row_stays d place r at unclosed = row_at_with w d r (is_still (row_with d w.rows.items) r (subst (λ z. TrimsAt z (row_with d w.rows.items)) (row_with_at v d place r at) (t.rows d)) unclosed)
 
   -- ---- what is known of drafts stays
 
@@ -116,22 +109,15 @@ module _ (v w : Books) (t : Trims v w) where
       record { place = s.0; row = r.row; at = s.1; life = r.life; apps = r.apps; instances = r.instances }
 
   pub clean_stays : (d : ℕ) → MayClean v d → MayClean w d
-  clean_stays d may place r at = may (t.gone + place) r (row_was d place r at)
+  clean_stays d may place r at = let was = row_was d place r at in may was.0 r was.1
 
   stopped_stays : (n : ℕ) → IsStopped v n → IsStopped w n
   stopped_stays n is =
-      let s = still_there is.place is.row is.there (λ closed. (let e : false ≡ true = sym (ap (λ (z : Life). is_done z is.row.retired) is.life ∙ is.unretired) ∙ first (is_done is.row.life is.row.retired) _ closed in cc)) in
-      record { place = s.0; row = is.row; there = s.2; life = is.life; unretired = is.unretired; stopped = is.stopped }
+      let s = row_stays is.row.number is.place is.row (record { number = refl; there = is.there }) (λ closed. (let e : false ≡ true = sym (ap (λ (z : Life). is_done z is.row.retired) is.life ∙ is.unretired) ∙ first (is_done is.row.life is.row.retired) _ closed in cc)) in
+      record { place = s.0; row = is.row; there = s.1.there; life = is.life; unretired = is.unretired; stopped = is.stopped }
 
   pub cleared_stays : (d : ℕ) → IsCleared v d → IsCleared w d
-  cleared_stays d is place r at closed = is (t.gone + place) r (row_was d place r at) closed
-
-  pub drafts_stay : w.first + length w.rows.items ≡ v.first + length v.rows.items
-  drafts_stay =
-      let rest : length w.rows.items ≡ length v.rows.items - t.gone = ap length t.rows ∙ length-drop t.gone v.rows.items in
-      let within = t.within in
-      let first = t.first in
-      omega (arith, rest, within, first)
+  cleared_stays d is place r at = let was = row_was d place r at in is was.0 r was.1
 
   pub closing_stays : {F : Type 0} (b : Desk F) → b.books ≡ v → (c : Closing) → IsClosing b c → IsClosing (record b { books = w }) c
   closing_stays b same c is = record {
@@ -146,70 +132,102 @@ module _ (v w : Books) (t : Trims v w) where
       at zero is = is
       at (suc n) is = stopped_stays (suc n) (subst (λ (z : Books). IsStopped z (suc n)) same is)
 
--- ---- the first row goes
+-- ---- one row goes
 
-pub some_there : (all : List Row) → holds is_closed_row (slice_get all 0) ≡ true → 0 < length all
-some_there [] e = cc
-some_there (r ∷ rest) e = omega arith
+closed_in : (o : Option Row) → holds is_closed_row o ≡ true → (r : Row) × (o ≡ Some r) × (is_closed_row r ≡ true)
+closed_in None e = cc
+closed_in (Some r) e = (r, refl, e)
 
-pub closed_there : (all : List Row) (place : ℕ) → holds is_closed_row (slice_get all place) ≡ true → place < length all
-closed_there [] place e = cc
-closed_there (r ∷ rest) zero e = omega arith
-closed_there (r ∷ rest) (suc place) e = let h = closed_there rest place e in omega (arith, h)
+-- the row at a place that is that of a closed draft
+pub closed_at : (rows : List Row) (place : ℕ) → holds is_closed_row (slice_get rows place) ≡ true → (r : Row) × (slice_get rows place ≡ Some r) × (is_closed_row r ≡ true)
+closed_at rows place e = closed_in (slice_get rows place) e
 
-pub fewer_wait : (rows : List Row) → sum_by row_waits (drop 1 rows) ≤ sum_by row_waits rows
-fewer_wait [] = omega arith
-fewer_wait (r ∷ rows) = let all = sum_by-cons row_waits r rows in omega (arith, all)
+pub fewer_wait : (rows : List Row) (place : ℕ) (r : Row) → slice_get rows place ≡ Some r → sum_by row_waits (remove rows place) + row_waits r ≡ sum_by row_waits rows
+fewer_wait [] place r e = cc
+fewer_wait (x ∷ rows) zero r e = let same : row_waits x ≡ row_waits r = ap row_waits (some_is x r e) in let all = sum_by-cons row_waits x rows in omega (arith, same, all)
+fewer_wait (x ∷ rows) (suc place) r e =
+    let rest = fewer_wait rows place r e in
+    let all = sum_by-cons row_waits x rows in
+    let less : sum_by row_waits (x ∷ remove rows place) ≡ row_waits x + sum_by row_waits (remove rows place) = sum_by-cons row_waits x (remove rows place) in
+    omega (arith, rest, all, less)
 
-pub trims_one : (v w : Books) → holds is_closed_row (slice_get v.rows.items 0) ≡ true → w.first ≡ v.first + 1 → w.rows.items ≡ drop 1 v.rows.items → w.pool ≡ v.pool → Trims v w
-trims_one v w closed first rows pool = record {
-  gone = 1;
-  within = (let some = some_there v.rows.items closed in omega (arith, some));
-  first = first;
-  rows = rows;
-  closed = λ place r lt is. (let here : place ≡ 0 = omega (arith, lt) in let at : slice_get v.rows.items 0 ≡ Some r = ap (slice_get v.rows.items) (sym here) ∙ is in ap (holds is_closed_row) (sym at) ∙ closed);
-  pool = pool;
-}
+no_lease : (b : Bool) (r : Row) (n : ℕ) → is_closed_row r ≡ true → leases_at (Some r) b n ≡ []
+no_lease true r n closed = let e = (closed_ended r closed).0 in part_free (slice_get r.apps.parts.items n) (λ a is. r.apps.spent n a is (omega (arith, e)))
+no_lease false r n closed = let e = (closed_ended r closed).1 in part_free (slice_get r.modules.parts.items n) (λ a is. r.modules.spent n a is (omega (arith, e)))
+
+module _ (rows : List Row) (to place : ℕ) (r : Row) (numbers : Numbered 0 rows to) (there : slice_get rows place ≡ Some r) (closed : is_closed_row r ≡ true) where
+  -- it held nothing
+  pub removed_leases : (d n : ℕ) (b : Bool) → leases_at (row_with d (remove rows place)) b n ≡ leases_at (row_with d rows) b n
+  removed_leases d n b = ⊎_elim
+      (λ q. ap (λ z. leases_at (row_with z (remove rows place)) b n) q.1 ∙ (ap (λ z. leases_at z b n) (with_remove_same 0 rows to place r numbers there)
+      ∙ (sym (no_lease b r n closed) ∙ (ap (λ z. leases_at z b n) (sym (with_at 0 rows to place r numbers there)) ∙ ap (λ z. leases_at (row_with z rows) b n) (sym q.1)))))
+      (λ q. ap (λ z. leases_at z b n) (with_remove_other d rows place r there q.1)) (eqb_tells d r.number)
+
+  removed_at : (d : ℕ) → TrimsAt (row_with d rows) (row_with d (remove rows place))
+  removed_at d = ⊎_elim
+      (λ q. subst (λ (z : ℕ). TrimsAt (row_with z rows) (row_with z (remove rows place))) (sym q.1) (subst (λ z. TrimsAt z (row_with r.number (remove rows place))) (sym (with_at 0 rows to place r numbers there)) (subst (λ z. TrimsAt (Some r) z) (sym (with_remove_same 0 rows to place r numbers there)) closed)))
+      (λ q. subst (λ z. TrimsAt (row_with d rows) z) (sym (with_remove_other d rows place r there q.1)) (trims_same (row_with d rows)))
+      (eqb_tells d r.number)
+
+  pub trims_one : (v w : Books) → v.rows.items ≡ rows → w.rows.items ≡ remove rows place → w.next ≡ v.next → w.pool ≡ v.pool → Trims v w
+  trims_one v w before after next pool = record {
+    rows = λ d. subst (λ z. TrimsAt (row_with d z) (row_with d w.rows.items)) (sym before) (subst (λ z. TrimsAt (row_with d rows) (row_with d z)) (sym after) (removed_at d));
+    next = next;
+    pool = pool;
+  }
+
+-- after the row of a draft went it has none
+pub cleared_one : (v w : Books) (d place : ℕ) → HasRowAt v d place → w.rows.items ≡ remove v.rows.items place → IsCleared w d
+cleared_one v w d place at after other r its = absurd (let f : false ≡ true = some_none r (sym (row_with_at w d other r its) ∙ gone) in cc)
+  where
+    gone : row_with d w.rows.items ≡ None
+    gone = ap (row_with d) after ∙ (ap (λ (z : ℕ). row_with z (remove v.rows.items place)) at.1.number ∙ with_remove_same 0 v.rows.items v.next place at.0 v.numbers at.1.there)
+
+-- the place of a draft, where its row is closed
+pub closed_place_of : (b : Books) (d place : ℕ) (flag : Bool) → HasRowAt b d place → flag ≡ holds is_closed_row (slice_get b.rows.items place) → IsClosedPlace b d (cond flag (Some place) None)
+closed_place_of b d place true at e = (at, sym e)
+closed_place_of b d place false at e =
+    λ other r its. ap is_closed_row (row_same b d other place r at.0 its at.1) ∙ (ap (holds is_closed_row) (sym at.1.there) ∙ sym e)
+
+pub no_closed_place : (b : Books) (d : ℕ) → row_with d b.rows.items ≡ None → IsClosedPlace b d None
+no_closed_place b d none place r at = absurd (let f : false ≡ true = some_none r (sym (row_with_at b d place r at) ∙ none) in cc)
 
 -- ---- what the desk stands for
 
-get_there : (xs : List Row) (n : ℕ) → n < length xs → (r : Row) × (slice_get xs n ≡ Some r)
-get_there [] n lt = absurd (omega arith)
-get_there (x ∷ xs) zero lt = (x, refl)
-get_there (x ∷ xs) (suc n) lt = get_there xs n (omega arith)
-
 module _ {F : Type 0} (calls : F → Option (List FixtureCall)) where
   pub trim_keeps : (v : Desk F) (books : Books) → Trims v.books books → Keeps calls v (record v { books = books })
-  trim_keeps v books t opening log h =
-      let a = h.agrees in
-      let s : State = state_at log in
-      let at : (j : ℕ) → slice_get (drop books.first s.drafts) j ≡ slice_get (drop v.books.first s.drafts) (t.gone + j) =
-      λ j. get_drop books.first s.drafts j ∙ (ap (slice_get s.drafts) (let first = t.first in let e : books.first + j ≡ v.books.first + (t.gone + j) = omega (arith, first) in e) ∙ sym (get_drop v.books.first s.drafts (t.gone + j))) in
-      let row : (j : ℕ) → slice_get books.rows.items j ≡ slice_get v.books.rows.items (t.gone + j) = λ j. ap (λ z. slice_get z j) t.rows ∙ get_drop t.gone v.books.rows.items j in
-      let went : (d : ℕ) → v.books.first ≤ d → d < books.first → is_closed_in s d ≡ true =
-      λ d le lt.
-      (let first = t.first in
-      let within = t.within in
-      let place : ℕ = d - v.books.first in
-      let r = get_there v.books.rows.items place (omega (arith, first, within, le, lt)) in
-      let sh : Shown s.retired r.0 (slice_get (drop v.books.first s.drafts) place) = shown s.retired r.0 (slice_get (drop v.books.first s.drafts) place) (subst (λ z. ShowsAt s.retired z (slice_get (drop v.books.first s.drafts) place)) r.1 (a.rows place)) in
-      let there : slice_get s.drafts d ≡ Some sh.draft = ap (slice_get s.drafts) (let e : d ≡ v.books.first + place = omega (arith, le) in e) ∙ (sym (get_drop v.books.first s.drafts place) ∙ sh.is) in
-      ap (holds (is_closed s.retired)) there ∙ (closed_shown s.retired r.0 sh.draft sh.shows ∙ t.closed place r.0 (omega (arith, first, le, lt)) r.1)) in
-      record {
-        is_legal = h.is_legal;
-        agrees = record {
-          serial = a.serial;
-          halted = a.halted;
-          begun = a.begun;
-          drafts = a.drafts ∙ sym (drafts_stay v.books books t);
-          rows = λ j. subst (λ z. ShowsAt s.retired z (slice_get (drop books.first s.drafts) j)) (sym (row j)) (subst (λ z. ShowsAt s.retired (slice_get v.books.rows.items (t.gone + j)) z) (sym (at j)) (a.rows (t.gone + j)));
-          closed = λ d lt. ⊎_elim (λ q. a.closed d q) (λ q. went d q lt) (split_at d v.books.first);
-          retired = a.retired;
-          opening_retired = a.opening_retired;
-          pairs = a.pairs ∙ ap (λ z. pairs z.held) (sym t.pool);
-          tickets = a.tickets;
-          at_serial = a.at_serial;
-          callers = a.callers;
-          told_on = a.told_on;
-        };
-      }
+  trim_keeps v books t opening log h = record {
+    is_legal = h.is_legal;
+    agrees = record {
+      serial = a.serial;
+      halted = a.halted;
+      begun = a.begun;
+      drafts = a.drafts ∙ sym t.next;
+      rows = λ d. shows d (row_with d v.books.rows.items) (row_with d books.rows.items) (t.rows d) (a.rows d);
+      closed = λ d lt none. closed d lt (row_with d v.books.rows.items) refl (subst (λ z. TrimsAt (row_with d v.books.rows.items) z) none (t.rows d));
+      retired = a.retired;
+      opening_retired = a.opening_retired;
+      pairs = a.pairs ∙ ap (λ z. pairs z.held) (sym t.pool);
+      tickets = a.tickets;
+      at_serial = a.at_serial;
+      callers = a.callers;
+      told_on = a.told_on;
+    };
+  }
+    where
+      s : State
+      s = state_at log
+
+      a : Agrees calls opening v (state_at log) (fixture_calls (entries log)) (begins_now (entries log))
+      a = h.agrees
+
+      shows : (d : ℕ) (o p : Option Row) → TrimsAt o p → ShowsAt s.retired o (slice_get s.drafts d) → ShowsAt s.retired p (slice_get s.drafts d)
+      shows d o None e sh = tt
+      shows d None (Some r) e sh = absurd (let f : false ≡ true = some_none r e in cc)
+      shows d (Some r) (Some q) e sh = subst (λ (z : Row). ShowsAt s.retired (Some z) (slice_get s.drafts d)) (sym e) sh
+
+      closed : (d : ℕ) → d < books.next → (o : Option Row) → row_with d v.books.rows.items ≡ o → TrimsAt o None → is_closed_in s d ≡ true
+      closed d lt None is e = a.closed d (subst (λ z. d < z) t.next lt) is
+      closed d lt (Some r) is e =
+          let sh : Shown s.retired r (slice_get s.drafts d) = shown s.retired r (slice_get s.drafts d) (subst (λ z. ShowsAt s.retired z (slice_get s.drafts d)) is (a.rows d)) in
+          ap (holds (is_closed s.retired)) sh.is ∙ (closed_shown s.retired r sh.draft sh.shows ∙ e)

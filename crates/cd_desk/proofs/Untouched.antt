@@ -1,9 +1,9 @@
 -- A desk at which nothing has happened.
-use Rattle.std.proofs.Common.{◌≡◌, ℕ, zero, suc, ◌+◌, List, [], ◌∷◌, ◌++◌, false, length, drop, refl, sym, ap, ◌∙◌, arith, None, Option, slice_get, subst}
+use Rattle.std.proofs.Common.{◌≡◌, ℕ, zero, suc, ◌+◌, List, [], ◌∷◌, ◌++◌, false, length, refl, sym, ap, ◌∙◌, arith, None, Option, slice_get, subst}
 use Rattle.cd_outside.specs.declared.fixtures.FixtureCall.{FixtureCall}
 use Rattle.cd_pool.specs.Pairs.{pairs}
 use Rattle.cd_desk.specs.declared.desk.Desk.{Desk}
-use Rattle.cd_desk.specs.Rows.{ShowsAt}
+use Rattle.cd_desk.specs.Rows.{ShowsAt, row_with}
 use Rattle.cd_desk.specs.Desks.{Holds, told_ticket, told_at, none_open}
 use Rattle.cd_desk.proofs.Keeping.{calls_none}
 
@@ -28,16 +28,16 @@ length_none zero = refl
 length_none (suc n) = ap suc (length_none n)
 
 module _ {F : Type 0} (calls : F → Option (List FixtureCall)) where
-  pub nothing_yet : (v : Desk F) (callers : ℕ) → v.serial ≡ 0 → v.halted ≡ false → v.begun ≡ 0 → v.opening_retired ≡ false → v.books.first ≡ 0 → v.books.rows.items ≡ [] → v.books.pool.held ≡ [] → v.tickets.by_caller.items ≡ none_open callers → Holds calls v v []
-  nothing_yet v callers serial halted begun kept first rows held tickets = record {
+  pub nothing_yet : (v : Desk F) (callers : ℕ) → v.serial ≡ 0 → v.halted ≡ false → v.begun ≡ 0 → v.opening_retired ≡ false → v.books.next ≡ 0 → v.books.rows.items ≡ [] → v.books.pool.held ≡ [] → v.tickets.by_caller.items ≡ none_open callers → Holds calls v v []
+  nothing_yet v callers serial halted begun kept next rows held tickets = record {
     is_legal = refl;
     agrees = record {
       serial = sym serial;
       halted = sym halted;
       begun = sym begun;
-      drafts = (let e : length v.books.rows.items ≡ 0 = ap length rows in omega arith);
-      rows = λ j. subst (λ z. ShowsAt [] (slice_get z j) (slice_get (drop v.books.first []) j)) (sym rows) (subst (λ z. ShowsAt [] None (slice_get (drop z []) j)) (sym first) tt);
-      closed = λ d lt. absurd (omega arith);
+      drafts = sym next;
+      rows = λ d. subst (λ z. ShowsAt [] (row_with d z) None) (sym rows) tt;
+      closed = λ d lt none. absurd (omega (arith, lt, next));
       retired = λ n has. cc;
       opening_retired = sym kept;
       pairs = sym (ap pairs held);

@@ -1,5 +1,5 @@
 -- What a desk stands for.
-use Rattle.std.specs.Prelude.{◌≡◌, ℕ, zero, suc, ◌+◌, ◌<◌, ◌==◌, cond, true, min, List, [], ◌∷◌, ◌++◌, length, drop, slice_get, Option, Some, None}
+use Rattle.std.specs.Prelude.{◌≡◌, ℕ, zero, suc, ◌+◌, ◌<◌, ◌==◌, cond, true, min, List, [], ◌∷◌, ◌++◌, length, slice_get, Option, Some, None}
 use Rattle.cd_outside.specs.declared.fixtures.FixtureCall.{FixtureCall}
 use Rattle.cd_outside.specs.FixtureCall.{CallsGrow}
 use Rattle.cd_outside.specs.Counts.{count_end}
@@ -14,7 +14,7 @@ use Rattle.cd_legal.specs.Calls.{fixture_calls}
 use Rattle.cd_legal.specs.Begins.{begins_now}
 use Rattle.cd_legal.specs.Whole.{is_closed_in}
 use Rattle.cd_desk.specs.declared.desk.Desk.{Desk}
-use Rattle.cd_desk.specs.Rows.{ShowsAt}
+use Rattle.cd_desk.specs.Rows.{ShowsAt, row_with}
 
 abbrev pub told_ticket : Option (Option ℕ) → Option ℕ
 told_ticket None = None
@@ -41,14 +41,14 @@ none_open (suc n) = None ∷ none_open n
 
 module _ {F : Type 0} (calls : F → Option (List FixtureCall)) where
   -- the desk keeps what the state says, so many requests began under the serial, and since the opening desk the fixtures were
-  -- called so; the rows show the drafts from the first row's on, and those before are closed
+  -- called so; each row shows its draft, and the drafts without one are closed
   pub record Agrees (opening b : Desk F) (s : State) (told : List FixtureCall) (count : ℕ) : Type 0 where
     pub serial : s.serial ≡ b.serial
     pub halted : s.halted ≡ b.halted
     pub begun : min count count_end ≡ b.begun
-    pub drafts : length s.drafts ≡ b.books.first + length b.books.rows.items
-    pub rows : (place : ℕ) → ShowsAt s.retired (slice_get b.books.rows.items place) (slice_get (drop b.books.first s.drafts) place)
-    pub closed : (d : ℕ) → d < b.books.first → is_closed_in s d ≡ true
+    pub drafts : length s.drafts ≡ b.books.next
+    pub rows : (d : ℕ) → ShowsAt s.retired (row_with d b.books.rows.items) (slice_get s.drafts d)
+    pub closed : (d : ℕ) → d < b.books.next → row_with d b.books.rows.items ≡ None → is_closed_in s d ≡ true
     pub retired : (n : ℕ) → has_number n s.retired ≡ true → n < s.serial
     pub opening_retired : has_number 0 s.retired ≡ b.opening_retired
     pub pairs : s.pairs ≡ pairs b.books.pool.held

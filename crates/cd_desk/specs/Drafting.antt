@@ -1,5 +1,5 @@
 -- What is there of a new draft.
-use Rattle.std.specs.Prelude.{◌≡◌, ℕ, List, ◌+◌, false, length}
+use Rattle.std.specs.Prelude.{◌≡◌, ℕ, List, false}
 use Rattle.cd_tree.specs.declared.tree.Tree.{Tree}
 use Rattle.cd_legal.specs.declared.plan.Plan.{Plan}
 use Rattle.cd_legal.specs.declared.part.Part.{Part}
@@ -13,7 +13,7 @@ use Rattle.cd_desk.specs.Books.{RowAt}
 
 -- how many drafts were made
 abbrev pub drafts_in : Books → ℕ
-drafts_in b = b.first + length b.rows.items
+drafts_in b = b.next
 
 -- none of these is opened
 pub record IsNew (kind : Part) (p : Plan) (held : List Held) (l : Line) : Type 0 where

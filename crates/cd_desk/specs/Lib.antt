@@ -11,6 +11,5 @@ pub mod Publishing
 pub mod Lefts
 pub mod Closings
 pub mod Trimming
-pub mod Clearing
 pub mod Emptying
 pub mod Serials

@@ -1,5 +1,5 @@
 -- The instances of a draft, or its apps, one behind the other.
-use Rattle.std.specs.Prelude.{◌≡◌, ℕ, ◌≤◌, ◌+◌, ◌-◌, cond, List, [], length, reverse, slice_get, slice_set, Option, Some, Result, is_ok}
+use Rattle.std.specs.Prelude.{◌≡◌, ℕ, ◌≤◌, ◌+◌, ◌-◌, List, [], length, reverse, slice_get, slice_set, Option, Some, Result}
 use Rattle.cd_outside.specs.declared.key.Key.{Key}
 use Rattle.cd_outside.specs.declared.fixtures.FixtureCall.{FixtureCall}
 use Rattle.cd_pool.specs.Pairs.{Holdings}
@@ -20,7 +20,8 @@ pub record OpensNext (d : ℕ) (l m : Line) (old new : Holdings) (before after :
   pub there : slice_get l.parts.items l.opened ≡ Some was
   pub parts : m.parts.items ≡ slice_set l.parts.items l.opened is
   pub takes : Takes (reverse was.waiting.items) (part_of l.part d l.opened) old.held new.held before after is.leases.items result
-  pub spare : new.spare + waits was ≡ old.spare + waits is + cond (is_ok result) 0 1
+  pub spare : old.spare ≤ new.spare + waits was
+  pub none : waits is ≡ 0
   pub opened : m.opened ≡ l.opened + 1
   pub ended : m.ended ≡ l.ended
   pub part : m.part ≡ l.part

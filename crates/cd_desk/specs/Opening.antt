@@ -1,5 +1,5 @@
 -- What the calls that open an instance or an app of a draft ask for, and their entries.
-use Rattle.std.specs.Prelude.{◌≡◌, ℕ, ◌+◌, ◌<◌, false, List, length, Option, Result}
+use Rattle.std.specs.Prelude.{◌≡◌, ℕ, ◌<◌, false, List, length, Option, Result}
 use Rattle.cd_outside.specs.declared.key.Key.{Key}
 use Rattle.cd_outside.specs.declared.fixtures.FixtureCall.{FixtureCall}
 use Rattle.cd_legal.specs.declared.part.Part.{Part}
@@ -12,7 +12,7 @@ use Rattle.cd_desk.specs.declared.books.Books.{Books}
 use Rattle.cd_desk.specs.declared.desk.Desk.{Desk}
 use Rattle.cd_desk.specs.Instances.{failed_of}
 use Rattle.cd_desk.specs.Rows.{line_at}
-use Rattle.cd_desk.specs.Books.{RowAt, Opens}
+use Rattle.cd_desk.specs.Books.{RowAt, HasRowAt, Opens}
 use Rattle.cd_desk.specs.Desks.{AddsTo}
 
 -- an app waits for all instances
@@ -40,6 +40,6 @@ module _ {F : Type 0} (calls : F → Option (List FixtureCall)) where
   -- the next one is opened, and its entry is added, with the number of the keys that it has taken
   pub record OpensEntry (part : Part) (v w : Desk F) (d : ℕ) (result : Result (Unit {0}) Key) : Type 0 where
     pub place : ℕ
-    pub number : d ≡ v.books.first + place
+    pub at : HasRowAt v.books d place
     pub opens : Opens part place v.books w.books (calls v.fixtures) (calls w.fixtures) result
     pub adds : AddsTo calls v w (opening_entry part d (line_at part opens.changes.was).opened (length opens.opens.takes.0) (failed_of result))

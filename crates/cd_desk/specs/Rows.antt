@@ -1,5 +1,6 @@
 -- What a row of the board shows of a draft.
-use Rattle.std.specs.Prelude.{◌≡◌, ℕ, ◌+◌, Bool, true, false, List, [], slice_get, sum_by, Option, Some, None, is_some}
+use Rattle.std.specs.Prelude.{◌≡◌, ℕ, suc, ◌+◌, ◌≤◌, ◌==◌, Bool, true, false, cond, List, [], ◌∷◌, slice_get, sum_by, Option, Some, None, is_some}
+use Rattle.std.specs.Coded.{le_prop}
 use Rattle.cd_outside.specs.declared.holder.Holder.{Holder}
 use Rattle.cd_legal.specs.declared.part.Part.{Part}
 use Rattle.cd_legal.specs.declared.part.Part.TheVariants.{Instance, App}
@@ -39,18 +40,33 @@ pub record Shows (retired : List ℕ) (r : Row) (x : Drafted) : Type 0 where
   pub cleaned : x.cleaned ≡ r.modules.ended
   pub over : is_retired retired x.life ≡ r.retired
 
+-- where the draft has a row
 abbrev pub ShowsAt : List ℕ → Option Row → Option Drafted → Type 0
-ShowsAt retired None None = Unit {0}
-ShowsAt retired None (Some x) = ⊥
+ShowsAt retired None x = Unit {0}
 ShowsAt retired (Some r) None = ⊥
 ShowsAt retired (Some r) (Some x) = Shows retired r x
+
+-- the row of a draft, if it has one
+abbrev pub row_with : ℕ → List Row → Option Row
+row_with d [] = None
+row_with d (r ∷ rows) = cond (d == r.number) (Some r) (row_with d rows)
+
+-- the numbers of the drafts rise, from the one number on, and are below the other
+abbrev pub Numbered : ℕ → List Row → ℕ → Type 0
+Numbered from [] to = from ≤ to
+Numbered from (r ∷ rows) to = (from ≤ r.number) × Numbered (suc r.number) rows to
+
+-- there is one proof of it at most
+pub Numbered-prop : (from : ℕ) (rows : List Row) (to : ℕ) → IsProp (Numbered from rows to)
+Numbered-prop from [] to p q = le_prop p q
+Numbered-prop from (r ∷ rows) to p q = λ i. (le_prop p.0 q.0 i, Numbered-prop (suc r.number) rows to p.1 q.1 i)
 
 -- the leases of an instance or an app
 abbrev pub leases_in : Option Held → List ℕ
 leases_in None = []
 leases_in (Some a) = a.leases.items
 
--- those of the one at a place of a row
+-- those of the one at a place of a draft that has this row, if it has one
 abbrev pub leases_at : Option Row → Bool → ℕ → List ℕ
 leases_at None app i = []
 leases_at (Some r) app i = leases_in (slice_get (line_by app r).parts.items i)

@@ -37,8 +37,9 @@ fn new_desk<F: Fixtures>(alloc: Global, fixtures: F, tickets: Tickets, callers: 
     let _ = callers;
     let books = Books {
         pool: Pool::new(alloc),
-        first: 0,
+        next: 0,
         rows: Vec::new(alloc),
+        waits: 0,
     };
     Desk {
         fixtures,

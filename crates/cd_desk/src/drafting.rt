@@ -1,11 +1,9 @@
-ghost use Rattle.std.specs.Prelude.{◌≡◌, ◌≤◌, ◌+◌, ◌<◌, [], length, reverse, map, IfOk, All, sum_by, IfSome, IsTrue};
+ghost use Rattle.std.specs.Prelude.{◌≡◌, ◌≤◌, ◌+◌, ◌<◌, ◌^◌, [], length, reverse, map, IfOk, All, sum_by, IfSome};
 ghost use Rattle.std.specs.Vec.{vec_len, vec_capacity};
-ghost use Rattle.cd_desk.specs.Rows.{row_waits};
 ghost use Rattle.cd_desk.specs.Waiting.{AllWait, IsEmpty, waits};
 
 use crate::books::Books;
 use crate::instance::Instance;
-use crate::row::Row;
 use cd_legal::{PlanApp, PlanModule};
 use cd_outside::Key;
 use cd_text::NoMemory;
@@ -88,7 +86,7 @@ pub(crate) fn apps_for(alloc: Global, apps: &[PlanApp]) -> Result<Vec<Instance>,
     Ok(parts)
 }
 
-// How many keys the instances are to take.
+// How many keys the instances are to take, as far as that can be counted.
 fn waiting(parts: &[Instance]) -> Option<usize>
     ensures { IfSome result (λ n. n ≡ sum_by waits parts.now) }
 {
@@ -99,39 +97,50 @@ fn waiting(parts: &[Instance]) -> Option<usize>
     Some(keys)
 }
 
-// How many keys the instances and apps of these rows are to take.
-fn rows_waiting(rows: &[Row]) -> Option<usize>
-    ensures { IfSome result (λ n. n ≡ sum_by row_waits rows.now) }
+// How many keys these are to take.
+fn both_waiting(modules: &[Instance], apps: &[Instance]) -> Option<usize>
+    ensures { IfSome result (λ n. n ≡ sum_by waits modules.now + sum_by waits apps.now) }
 {
-    let mut keys: usize = 0;
-    for row in rows {
-        let modules = waiting(row.modules.parts.as_slice())?;
-        let apps = waiting(row.apps.parts.as_slice())?;
-        keys = keys.checked_add(modules.checked_add(apps)?)?;
-    }
-    Some(keys)
+    waiting(modules)?.checked_add(waiting(apps)?)
 }
 
-// How many keys all are to take, with these instances.
-fn all_waiting(rows: &[Row], modules: &[Instance], apps: &[Instance]) -> Option<u32>
-    ensures { IfSome result (λ n. n ≡ sum_by row_waits rows.now + (sum_by waits modules.now + sum_by waits apps.now)) }
+// How many there are with so many more.
+fn sum(keys: usize, more: usize) -> Option<u32>
+    ensures { IfSome result (λ n. n ≡ keys + more) }
 {
-    let had = rows_waiting(rows)?;
-    let modules = waiting(modules)?;
-    let apps = waiting(apps)?;
-    u32::try_from(had.checked_add(modules.checked_add(apps)?)?).ok()
+    u32::try_from(keys.checked_add(more)?).ok()
 }
 
-// Makes room in the pool for these instances beside those that wait, and for a row.
-pub(crate) fn make_room(books: &mut Books, modules: &[Instance], apps: &[Instance]) -> bool
-    ensures first { books.new.first ≡ books.old.first }
+// Makes room in the pool for these instances beside those that wait, and for a row. The answer is how many keys they are to take.
+pub(crate) fn make_room(books: &mut Books, modules: &[Instance], apps: &[Instance]) -> Option<usize>
+    ensures next { books.new.next ≡ books.old.next }
     ensures rows { books.new.rows.items ≡ books.old.rows.items }
+    ensures waits { books.new.waits ≡ books.old.waits }
     ensures held { books.new.pool.held ≡ books.old.pool.held }
-    ensures room { IsTrue result → sum_by row_waits books.old.rows.items + (sum_by waits modules.now + sum_by waits apps.now) ≤ books.new.pool.spare }
-    ensures place { IsTrue result → vec_len books.new.rows < vec_capacity books.new.rows }
+    ensures keys { IfSome result (λ n. n ≡ sum_by waits modules.now + sum_by waits apps.now) }
+    ensures sum { IfSome result (λ n. books.old.waits + n < 2 ^ 64) }
+    ensures room { IfSome result (λ n. books.old.waits + n ≤ books.new.pool.spare) }
+    ensures place { IfSome result (λ _. vec_len books.new.rows < vec_capacity books.new.rows) }
 {
-    let Some(keys) = all_waiting(books.rows.as_slice(), modules, apps) else {
-        return false;
-    };
-    books.rows.reserve(1).is_ok() && books.pool.reserve(keys).is_ok()
+    let more = both_waiting(modules, apps)?;
+    let keys = sum(books.waits, more)?;
+    if books.rows.reserve(1).is_err() {
+        return None;
+    }
+    if books.pool.reserve(keys).is_err() {
+        return None;
+    }
+    Some(more)
+}
+
+// How many keys the instances are to take, which are not too many to be counted.
+pub(crate) fn count_waiting(parts: &[Instance]) -> usize
+    requires { sum_by waits parts.now < 2 ^ 64 }
+    ensures { result ≡ sum_by waits parts.now }
+{
+    let mut keys = 0;
+    for part in parts {
+        keys += part.waiting.len();
+    }
+    keys
 }

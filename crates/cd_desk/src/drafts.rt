@@ -1,4 +1,4 @@
-ghost use Rattle.std.specs.Prelude.{◌≡◌, ◌<◌, ◌≤◌, ◌+◌, ◌-◌, ◌^◌, ◌++◌, ◌∷◌, ◌↔◌, [], Err, All, length, sum_by, IfOk, OnErr};
+ghost use Rattle.std.specs.Prelude.{◌≡◌, ◌<◌, ◌≤◌, ◌+◌, ◌-◌, ◌^◌, ◌++◌, ◌∷◌, ◌↔◌, [], Err, All, length, IfOk, OnErr};
 ghost use Rattle.std.specs.Vec.{vec_len, vec_capacity};
 ghost use Rattle.cd_legal.specs.declared.entry.Entry.TheVariants as entry;
 ghost use Rattle.cd_legal.specs.declared.part.Part.TheVariants as part;
@@ -48,10 +48,11 @@ fn new_line(part: Part, plan: &Plan, parts: Vec<Instance>) -> Line
 }
 
 // The row of a new draft.
-fn new_row(tree: &Tree, plan: &Plan, modules: Line, apps: Line) -> Row
+fn new_row(number: u64, tree: &Tree, plan: &Plan, modules: Line, apps: Line) -> Row
     requires modules { (modules.part ≡ part.Instance) × (modules.plan.value ≡ plan.now) }
     requires apps { (apps.part ≡ part.App) × (apps.plan.value ≡ plan.now) }
     requires whole { IsWhole modules × IsWhole apps }
+    ensures number { result.number ≡ number }
     ensures tree { result.tree.value ≡ tree.now }
     ensures plan { result.plan.value ≡ plan.now }
     ensures modules { result.modules ≡ modules }
@@ -61,6 +62,7 @@ fn new_row(tree: &Tree, plan: &Plan, modules: Line, apps: Line) -> Row
     let tree = Snapshot::of(tree);
     let plan = Snapshot::of(plan);
     Row {
+        number,
         tree,
         plan,
         modules,
@@ -71,18 +73,23 @@ fn new_row(tree: &Tree, plan: &Plan, modules: Line, apps: Line) -> Row
     }
 }
 
-// Adds a row, for which there is room.
-fn add_row(books: &mut Books, row: Row)
+// Adds the row of the next draft, which is to take so many keys, and for which there is room.
+fn add_row(books: &mut Books, row: Row, waits: usize)
     requires place { vec_len books.old.rows < vec_capacity books.old.rows }
-    requires number { books.old.first + length books.old.rows.items < 2 ^ 64 - 1 }
+    requires number { row.number ≡ books.old.next }
+    requires bound { books.old.next < 2 ^ 64 - 1 }
     requires modules { All IsEmpty row.modules.parts.items }
     requires apps { All IsEmpty row.apps.parts.items }
-    requires room { sum_by row_waits books.old.rows.items + row_waits row ≤ books.old.pool.spare }
-    ensures first { books.new.first ≡ books.old.first }
+    requires waits { waits ≡ row_waits row }
+    requires sum { books.old.waits + waits < 2 ^ 64 }
+    requires room { books.old.waits + waits ≤ books.old.pool.spare }
+    ensures next { books.new.next ≡ books.old.next + 1 }
     ensures rows { books.new.rows.items ≡ books.old.rows.items ++ row ∷ [] }
     ensures pool { books.new.pool ≡ books.old.pool }
 {
     books.rows.push_reserved(row);
+    books.next += 1;
+    books.waits += waits;
 }
 
 impl<F: Fixtures> Desk<F> {
@@ -98,9 +105,10 @@ impl<F: Fixtures> Desk<F> {
         ensures row { IfOk result (λ d. HasNew self.new.books d tree.now plan.now) }
         ensures err { OnErr result (Keeps F.calls self.old self.new) }
         ensures spent { result ≡ Err fault.Spent ↔ drafts_in self.old.books ≡ MAX_DRAFTS }
+        ensures unspent { IfOk result (λ _. drafts_in self.old.books < MAX_DRAFTS) }
         ensures faults { F.faults self.new.fixtures ≡ F.faults self.old.fixtures }
     {
-        let number = self.books.first + self.books.rows.len() as u64;
+        let number = self.books.next;
         if number == MAX_DRAFTS {
             return Err(DraftFault::Spent);
         }
@@ -111,15 +119,15 @@ impl<F: Fixtures> Desk<F> {
             end_all(modules);
             return Err(DraftFault::NoMemory);
         };
-        if !make_room(&mut self.books, modules.as_slice(), apps.as_slice()) {
+        let Some(waits) = make_room(&mut self.books, modules.as_slice(), apps.as_slice()) else {
             end_all(modules);
             end_all(apps);
             return Err(DraftFault::NoMemory);
-        }
+        };
         let modules = new_line(Part::Instance, plan, modules);
         let apps = new_line(Part::App, plan, apps);
-        let row = new_row(tree, plan, modules, apps);
-        add_row(&mut self.books, row);
+        let row = new_row(number, tree, plan, modules, apps);
+        add_row(&mut self.books, row, waits);
         Ok(number)
     }
 }

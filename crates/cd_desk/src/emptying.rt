@@ -27,8 +27,9 @@ fn end_books(books: Books)
 {
     let Books {
         pool,
-        first: _,
+        next: _,
         rows,
+        waits: _,
     } = books;
     pool.end();
     end_rows(rows);

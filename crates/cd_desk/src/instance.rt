@@ -55,7 +55,7 @@ fn release<F: Fixtures>(pool: &mut Pool, fixtures: &mut F, lease: Lease)
 }
 
 impl Instance {
-    // Takes the keys that wait, in order, up to one that could not be opened.
+    // Takes the keys that wait, in order, up to one that could not be opened. After it none waits.
     pub(crate) fn take_all<F: Fixtures>(
         &mut self,
         pool: &mut Pool,
@@ -66,14 +66,18 @@ impl Instance {
         requires new { self.old.leases.items ≡ [] }
         requires none { leases_of holder pool.old.held ≡ [] }
         ensures takes { Takes (reverse self.old.waiting.items) holder pool.old.held pool.new.held (F.calls fixtures.old) (F.calls fixtures.new) self.new.leases.items result }
-        ensures spare { pool.new.spare + length self.old.waiting.items ≡ pool.old.spare + length self.new.waiting.items + cond (is_ok result) 0 1 }
+        ensures spare { pool.old.spare ≤ pool.new.spare + length self.old.waiting.items }
+        ensures none { self.new.waiting.items ≡ [] }
         ensures later { F.faults fixtures.old ≤ F.faults fixtures.new }
         ensures cause { IfErr result (λ _. Rose (F.faults fixtures.old) (F.faults fixtures.new)) }
     {
         while let Some(key) = self.waiting.pop() {
             match acquire(pool, fixtures, key, holder) {
                 Ok(lease) => self.leases.push_reserved(lease),
-                Err(key) => return Err(key),
+                Err(key) => {
+                    self.waiting.clear();
+                    return Err(key);
+                }
             }
         }
         Ok(())

@@ -6,18 +6,18 @@
 //!
 //! Each draft has a row (row.rt) with two lines (line.rt): its instances and its apps, which go the same way. All memory is taken
 //! when a draft is made (drafting.rt): each instance has copies of its keys, and room for their leases, and the pool has room for
-//! all. `Books` (books.rt) are the rows with the pool. What a closed draft kept goes at once, and its row once it is the first.
+//! all. `Books` (books.rt) are the rows, by rising numbers of their drafts, with the pool. The row of a closed draft goes at once, so
+//! what is kept does not grow with loads that failed.
 //!
 //! Files: instance.rt takes and gives back the keys of one instance; opening.rt opens and ends one of a line, rows.rt one of a
 //! draft, making.rt and steps.rt one as an entry; drafts.rt, lives.rt and tickets.rt have the other entries that lead to a
-//! publishing. clearing.rt lets go of what a closed draft kept, and trimming.rt of its row; emptying.rt ends a desk of which
-//! nothing is left. What is published and given up, and what is tied to modules, is left to `cd_life`.
+//! publishing. trimming.rt lets go of the rows of closed drafts; emptying.rt ends a desk of which nothing is left. What is
+//! published and given up, and what is tied to modules, is left to `cd_life`.
 #![tactic(auto)]
 
 mod beginning;
 mod books;
 mod callers;
-mod clearing;
 mod closing;
 mod desk;
 mod drafting;

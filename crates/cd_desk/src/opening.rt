@@ -22,6 +22,14 @@ pub(crate) fn holder_of(part: Part, draft: u64, place: u32) -> Holder
 }
 
 impl Line {
+    // How many keys the next one is to take.
+    pub(crate) fn next_waits(&self) -> usize
+        requires { self.now.opened < length self.now.parts.items }
+        ensures { IfSome (slice_get self.now.parts.items self.now.opened) (λ a. result ≡ waits a) }
+    {
+        self.parts[self.opened as usize].waiting.len()
+    }
+
     // Opens the next one, for which the pool has room.
     pub(crate) fn open_next<F: Fixtures>(
         &mut self,

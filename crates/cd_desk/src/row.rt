@@ -10,6 +10,8 @@ use std::snapshot::Snapshot;
 
 /// What the board keeps of one draft. It is not dropped, since its instances must be cleaned.
 pub struct Row {
+    // the number of the draft
+    pub(crate) number: u64,
     pub(crate) tree: Snapshot<Tree>,
     pub(crate) plan: Snapshot<Plan>,
     pub(crate) modules: Line,

@@ -1,22 +1,45 @@
-ghost use Rattle.std.specs.Prelude.{◌≡◌, ◌≢◌, ◌<◌, ◌+◌, ◌≤◌, IfErr, length};
+ghost use Rattle.std.specs.Prelude.{◌≡◌, ◌≢◌, ◌<◌, ◌≤◌, ◌==◌, IfErr, length};
 ghost use Rattle.std.specs.Vec.{vec_capacity};
 ghost use Rattle.cd_outside.specs.Counts.{Rose};
 ghost use Rattle.cd_legal.specs.declared.part.Part.TheVariants as part;
 ghost use Rattle.cd_legal.specs.declared.state.Life.TheVariants.{Live};
 ghost use Rattle.cd_desk.specs.declared.row.Row.{Row};
-ghost use Rattle.cd_desk.specs.Books.{HasRow, CanOpen, CanEnd, Opens, Ends, Lives, Retires};
+ghost use Rattle.cd_desk.specs.Books.{HasRow, HasRowAt, IsRowPlace, CanOpen, CanEnd, Opens, Ends, Lives, Retires};
 
 use crate::books::Books;
+use crate::row::Row;
 use cd_legal::{Life, Part};
 use cd_outside::{Fixtures, Key};
 
-// The place of a draft among the rows.
+// Whether it is the row of the draft.
+fn has_number(row: &Row, draft: u64) -> bool
+    ensures { result ≡ (draft == row.now.number) }
+{
+    row.number == draft
+}
+
+// The place of the row of a draft, if it has one.
+pub(crate) fn find(rows: &[Row], draft: u64) -> Option<usize>
+    ensures { IsRowPlace draft rows.now result }
+{
+    for (place, row) in rows.iter().enumerate() {
+        if has_number(row, draft) {
+            return Some(place);
+        }
+    }
+    None
+}
+
+// The place of a draft that has a row.
 pub(crate) fn place_of(books: &Books, draft: u64) -> usize
     requires there { HasRow books.now draft }
-    ensures place { draft ≡ books.now.first + result }
+    ensures at { HasRowAt books.now draft result }
     ensures within { result < length books.now.rows.items }
 {
-    (draft - books.first) as usize
+    let Some(place) = find(books.rows.as_slice(), draft) else {
+        unreachable!()
+    };
+    place
 }
 
 // The next instance of the draft at this place is made.
@@ -31,10 +54,12 @@ pub(crate) fn make_in<F: Fixtures>(
     ensures later { F.faults fixtures.old ≤ F.faults fixtures.new }
     ensures cause { IfErr result (λ _. Rose (F.faults fixtures.old) (F.faults fixtures.new)) }
 {
-    let draft = books.first + place as u64;
     let row = &mut books.rows[place];
+    let draft = row.number;
+    let taken = row.modules.next_waits();
     let opened = row.modules.open_next(&mut books.pool, fixtures, draft);
     row.failed = opened.is_err();
+    books.waits -= taken;
     opened
 }
 
@@ -50,10 +75,12 @@ pub(crate) fn start_in<F: Fixtures>(
     ensures later { F.faults fixtures.old ≤ F.faults fixtures.new }
     ensures cause { IfErr result (λ _. Rose (F.faults fixtures.old) (F.faults fixtures.new)) }
 {
-    let draft = books.first + place as u64;
     let row = &mut books.rows[place];
+    let draft = row.number;
+    let taken = row.apps.next_waits();
     let opened = row.apps.open_next(&mut books.pool, fixtures, draft);
     row.failed = opened.is_err();
+    books.waits -= taken;
     opened
 }
 
@@ -74,10 +101,9 @@ pub(crate) fn stop_in<F: Fixtures>(books: &mut Books, fixtures: &mut F, place: u
     ensures faults { F.faults fixtures.new ≡ F.faults fixtures.old }
     ensures capacity { vec_capacity books.new.rows ≡ vec_capacity books.old.rows }
 {
-    let draft = books.first + place as u64;
-    books.rows[place]
-        .apps
-        .end_last(&mut books.pool, fixtures, draft);
+    let row = &mut books.rows[place];
+    let draft = row.number;
+    row.apps.end_last(&mut books.pool, fixtures, draft);
 }
 
 // The last instance that is made and not cleaned is cleaned, of the draft at this place.
@@ -87,10 +113,9 @@ pub(crate) fn clean_in<F: Fixtures>(books: &mut Books, fixtures: &mut F, place: 
     ensures faults { F.faults fixtures.new ≡ F.faults fixtures.old }
     ensures capacity { vec_capacity books.new.rows ≡ vec_capacity books.old.rows }
 {
-    let draft = books.first + place as u64;
-    books.rows[place]
-        .modules
-        .end_last(&mut books.pool, fixtures, draft);
+    let row = &mut books.rows[place];
+    let draft = row.number;
+    row.modules.end_last(&mut books.pool, fixtures, draft);
 }
 
 // The serial of the draft at this place is retired.

@@ -24,7 +24,7 @@ impl<F: Fixtures> Desk<F> {
             Some(place) => {
                 let row = &self.books.rows[place];
                 Closing {
-                    number: self.books.first + place as u64,
+                    number: row.number,
                     serial: Some(serial),
                     apps: row.apps.opened - row.apps.ended,
                     instances: row.modules.opened - row.modules.ended,

@@ -270,7 +270,7 @@ module _ {A F B : Type 0} {k : _} (calls : F → Option (List FixtureCall)) (fau
       subst (IsMade b) (started_is (state_at (view p).seen) (held d) adds.0 failed has.live is.0) is
 
   -- as many drafts were made as the books say
-  pub drafts_here : length (state_at (view p).seen).drafts ≡ t.value.desk.books.first + length t.value.desk.books.rows.items
+  pub drafts_here : length (state_at (view p).seen).drafts ≡ t.value.desk.books.next
   drafts_here = h.board.desk.agrees.drafts
 
 -- between the board that was found and the one that was left the faults rose, where the call failed

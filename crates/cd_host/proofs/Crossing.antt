@@ -6,10 +6,13 @@ use Rattle.std.proofs.Crossing as std
 use Rattle.cd_tree.proofs.tree.Tree.TheLaws.TheKnot as trees
 use Rattle.cd_tree.specs.contracts.tree.Tree as Tree
 use Rattle.cd_legal.proofs.plan.Plan.TheSendSync as plan
+use Rattle.cd_pool.proofs.pool.Pool.TheSendSync as pool
 use Rattle.cd_module_set.specs.contracts.loaded.Loaded as Loaded
 use Rattle.cd_life.specs.contracts.share.Nothing as Nothing
 use Rattle.cd_life.specs.contracts.board.Kept as Kept
 use Rattle.cd_life.specs.contracts.board.Board as Board
+use Rattle.cd_desk.specs.contracts.row.Row as Row
+use Rattle.cd_desk.specs.contracts.books.Books as Books
 use Rattle.cd_desk.specs.contracts.desk.Desk as Desk
 use Rattle.cd_gate.proofs.gate.Gate.TheSendSync as gate
 use Rattle.cd_gate.proofs.pass.Pass.TheSendSync as pass
@@ -23,8 +26,16 @@ tree_send = search (trees.crosses_both, std.crosses, sendable) depth 60 fits 200
 tree_sync : IsSync Tree.the_row
 tree_sync = search (trees.crosses_both, std.crosses, sendable) depth 60 fits 20000
 
+row_send : IsSend Row.the_row
+row_send = declared_send Row.the_type (search (std.crosses, sendable) depth 60 fits 20000)
+
+books_send : IsSend Books.the_row
+books_send =
+    let r = row_send in
+    declared_send Books.the_type (pool.the_send, (search sendable, (search (r, std.crosses, sendable), (search sendable, tt))))
+
 desk_send : (F : RattleType) → IsSend F → IsSend (Desk.the_row F)
-desk_send F fs = declared_send (Desk.the_type F) (search (fs, sendable), (search (std.crosses, sendable) depth 60 fits 20000))
+desk_send F fs = let b = books_send in declared_send (Desk.the_type F) (search (fs, sendable), (b, (search (std.crosses, sendable) depth 60 fits 20000)))
 
 module _ (M F C : RattleType) (g : _) (fs : IsSend F) (cs : IsSend C) (cy : IsSync C) where
   loaded_send : IsSend (Loaded.the_row M C g)

@@ -10,8 +10,7 @@ ghost use Rattle.cd_desk.specs.declared.left.Left.{Left};
 ghost use Rattle.cd_desk.specs.Drafting.{drafts_in};
 ghost use Rattle.cd_desk.specs.Lefts.{IsLeft, step_at};
 ghost use Rattle.cd_desk.specs.Closings.{IsClosing, MayClean, CanRetire, Leaves};
-ghost use Rattle.cd_desk.specs.Clearing.{IsCleared};
-ghost use Rattle.cd_desk.specs.Trimming.{IsTrimmed};
+ghost use Rattle.cd_desk.specs.Trimming.{IsCleared, IsTrimmed};
 ghost use Rattle.cd_life.specs.Rooms.{KeepsRoom};
 ghost use Rattle.cd_life.specs.Standing.{Stood, Adds, Keeps};
 

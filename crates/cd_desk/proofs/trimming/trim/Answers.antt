@@ -7,6 +7,6 @@ loop-books-init c = record { trims = trims_none c.args.books.now; capacity = ref
 
 pub loop-books-preserved : goal.loop-books-preserved
 loop-books-preserved c = record {
-  trims = trims_on c.args.books.now c.loop-books.books c.loop-books.invariant.trims _ c.drop_first.ensures.trims;
-  capacity = c.drop_first.ensures.capacity ∙ c.loop-books.invariant.capacity;
+  trims = trims_on c.args.books.now c.loop-books.books _ c.loop-books.invariant.trims c.drop_at.ensures.trims;
+  capacity = c.drop_at.ensures.capacity ∙ c.loop-books.invariant.capacity;
 }

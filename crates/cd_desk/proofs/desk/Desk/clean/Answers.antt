@@ -12,7 +12,7 @@ pub place_of-place-requires : goal.place_of-place-requires
 place_of-place-requires g c = let can = can_clean c.args.self.now c.args.closing.now c.requires.at c.requires.stopped c.requires.more c.requires.may in record { there = (can.place, can.row, can.at) }
 
 pub clean_in-requires : goal.clean_in-requires
-clean_in-requires g c = record { can = can_end Instance c.args.self.now c.args.closing.now.number c.place_of-place.result (can_clean c.args.self.now c.args.closing.now c.requires.at c.requires.stopped c.requires.more c.requires.may) c.place_of-place.ensures.place }
+clean_in-requires g c = record { can = can_end Instance c.args.self.now c.args.closing.now.number c.place_of-place.result (can_clean c.args.self.now c.args.closing.now c.requires.at c.requires.stopped c.requires.more c.requires.may) c.place_of-place.ensures.at }
 
 pub returns-clause-entry : goal.returns-clause-entry
 returns-clause-entry g c =
@@ -20,7 +20,7 @@ returns-clause-entry g c =
     let v = c.args.self.now in
     let k = c.args.closing.now in
     let place = c.place_of-place.result in
-    let number = c.place_of-place.ensures.place in
+    let number = c.place_of-place.ensures.at in
     let o = c.clean_in.ensures.ends in
     let was = o.changes.was in
     let rest = c.requires.at.rest (omega (arith, c.requires.more)) in
@@ -33,8 +33,8 @@ returns-clause-entry g c =
 pub returns-clause-at : goal.returns-clause-at
 returns-clause-at g c = record {
   superseded = c.requires.at.superseded;
-  rest = λ more. rest_cleaned c.args.self.now.books c.clean_in.new.books c.args.closing.now c.place_of-place.result _ _ c.place_of-place.ensures.place (c.requires.at.rest (omega (arith, c.requires.more))) c.clean_in.ensures.ends c.requires.more;
+  rest = λ more. rest_cleaned c.args.self.now.books c.clean_in.new.books c.args.closing.now c.place_of-place.result _ _ c.place_of-place.ensures.at (c.requires.at.rest (omega (arith, c.requires.more))) c.clean_in.ensures.ends c.requires.more;
 }
 
 pub returns-clause-clean : goal.returns-clause-clean
-returns-clause-clean g c = may_on Instance c.args.self.now.books c.clean_in.new.books c.args.closing.now.number c.place_of-place.result _ _ c.place_of-place.ensures.place c.clean_in.ensures.ends c.requires.may
+returns-clause-clean g c = may_on Instance c.args.self.now.books c.clean_in.new.books c.args.closing.now.number c.place_of-place.result _ _ c.place_of-place.ensures.at c.clean_in.ensures.ends c.requires.may

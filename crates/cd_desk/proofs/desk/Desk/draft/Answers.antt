@@ -1,5 +1,6 @@
-use Rattle.std.proofs.Common.{◌≡◌, ◌∙◌, ap, sym, subst, rules, arith, All, ◌+◌, length, map}
-use Rattle.cd_desk.specs.Waiting.{IsEmpty, AllWait}
+use Rattle.std.proofs.Common.{◌≡◌, ◌∙◌, ap, sym, subst, refl, rules, arith, All, ◌+◌, length, map, sum_by}
+use Rattle.cd_desk.specs.Rows.{line_waits}
+use Rattle.cd_desk.specs.Waiting.{IsEmpty, AllWait, waits}
 use Rattle.cd_desk.proofs.Planned.{all_empty, planned}
 use Rattle.cd_desk.proofs.Lists.{get_last}
 use Rattle.cd_desk.proofs.Standing.{adds}
@@ -9,11 +10,11 @@ use Rattle.cd_desk.proofs.desk.Desk.draft.Goals as goal
 pub end_all-requires : goal.end_all-requires
 end_all-requires g c = all_empty c.in-Ok.modules.items _ c.in-Ok.ensures
 
-pub end_all-requires-then-not-make_room : goal.end_all-requires-then-not-make_room
-end_all-requires-then-not-make_room g c = all_empty c.in-Ok.modules.items _ c.in-Ok.ensures
+pub end_all-requires-in_default-make_room : goal.end_all-requires-in_default-make_room
+end_all-requires-in_default-make_room g c = all_empty c.in-Ok.modules.items _ c.in-Ok.ensures
 
-pub end_all-requires-then-not-make_room-2 : goal.end_all-requires-then-not-make_room-2
-end_all-requires-then-not-make_room-2 g c = all_empty c.in-Ok-apps_for.apps.items _ c.in-Ok-apps_for.ensures
+pub end_all-requires-in_default-make_room-2 : goal.end_all-requires-in_default-make_room-2
+end_all-requires-in_default-make_room-2 g c = all_empty c.in-Ok-apps_for.apps.items _ c.in-Ok-apps_for.ensures
 
 pub new_line-modules-requires-clause-bound : goal.new_line-modules-requires-clause-bound
 new_line-modules-requires-clause-bound g c =
@@ -33,6 +34,14 @@ add_row-requires-clause-modules g c = subst (λ z. All IsEmpty z) (sym (ap (λ z
 pub add_row-requires-clause-apps : goal.add_row-requires-clause-apps
 add_row-requires-clause-apps g c = subst (λ z. All IsEmpty z) (sym (ap (λ z. z.parts.items) c.new_row-row.ensures.apps ∙ c.new_line-apps.ensures.parts)) (all_empty c.in-Ok-apps_for.apps.items _ c.in-Ok-apps_for.ensures)
 
+pub add_row-requires-clause-waits : goal.add_row-requires-clause-waits
+add_row-requires-clause-waits g c =
+    let r = c.new_row-row.ensures in
+    let keys : c.in-Some.waits ≡ sum_by waits c.in-Ok.modules.items + sum_by waits c.in-Ok-apps_for.apps.items = search rules in
+    let modules : line_waits c.new_row-row.result.modules ≡ sum_by waits c.in-Ok.modules.items = ap line_waits r.modules ∙ ap (sum_by waits) c.new_line-modules.ensures.parts in
+    let apps : line_waits c.new_row-row.result.apps ≡ sum_by waits c.in-Ok-apps_for.apps.items = ap line_waits r.apps ∙ ap (sum_by waits) c.new_line-apps.ensures.parts in
+    omega (arith, keys, modules, apps)
+
 pub returns-clause-entry : goal.returns-clause-entry
 returns-clause-entry g c =
     let v = c.args.self.now in
@@ -40,7 +49,7 @@ returns-clause-entry g c =
     let n = c.new_line-apps.ensures in
     let r = c.new_row-row.ensures in
     adds g.F.Fixtures.calls v _ _
-    (drafts g.F.Fixtures.calls v c.add_row.new.books c.new_row-row.result c.args.tree.now c.args.plan.now (v.books.first + c.len.result) (search rules) (omega arith) (search rules) (search rules) (search rules)
+    (drafts g.F.Fixtures.calls v c.add_row.new.books c.new_row-row.result c.args.tree.now c.args.plan.now v.books.next refl (omega arith) r.number (search rules) (search rules) (search rules)
     (λ retired. shows_new retired c.new_row-row.result c.args.tree.now c.args.plan.now r.tree r.plan r.rest (ap (λ z. z.opened) r.modules ∙ m.opened, ap (λ z. z.ended) r.modules ∙ m.ended) (ap (λ z. z.opened) r.apps ∙ n.opened, ap (λ z. z.ended) r.apps ∙ n.ended)))
 
 pub returns-clause-row : goal.returns-clause-row
@@ -50,9 +59,9 @@ returns-clause-row g c =
     let n = c.new_line-apps.ensures in
     let r = c.new_row-row.ensures in
     record {
-      place = c.len.result;
+      place = length v.books.rows.items;
       row = c.new_row-row.result;
-      at = record { number = search rules; there = get_last v.books.rows.items c.add_row.new.books.rows.items c.len.result c.new_row-row.result (search rules) (search rules) };
+      at = record { number = sym r.number; there = get_last v.books.rows.items c.add_row.new.books.rows.items (length v.books.rows.items) c.new_row-row.result (search rules) refl };
       tree = r.tree;
       plan = r.plan;
       unused = r.rest;

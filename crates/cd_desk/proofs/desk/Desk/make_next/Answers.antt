@@ -14,7 +14,7 @@ pub returns-in-Err-clause-at : goal.returns-in-Err-clause-at
 returns-in-Err-clause-at g c t left =
     let e = c.make-made.ensures.entry in
     let failed : is_err c.make-made.result ≡ c.is_err-left.result = search rules in
-    subst (λ z. IsLeft c.make-made.new.self.books t (one_made c.args.left.now z)) failed (made_left c.args.self.now.books c.make-made.new.self.books c.args.left.now e.place _ _ c.make-made.result e.number e.opens t left)
+    subst (λ z. IsLeft c.make-made.new.self.books t (one_made c.args.left.now z)) failed (made_left c.args.self.now.books c.make-made.new.self.books c.args.left.now e.place _ _ c.make-made.result e.at e.opens t left)
 
 pub returns-clause-entry : goal.returns-clause-entry
 returns-clause-entry g c = made_entry g.F.Fixtures.calls c.args.self.now c.make-made.new.self c.requires.at.0 c.args.left.now c.make-made.result _ (ap failed_of c.in_default.is) c.requires.at.1 c.make-made.ensures.entry
@@ -23,4 +23,4 @@ pub returns-clause-at : goal.returns-clause-at
 returns-clause-at g c t left =
     let e = c.make-made.ensures.entry in
     let failed : is_err c.make-made.result ≡ c.is_err-left.result = search rules in
-    subst (λ z. IsLeft c.make-made.new.self.books t (one_made c.args.left.now z)) failed (made_left c.args.self.now.books c.make-made.new.self.books c.args.left.now e.place _ _ c.make-made.result e.number e.opens t left)
+    subst (λ z. IsLeft c.make-made.new.self.books t (one_made c.args.left.now z)) failed (made_left c.args.self.now.books c.make-made.new.self.books c.args.left.now e.place _ _ c.make-made.result e.at e.opens t left)

@@ -1,26 +1,23 @@
-use Rattle.std.proofs.Common.{◌≡◌, ℕ, slice_get, Some, subst, arith}
 use Rattle.cd_legal.specs.declared.part.Part.TheVariants.{App}
 use Rattle.cd_desk.proofs.Standing.{adds}
 use Rattle.cd_desk.proofs.Openings.{opens}
+use Rattle.cd_desk.proofs.Numbers.{at_place}
 use Rattle.cd_desk.proofs.desk.Desk.start.Goals as goal
 
 pub start_in-requires : goal.start_in-requires
 start_in-requires g c =
     let can = c.requires.can in
-    let at = c.place_of-place.ensures.place in
-    let number = can.at.number in
-    let here : can.place ≡ c.place_of-place.result = omega (arith, at, number) in
-    record { can = (can.row, subst (λ (z : ℕ). slice_get c.args.self.now.books.rows.items z ≡ Some can.row) here can.at.there, can.left, can.unended) }
+    record { can = (can.row, at_place c.args.self.now.books c.args.draft can.place c.place_of-place.result can.row can.at c.place_of-place.ensures.at, can.left, can.unended) }
 
 pub returns-clause-entry : goal.returns-clause-entry
 returns-clause-entry g c =
     let calls = g.F.Fixtures.calls in
     let v = c.args.self.now in
     let o = c.start_in.ensures.opens in
-    let at = c.place_of-place.ensures.place in
+    let at = c.place_of-place.ensures.at in
     record {
       place = c.place_of-place.result;
-      number = at;
+      at = at;
       opens = o;
       adds = adds calls v _ _ (opens calls App v c.start_in.new.fixtures c.start_in.new.books c.args.draft c.place_of-place.result c.start_in.result c.requires.can at o);
     }

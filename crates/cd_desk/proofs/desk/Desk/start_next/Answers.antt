@@ -14,7 +14,7 @@ pub returns-in-Err-clause-at : goal.returns-in-Err-clause-at
 returns-in-Err-clause-at g c t left =
     let e = c.start-started.ensures.entry in
     let failed : is_err c.start-started.result ≡ c.is_err-left.result = search rules in
-    subst (λ z. IsLeft c.start-started.new.self.books t (one_started c.args.left.now z)) failed (started_left c.args.self.now.books c.start-started.new.self.books c.args.left.now e.place _ _ c.start-started.result e.number e.opens t left)
+    subst (λ z. IsLeft c.start-started.new.self.books t (one_started c.args.left.now z)) failed (started_left c.args.self.now.books c.start-started.new.self.books c.args.left.now e.place _ _ c.start-started.result e.at e.opens t left)
 
 pub returns-clause-entry : goal.returns-clause-entry
 returns-clause-entry g c = started_entry g.F.Fixtures.calls c.args.self.now c.start-started.new.self c.requires.at.0 c.args.left.now c.start-started.result _ (ap failed_of c.in_default.is) c.requires.at.1 c.start-started.ensures.entry
@@ -23,4 +23,4 @@ pub returns-clause-at : goal.returns-clause-at
 returns-clause-at g c t left =
     let e = c.start-started.ensures.entry in
     let failed : is_err c.start-started.result ≡ c.is_err-left.result = search rules in
-    subst (λ z. IsLeft c.start-started.new.self.books t (one_started c.args.left.now z)) failed (started_left c.args.self.now.books c.start-started.new.self.books c.args.left.now e.place _ _ c.start-started.result e.number e.opens t left)
+    subst (λ z. IsLeft c.start-started.new.self.books t (one_started c.args.left.now z)) failed (started_left c.args.self.now.books c.start-started.new.self.books c.args.left.now e.place _ _ c.start-started.result e.at e.opens t left)

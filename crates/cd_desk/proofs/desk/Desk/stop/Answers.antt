@@ -14,7 +14,7 @@ pub place_of-place-requires : goal.place_of-place-requires
 place_of-place-requires g c = let can = can_stop c.args.self.now c.args.closing.now c.requires.at c.requires.more in record { there = (can.place, can.row, can.at) }
 
 pub stop_in-requires : goal.stop_in-requires
-stop_in-requires g c = record { can = can_end App c.args.self.now c.args.closing.now.number c.place_of-place.result (can_stop c.args.self.now c.args.closing.now c.requires.at c.requires.more) c.place_of-place.ensures.place }
+stop_in-requires g c = record { can = can_end App c.args.self.now c.args.closing.now.number c.place_of-place.result (can_stop c.args.self.now c.args.closing.now c.requires.at c.requires.more) c.place_of-place.ensures.at }
 
 pub returns-clause-entry : goal.returns-clause-entry
 returns-clause-entry g c =
@@ -22,7 +22,7 @@ returns-clause-entry g c =
     let v = c.args.self.now in
     let k = c.args.closing.now in
     let place = c.place_of-place.result in
-    let number = c.place_of-place.ensures.place in
+    let number = c.place_of-place.ensures.at in
     let o = c.stop_in.ensures.ends in
     let can = can_stop v k c.requires.at c.requires.more in
     let was = o.changes.was in
@@ -41,8 +41,8 @@ returns-clause-entry g c =
 pub returns-clause-at : goal.returns-clause-at
 returns-clause-at g c = record {
   superseded = c.requires.at.superseded;
-  rest = λ more. rest_stopped c.args.self.now.books c.stop_in.new.books c.args.closing.now c.place_of-place.result _ _ c.place_of-place.ensures.place (c.requires.at.rest (omega (arith, c.requires.more))) c.stop_in.ensures.ends c.requires.more;
+  rest = λ more. rest_stopped c.args.self.now.books c.stop_in.new.books c.args.closing.now c.place_of-place.result _ _ c.place_of-place.ensures.at (c.requires.at.rest (omega (arith, c.requires.more))) c.stop_in.ensures.ends c.requires.more;
 }
 
 pub returns-clause-clean : goal.returns-clause-clean
-returns-clause-clean g c may = may_on App c.args.self.now.books c.stop_in.new.books c.args.closing.now.number c.place_of-place.result _ _ c.place_of-place.ensures.place c.stop_in.ensures.ends may
+returns-clause-clean g c may = may_on App c.args.self.now.books c.stop_in.new.books c.args.closing.now.number c.place_of-place.result _ _ c.place_of-place.ensures.at c.stop_in.ensures.ends may

@@ -12,4 +12,4 @@ invariant-loop-key g l = record {
 }
 
 abbrev pub decreases-loop-key : goal.decreases-loop-key
-decreases-loop-key g l = goal.left-loop-key g l
+decreases-loop-key g l = length l.self.waiting.items

@@ -1,4 +1,4 @@
-use Rattle.std.proofs.Common.{arith, rules, refl, length, set, ◌≡◌, ◌∙◌, sym, ◌+◌, reverse, subst}
+use Rattle.std.proofs.Common.{arith, rules, refl, length, set, ◌≡◌, ◌∙◌, ap, sym, ◌+◌, reverse, subst}
 use Rattle.cd_outside.specs.declared.holder.Holder.{Holder}
 use Rattle.cd_desk.specs.Instances.{Takes}
 use Rattle.std.proofs.lemmas.List.{length-set}
@@ -14,7 +14,8 @@ returns-clause-opens g c = record {
   there = slice_get_read c.args.self.now.parts.items _ c.args.self.now.opened c.index_mut.result.now refl c.requires.left (search rules);
   parts = search rules;
   takes = subst (λ (h : Holder). Takes (reverse c.index_mut.result.now.waiting.items) h c.args.pool.now.held c.take_all-taken.new.pool.held (g.F.Fixtures.calls c.args.fixtures.now) (g.F.Fixtures.calls c.take_all-taken.new.fixtures) c.take_all-taken.new.self.leases.items c.take_all-taken.result) c.holder_of-holder.ensures c.take_all-taken.ensures.takes;
-  spare = omega (arith, c.take_all-taken.ensures.spare);
+  spare = c.take_all-taken.ensures.spare;
+  none = ap length c.take_all-taken.ensures.none;
   opened = refl;
   ended = refl;
   part = refl;
