@@ -4,7 +4,7 @@ use Rattle.std.proofs.lemmas.List.Sums.{fold-append}
 use Rattle.cd_fill.specs.declared.scene.Scene.{Scene}
 use Rattle.cd_handlers.specs.declared.changes.FilledChanges.{FilledChanges}
 use Rattle.cd_routes.specs.declared.outcome.Outcome.{Outcome}
-use Rattle.cd_routes.specs.declared.outcome.Outcome.TheVariants.{Answered, Failed}
+use Rattle.cd_routes.specs.declared.outcome.Outcome.TheVariants.{Failed}
 use Rattle.cd_routes.specs.Running.{nothing_left, with_changes, with_error}
 use Rattle.cd_chain.specs.declared.place.ErrorRoutes.{ErrorRoutes}
 use Rattle.cd_chain.specs.declared.place.Place.{Place}

@@ -1,7 +1,7 @@
 -- Named routes laid out one after another, each after those that it invokes.
 use Rattle.std.proofs.Common.{◌≡◌, true, ℕ, zero, suc, ◌+◌, ◌<◌, ◌≤◌, ◌⊎◌, inl, inr, List, [], ◌∷◌, ◌++◌, length, get_or, map, take, drop, Option, Some, None, sym, ap, subst, ◌∙◌, refl, arith, append_assoc, append-nil, get_or-set_same, get_or-set_other, length-set}
-use Rattle.std.specs.Prelude.{nat_eq, slice_set}
-use Rattle.std.specs.List.{list_any, slice_get}
+use Rattle.std.specs.Prelude.{slice_set}
+use Rattle.std.specs.List.{slice_get}
 use Rattle.std.proofs.lemmas.Grind.{common_steps}
 use Rattle.std.proofs.lemmas.List.{drop_all, length-map}
 use Rattle.cd_leads.specs.Leads.{names}
@@ -10,17 +10,16 @@ use Rattle.cd_leads.proofs.Numbers.{got_none, got_small}
 use Rattle.cd_leads.proofs.Walks.{of_front, of_last, of_either, same_or_not}
 use Rattle.cd_routes.specs.declared.named.NamedRoute.{NamedRoute}
 use Rattle.cd_routes.specs.declared.route.Route.{Route}
-use Rattle.cd_routes.specs.Running.{Rest, Middleware, Named, run_route}
-use Rattle.cd_routes.specs.Invoking.{Names, HasNoCycle, leads_of, places_of, route_invokes, route_names}
-use Rattle.cd_routes.specs.Named.{by_name, named_does, named_routes, passes}
-use Rattle.cd_routes.proofs.NamedMeaning.{size}
+use Rattle.cd_routes.specs.Running.{Rest, Middleware, run_route}
+use Rattle.cd_routes.specs.Invoking.{Names, HasNoCycle, leads_of, route_names}
+use Rattle.cd_routes.specs.Named.{named_does, named_routes, passes}
+use Rattle.cd_routes.proofs.NamedMeaning.{agree_by_places, place_is, run_depends, size}
 use Rattle.cd_chain.specs.declared.place.Place.{Place}
 use Rattle.cd_chain.specs.declared.place.Place.TheVariants as place
 use Rattle.cd_chain.specs.Places.{at, ended, place_does, Grows}
-use Rattle.cd_chain.specs.Laying.{entered, entered_by, leads_at, named_at, route_left, AreLaid, Lays, LaidAs, LaysOne}
+use Rattle.cd_chain.specs.Laying.{entered, entered_by, named_at, route_left, AreLaid, Lays, LaidAs, LaysOne}
 use Rattle.cd_chain.proofs.Laid.{laid_new}
 use Rattle.cd_chain.proofs.Standing.{all_named}
-use Rattle.cd_chain.proofs.NamedAt.{agree_by_places, place_is, run_depends}
 
 -- ---- numbers
 
@@ -219,14 +218,7 @@ none_laid named places entries slots is same ones all = record {
   left = λ n. inr (ap (λ ss. get_or ss n None) all ∙ left_at named n);
 }
 
--- ---- what the slots lead to
-
-slots_lead : (named : List NamedRoute) (ns : List NamedRoute) → map (leads_at (route_names named)) (map (λ (r : NamedRoute). Some r.route) ns) ≡ map (λ (r : NamedRoute). places_of named (route_invokes r.route)) ns
-slots_lead named [] = refl
-slots_lead named (r ∷ ns) = ap (λ ls. places_of named (route_invokes r.route) ∷ ls) (slots_lead named ns)
-
-pub all_lead : (named : List NamedRoute) (ns : Names) (slots : List (Option Route)) → ns ≡ route_names named → slots ≡ map (λ (r : NamedRoute). Some r.route) named → map (leads_at ns) slots ≡ leads_of named
-all_lead named ns slots same all = ap (λ n. map (leads_at n) slots) same ∙ ap (map (leads_at (route_names named))) all ∙ slots_lead named named
+-- ---- after the last
 
 -- with all of them laid out
 pub all_entered : (named : List NamedRoute) (ns : Names) (first places : List Place) (entries after : List ℕ) (slots : List (Option Route)) (order : List ℕ) → HasNoCycle named → ns ≡ route_names named → slots ≡ map (λ (r : NamedRoute). Some r.route) named →

@@ -10,13 +10,13 @@ use Rattle.cd_routes.specs.declared.route.Step.{Step}
 use Rattle.cd_routes.specs.declared.route.Step.TheVariants as step
 use Rattle.cd_routes.specs.declared.route.Subroute.{Subroute, out-Subroute}
 use Rattle.cd_routes.specs.Invoking.{Names, place_of}
-use Rattle.cd_routes.specs.Running.{Rest, Middleware, Named, nothing_left, in_order, handled, in_place, caught, run_route, run_routes, run_step, run_steps}
+use Rattle.cd_routes.specs.Running.{Rest, Middleware, Named, nothing_left, in_order, in_place, caught, run_route, run_routes, run_step, run_steps}
 use Rattle.cd_routes.specs.Work.{total, errors_weight, route_weight, step_weight}
-use Rattle.cd_routes.proofs.Equations.{run_route_is, run_handler_is, run_subroute_is}
+use Rattle.cd_routes.proofs.Equations.{run_route_is, run_subroute_is}
 use Rattle.cd_chain.specs.declared.place.Place.{Place}
 use Rattle.cd_chain.specs.declared.place.Place.TheVariants as place
 use Rattle.cd_chain.specs.Places.{or_failed, ended, route_does, place_does, meanings, at, Grows}
-use Rattle.cd_chain.specs.Laying.{entered, entered_by, AreLaid}
+use Rattle.cd_chain.specs.Laying.{entered_by, AreLaid}
 use Rattle.cd_chain.proofs.Laid.{laid_new, laid_kept, laid_end}
 
 -- ---- weights

@@ -4,6 +4,6 @@ pub mod Frames
 pub mod Goings
 pub mod Layouts
 pub mod Standing
-pub mod NamedAt
 pub mod LaidOut
 pub mod Crossing
+pub mod Examples

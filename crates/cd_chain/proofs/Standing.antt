@@ -8,7 +8,7 @@ use Rattle.cd_routes.specs.declared.route.Route.{Route}
 use Rattle.cd_routes.specs.declared.server.Server.{Server}
 use Rattle.cd_routes.specs.Invoking.{route_names}
 use Rattle.cd_routes.specs.Named.{named_routes}
-use Rattle.cd_routes.specs.Running.{Rest, Middleware, Named, nothing_left, run_route, run_routes, with_error}
+use Rattle.cd_routes.specs.Running.{Rest, Middleware, Named, nothing_left, run_routes, with_error}
 use Rattle.cd_routes.specs.Serving.{settled, error_answer, restored, answer_with, answer_from}
 use Rattle.cd_chain.specs.declared.chain.Chain.{Chain}
 use Rattle.cd_chain.specs.declared.place.Place.{Place}

@@ -1,8 +1,8 @@
 -- Named routes by their places: which of them the places of a chain stand for, and what laying out one of them changes.
-use Rattle.std.specs.Prelude.{◌≡◌, ℕ, ◌≤◌, ◌⊎◌, List, [], length, map, get_or, slice_set, Option, Some, None}
+use Rattle.std.specs.Prelude.{◌≡◌, ℕ, ◌≤◌, ◌⊎◌, List, length, get_or, slice_set, Option, Some, None}
 use Rattle.std.specs.List.{slice_get}
 use Rattle.cd_leads.specs.Orders.{IsOf}
-use Rattle.cd_routes.specs.Invoking.{Names, place_of, route_invokes}
+use Rattle.cd_routes.specs.Invoking.{Names}
 use Rattle.cd_routes.specs.Named.{by_name, named_to, passes}
 use Rattle.cd_routes.specs.Running.{Middleware, Named, Rest, run_route}
 use Rattle.cd_routes.specs.declared.named.NamedRoute.{NamedRoute}
@@ -30,11 +30,6 @@ named_at named = named_to named (length named)
 abbrev pub route_left : Option NamedRoute → Option Route
 route_left None = None
 route_left (Some r) = Some r.route
-
--- the places of the named routes that it invokes
-abbrev pub leads_at : Names → Option Route → List ℕ
-leads_at names None = []
-leads_at names (Some route) = map (place_of names) (route_invokes route)
 
 -- a route for each number, or none any more where it was laid out
 abbrev pub Left : List (Option Route) → List NamedRoute → List ℕ → Type 0

@@ -1,4 +1,3 @@
-pub mod Doing
 pub mod Places
 pub mod Steps
 pub mod Frames

@@ -1,7 +1,6 @@
 -- What the places of a chain mean: each goes on at earlier places alone. A place does to what follows a named route what it leads
 -- to until `Return`; so it is told by what it does to that, as routes are.
-use Rattle.std.specs.Prelude.{◌≡◌, ◌≤◌, ℕ, ◌+◌, not, ◌&&◌, if◌then◌else◌, List, [], ◌∷◌, ◌++◌, length, fold, get_or, Option}
-use Rattle.cd_fill.specs.declared.scene.Scene.{Scene}
+use Rattle.std.specs.Prelude.{◌≡◌, ◌≤◌, ℕ, not, ◌&&◌, if◌then◌else◌, List, [], ◌∷◌, ◌++◌, length, fold, get_or, Option}
 use Rattle.cd_match.specs.Holds.{holds}
 use Rattle.cd_match.specs.declared.sets.Sets.{Sets}
 use Rattle.cd_routes.specs.declared.outcome.Outcome.{Outcome}

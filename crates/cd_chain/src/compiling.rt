@@ -1,11 +1,11 @@
 //! Routes are laid out as places, the last one first.
 ghost use Rattle.std.specs.Prelude.{◌≡◌, ◌≤◌, ◌++◌, ◌∷◌, [], length, IfOk, OnOk, get_or, if◌then◌else◌};
 ghost use Rattle.cd_handlers.specs.Invoke.{invoked};
+ghost use Rattle.cd_routes.specs.Invoking.{place_of};
 ghost use Rattle.cd_routes.specs.Running.{Rest, in_place, run_route, run_routes, run_step, run_steps};
 ghost use Rattle.cd_chain.specs.Places.{at, Grows};
 ghost use Rattle.cd_chain.specs.Laying.{entered_by, AreLaid};
 
-use crate::leading::place_of;
 use crate::place::Place;
 use cd_handlers::Handler;
 use cd_routes::{Route, Step, Subroute};
@@ -26,6 +26,18 @@ fn after(terminal: bool, rest: usize) -> usize
     ensures within { result ≤ rest }
 {
     if terminal { 0 } else { rest }
+}
+
+// The place of a name among names; their number, where it is none of them.
+fn place_of(names: &[Text], name: &Text) -> usize
+    ensures { result ≡ place_of names.now name.now }
+{
+    for (place, one) in names.iter().enumerate() {
+        if name.equals(one.as_str()) {
+            return place;
+        }
+    }
+    names.len()
 }
 
 // Where the named route of a number is entered.

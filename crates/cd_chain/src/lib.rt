@@ -15,10 +15,8 @@
 
 mod chain;
 mod compiling;
-mod doing;
 mod framing;
 mod laws;
-mod leading;
 mod naming;
 mod place;
 mod progress;

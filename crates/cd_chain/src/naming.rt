@@ -8,9 +8,8 @@ ghost use Rattle.cd_chain.specs.declared.place.Place.TheVariants.{Return};
 ghost use Rattle.cd_chain.specs.Laying.{entered, entered_by, named_at, AreLaid, Lays, LaysOne};
 
 use crate::compiling::compile_route;
-use crate::leading::{leads_of, order_of};
 use crate::place::Place;
-use cd_routes::{NamedRoute, Route};
+use cd_routes::{NamedRoute, Route, leads_of};
 use cd_text::{List, NoMemory, Text};
 use std::alloc::Global;
 use std::mem::replace;
@@ -43,6 +42,15 @@ fn parted(alloc: Global, named: List<NamedRoute>) -> Result<Parts, NoMemory>
         slots.push(Some(route))?;
     }
     Ok(Parts { names, slots })
+}
+
+// An order in which each named route stands after those that it invokes.
+fn order_of(alloc: Global, named: &[NamedRoute]) -> Result<List<usize>, NoMemory>
+    requires { HasNoCycle named.now }
+    ensures { IfOk result (λ order. IsOrder (leads_of named.now) order) }
+{
+    let leads = leads_of(alloc, named)?;
+    cd_routes::order_of(alloc, named, leads.as_slice())
 }
 
 // Each is entered at the first place so far.
@@ -130,16 +138,15 @@ pub(crate) fn lay_named(
 }
 
 /// Lays out all named routes of a server.
-#[tactic(auto, using(crate::proofs::LaidOut::none_laid, crate::proofs::LaidOut::all_lead, crate::proofs::Standing::all_named))]
+#[tactic(auto, using(crate::proofs::LaidOut::none_laid, crate::proofs::Standing::all_named))]
 pub(crate) fn lay_all(alloc: Global, named: List<NamedRoute>) -> Result<Layout, NoMemory>
     requires { HasNoCycle named }
     ensures named { IfOk result (λ made. entered_by made.places.items made.entries.items made.names ≡ named_routes named) }
     ensures laid { IfOk result (λ made. AreLaid made.places.items made.entries.items) }
 {
+    let order = order_of(alloc, named.as_slice())?;
     let parts = parted(alloc, named)?;
     let Parts { names, mut slots } = parts;
-    let leads = leads_of(alloc, names.as_slice(), slots.as_slice())?;
-    let order = order_of(alloc, leads.as_slice())?;
     let mut entries = first_entries(alloc, names.len())?;
     let mut places = first_places(alloc)?;
     lay_named(

@@ -9,11 +9,10 @@ ghost use Rattle.cd_chain.specs.Places.{at, one_of, ended, meanings, place_does,
 ghost use Rattle.cd_chain.specs.Steps.{steps_at, steps_of, no_steps, counts, place_steps, returning_steps, frames_steps, progress_steps};
 ghost use Rattle.cd_chain.specs.Frames.{told, unwound};
 
-use crate::doing::{Done, deed_in};
 use crate::place::{ErrorRoutes, Frame, Place};
 use crate::progress::{Ended, Progress};
 use cd_fill::Scene;
-use cd_handlers::{Handler, usual_status};
+use cd_handlers::{Done, Handler, deed_in, usual_status};
 use cd_match::{Sets, is_listed};
 use cd_text::{List, NoMemory, Text};
 use cd_wire::{Answer, Field, Lent};

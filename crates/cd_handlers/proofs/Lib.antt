@@ -5,3 +5,4 @@ pub mod PlainStart
 pub mod Tokens
 pub mod Naming
 pub mod NoChange
+pub mod Sure

@@ -1,20 +1,40 @@
 ghost use Rattle.std.specs.Prelude.{◌≡◌, true, IfOk};
+ghost use Rattle.cd_handlers.specs.Done.{effect_of, left_by};
 ghost use Rattle.cd_handlers.specs.Effect.{effect, deferred, has_gone_on};
 
-use crate::error::error_effect;
+use crate::error::fail;
 use crate::handler::Handler;
-use crate::headers::headers_deed;
-use crate::outcome::{Deed, Effect, alone};
-use crate::rewriting::rewrite_effect;
-use crate::static_response::static_effect;
-use crate::vars::variables_set;
-use cd_fill::Scene;
+use crate::headers::change_fields;
+use crate::outcome::{Deed, Done, Effect, deed_of};
+use crate::rewriting::rewrite;
+use crate::static_response::respond;
+use crate::vars::set_variables;
+use cd_fill::{Scene, let_go};
 use cd_text::NoMemory;
 use std::alloc::Global;
 
-/// What a handler does with a request in that scene, and the changes that it leaves for the answer of what follows it, where the
-/// request goes on. They are filled in the scene that it found.
+/// What a handler does with a request in a scene that is lent to it, and the changes that it leaves for the answer of what
+/// follows it, where the request goes on. They are filled in the scene that it found.
 #[tactic(auto, unfolding(crate::specs::Effect::effect, crate::specs::Effect::deferred))]
+pub fn deed_in<'r>(
+    alloc: Global,
+    handler: &'r Handler,
+    scene: &mut Scene<'r>,
+) -> Result<Done<'r>, NoMemory>
+    ensures effect { IfOk result (λ done. effect_of done scene.new ≡ effect handler.now scene.old) }
+    ensures changes { IfOk result (λ done. has_gone_on (effect handler.now scene.old) ≡ true → left_by done ≡ deferred handler.now scene.old) }
+{
+    match handler {
+        Handler::StaticResponse(settings) => respond(alloc, settings, scene),
+        Handler::Headers(settings) => change_fields(alloc, settings, scene),
+        Handler::Rewrite(settings) => rewrite(alloc, settings, scene),
+        Handler::Vars(settings) => set_variables(alloc, settings, scene),
+        Handler::Error(settings) => fail(alloc, settings, scene),
+        Handler::Invoke(_) => Ok(Done::Goes),
+    }
+}
+
+/// The same of a scene by value.
 pub fn deed<'r>(
     alloc: Global,
     handler: &'r Handler,
@@ -23,13 +43,10 @@ pub fn deed<'r>(
     ensures effect { IfOk result (λ deed. deed.effect ≡ effect handler.now scene.entry) }
     ensures changes { IfOk result (λ deed. has_gone_on deed.effect ≡ true → deed.changes ≡ deferred handler.now scene.entry) }
 {
-    match handler {
-        Handler::StaticResponse(settings) => Ok(alone(static_effect(alloc, settings, scene)?)),
-        Handler::Headers(settings) => headers_deed(alloc, settings, scene),
-        Handler::Rewrite(settings) => Ok(alone(rewrite_effect(alloc, settings, scene)?)),
-        Handler::Vars(settings) => Ok(alone(variables_set(alloc, settings, scene)?)),
-        Handler::Error(settings) => Ok(alone(error_effect(alloc, settings, scene)?)),
-        Handler::Invoke(_) => Ok(alone(Effect::Next(scene))),
+    let mut scene = scene;
+    match deed_in(alloc, handler, &mut scene) {
+        Ok(done) => Ok(deed_of(done, scene)),
+        Err(NoMemory) => Err(let_go(scene)),
     }
 }
 

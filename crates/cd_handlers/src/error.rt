@@ -1,12 +1,13 @@
-ghost use Rattle.std.specs.Prelude.{◌≡◌, IfOk};
+ghost use Rattle.std.specs.Prelude.{◌≡◌, None, IfOk};
 ghost use Rattle.cd_text.specs.Gives.{Gives};
 ghost use Rattle.cd_handlers.specs.declared.fault.HandlerFault.{HandlerFault};
+ghost use Rattle.cd_handlers.specs.Done.{effect_of, left_by};
 ghost use Rattle.cd_handlers.specs.Error.{static_error, failure_filled, error_effect};
 
-use crate::failing::failed;
+use crate::failing::unable;
 use crate::fault::HandlerFault;
 use crate::filling::text_filled;
-use crate::outcome::Effect;
+use crate::outcome::Done;
 use crate::status::{Status, status_given};
 use crate::texts::no_text;
 use cd_fill::{Failure, Scene};
@@ -54,15 +55,16 @@ fn failure_filled(
 
 /// Fails with the status and the message of the settings.
 #[tactic(auto, unfolding(crate::specs::Error::error_effect))]
-pub(crate) fn error_effect<'r>(
+pub(crate) fn fail<'r>(
     alloc: Global,
     settings: &StaticError,
-    scene: Scene<'r>,
-) -> Result<Effect<'r>, NoMemory>
-    ensures { IfOk result (λ made. made ≡ error_effect settings.now scene.entry) }
+    scene: &mut Scene<'_>,
+) -> Result<Done<'r>, NoMemory>
+    ensures effect { IfOk result (λ done. effect_of done scene.new ≡ error_effect settings.now scene.old) }
+    ensures changes { IfOk result (λ done. left_by done ≡ None) }
 {
-    match failure_filled(alloc, settings, &scene) {
-        Ok(failure) => Ok(Effect::Failed(scene, failure.status, failure.message)),
-        Err(fault) => failed(alloc, fault, scene),
+    match failure_filled(alloc, settings, scene) {
+        Ok(failure) => Ok(Done::Failed(failure.status, failure.message)),
+        Err(fault) => unable(alloc, fault),
     }
 }

@@ -6,15 +6,16 @@ ghost use Rattle.cd_handlers.specs.declared.changes.Side.TheVariants as side;
 ghost use Rattle.cd_handlers.specs.declared.fault.HandlerFault.{HandlerFault};
 ghost use Rattle.cd_handlers.specs.declared.outcome.Effect.TheVariants as does;
 ghost use Rattle.cd_handlers.specs.Changes.{changed_by, values_filled};
+ghost use Rattle.cd_handlers.specs.Done.{effect_of, left_by};
 ghost use Rattle.cd_handlers.specs.Effect.{has_gone_on};
 ghost use Rattle.cd_handlers.specs.Headers.{request_changes, response_changes, no_changes, request_or_none, response_or_none, headers, both_filled, goes_on, headers_effect, headers_deferred};
 
 use crate::changes::{Changes, FilledChanges, FilledValues, Side, changed_by, values_filled};
-use crate::failing::failed;
+use crate::failing::unable;
 use crate::fault::HandlerFault;
 use crate::field_values::{FieldList, RequestFieldList, fields_or_none, request_fields_or_none};
-use crate::outcome::{Deed, Effect, alone};
-use cd_fill::{Lent, Scene, let_go};
+use crate::outcome::Done;
+use cd_fill::{Lent, Scene};
 use cd_module::{LoadFault, Pattern, Settings, fields_of, optional};
 use cd_text::{List, NoMemory};
 use cd_tree::{Place, Tree};
@@ -177,93 +178,77 @@ fn request_changed<'r>(
     Ok(RequestFields::own(made))
 }
 
-fn with_request_changes<'r>(
+fn change_request(
     alloc: Global,
     settings: &Headers,
     values: FilledValues,
-    scene: Scene<'r>,
-) -> Result<Scene<'r>, NoMemory>
-    ensures { IfOk result (λ made. made ≡ record scene.entry {
-      fields = changed_by side.Request values settings.now.request.delete scene.entry.fields;
+    scene: &mut Scene<'_>,
+) -> Result<(), NoMemory>
+    ensures { IfOk result (λ _. scene.new ≡ record scene.old {
+      fields = changed_by side.Request values settings.now.request.delete scene.old.fields;
     }) }
 {
-    let mut scene = scene;
     let delete = &settings.request.delete;
     let fields = replace(&mut scene.fields, RequestFields::own(List::new(alloc)));
-    match request_changed(alloc, values, delete, fields) {
-        Ok(fields) => {
-            let _ = replace(&mut scene.fields, fields);
-            Ok(scene)
-        }
-        Err(NoMemory) => Err(let_go(scene)),
-    }
+    let fields = request_changed(alloc, values, delete, fields)?;
+    let _ = replace(&mut scene.fields, fields);
+    Ok(())
 }
 
-fn with_response_changes<'r>(
+fn change_response(
     alloc: Global,
     settings: &Headers,
     values: FilledValues,
-    scene: Scene<'r>,
-) -> Result<Scene<'r>, NoMemory>
-    ensures { IfOk result (λ made. made ≡ record scene.entry {
-      response = changed_by side.Answer values settings.now.response.changes.delete scene.entry.response;
+    scene: &mut Scene<'_>,
+) -> Result<(), NoMemory>
+    ensures { IfOk result (λ _. scene.new ≡ record scene.old {
+      response = changed_by side.Answer values settings.now.response.changes.delete scene.old.response;
     }) }
 {
-    let mut scene = scene;
     let delete = settings.response.changes.delete.as_slice();
     let now = replace(&mut scene.response, List::new(alloc));
-    match changed_by(alloc, Side::Answer, values, delete, now) {
-        Ok(fields) => {
-            let _ = replace(&mut scene.response, fields);
-            Ok(scene)
-        }
-        Err(NoMemory) => Err(let_go(scene)),
-    }
+    let fields = changed_by(alloc, Side::Answer, values, delete, now)?;
+    let _ = replace(&mut scene.response, fields);
+    Ok(())
 }
 
 // The request goes on, and changes of the answer are made now or left for it.
 #[tactic(auto, unfolding(crate::specs::Headers::goes_on, crate::specs::Headers::headers_deferred, crate::specs::Changes::changes_filled))]
-fn gone_on<'a, 'r>(
+fn go_on<'r>(
     alloc: Global,
-    settings: &'a Headers,
+    settings: &'r Headers,
     both: Both,
-    scene: Scene<'r>,
-) -> Result<Deed<'a, 'r>, NoMemory>
-    requires { values_filled scene settings.now.response.changes ≡ Ok both.response }
-    ensures effect { IfOk result (λ deed. deed.effect ≡ does.Next (goes_on settings.now scene.entry both)) }
-    ensures changes { IfOk result (λ deed. deed.changes ≡ headers_deferred settings.now scene.entry) }
+    scene: &mut Scene<'_>,
+) -> Result<Done<'r>, NoMemory>
+    requires { values_filled scene.old settings.now.response.changes ≡ Ok both.response }
+    ensures effect { IfOk result (λ done. effect_of done scene.new ≡ does.Next (goes_on settings.now scene.old both)) }
+    ensures changes { IfOk result (λ done. left_by done ≡ headers_deferred settings.now scene.old) }
 {
     let Both { request, response } = both;
-    let scene = with_request_changes(alloc, settings, request, scene)?;
+    change_request(alloc, settings, request, scene)?;
     if settings.response.deferred {
-        return Ok(Deed {
-            effect: Effect::Next(scene),
-            changes: Some(FilledChanges {
-                values: response,
-                delete: Lent::shared(settings.response.changes.delete.as_slice()),
-            }),
-        });
+        return Ok(Done::Leaves(FilledChanges {
+            values: response,
+            delete: Lent::shared(settings.response.changes.delete.as_slice()),
+        }));
     }
-    let scene = with_response_changes(alloc, settings, response, scene)?;
-    Ok(Deed {
-        effect: Effect::Next(scene),
-        changes: None,
-    })
+    change_response(alloc, settings, response, scene)?;
+    Ok(Done::Goes)
 }
 
 /// Changes the fields of the request, and those of the answer unless that is deferred: then the changes are left for the answer
 /// of what follows.
 #[tactic(auto, unfolding(crate::specs::Headers::headers_effect))]
-pub(crate) fn headers_deed<'a, 'r>(
+pub(crate) fn change_fields<'r>(
     alloc: Global,
-    settings: &'a Headers,
-    scene: Scene<'r>,
-) -> Result<Deed<'a, 'r>, NoMemory>
-    ensures effect { IfOk result (λ deed. deed.effect ≡ headers_effect settings.now scene.entry) }
-    ensures changes { IfOk result (λ deed. has_gone_on deed.effect ≡ true → deed.changes ≡ headers_deferred settings.now scene.entry) }
+    settings: &'r Headers,
+    scene: &mut Scene<'_>,
+) -> Result<Done<'r>, NoMemory>
+    ensures effect { IfOk result (λ done. effect_of done scene.new ≡ headers_effect settings.now scene.old) }
+    ensures changes { IfOk result (λ done. has_gone_on (headers_effect settings.now scene.old) ≡ true → left_by done ≡ headers_deferred settings.now scene.old) }
 {
-    match both_filled(alloc, settings, &scene) {
-        Ok(both) => gone_on(alloc, settings, both, scene),
-        Err(fault) => Ok(alone(failed(alloc, fault, scene)?)),
+    match both_filled(alloc, settings, scene) {
+        Ok(both) => go_on(alloc, settings, both, scene),
+        Err(fault) => unable(alloc, fault),
     }
 }

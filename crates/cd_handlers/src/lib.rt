@@ -8,7 +8,8 @@
 //! filled too; so does `rewrite` where what it replaces gets too long (specs/Failing.antt). `vars` alone sets one variable after
 //! another: each text sees those before, and they stay where it fails.
 //! `rewrite` has its settings in rewrite.rt; rewriting.rt fills its texts, and the crate `cd_rewrite` has its steps.
-//! `deed` is that, with the changes that `headers` leaves for the answer, and `changed` makes them.
+//! `deed_in` does that with a scene that is lent to it and stays where it is, and gives the changes that `headers` leaves for the
+//! answer; `changed` makes them. `deed` is the same of a scene by value.
 //!
 //! Trees that differ in ids alone are the same handler (laws.rt).
 //!
@@ -40,7 +41,7 @@ mod vars;
 
 pub use body::BodyText;
 pub use changes::{Changes, FilledChanges, FilledValues, changed};
-pub use effects::{deed, effect};
+pub use effects::{deed, deed_in, effect};
 pub use error::StaticError;
 pub use field_values::{FieldList, FieldValues};
 pub use fields::FilledField;
@@ -49,7 +50,7 @@ pub use headers::{Headers, ResponseChanges};
 pub use invoke::Invoke;
 pub use kind::HandlerKind;
 pub use laws::{handlers_have_their_names, handlers_see_no_ids};
-pub use outcome::{Deed, Effect};
+pub use outcome::{Deed, Done, Effect};
 pub use rewrite::{MethodText, Rewrite, Substring};
 pub use static_response::StaticResponse;
 pub use status::{Status, usual_status};

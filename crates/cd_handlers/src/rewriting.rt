@@ -1,18 +1,19 @@
 //! What `rewrite` does: its texts are filled, and then the steps are done on a copy of what is asked for. So the scene is as it
 //! was found where either can't be done.
-ghost use Rattle.std.specs.Prelude.{◌≡◌, IfOk, Option, unwrap_or, map};
+ghost use Rattle.std.specs.Prelude.{◌≡◌, IfOk, Option, None, unwrap_or, map};
 ghost use Rattle.std.specs.Char.{to_ascii_uppercase};
 ghost use Rattle.cd_text.specs.Gives.{Gives};
 ghost use Rattle.cd_wire.specs.Targets.{query_of};
 ghost use Rattle.cd_fill.specs.Filling.{fill_as};
 ghost use Rattle.cd_handlers.specs.declared.fault.HandlerFault.{HandlerFault};
+ghost use Rattle.cd_handlers.specs.Done.{effect_of, left_by};
 ghost use Rattle.cd_handlers.specs.Filling.{or_unable};
 ghost use Rattle.cd_handlers.specs.Rewrite.{method_said, method_filled, path_filled, query_said, query_filled, target_filled, prefix_filled, suffix_filled, substring_filled, each_filled, substrings_filled, rewrite_filled, line_rewritten, asking, rewrite_effect};
 
-use crate::failing::failed;
+use crate::failing::unable;
 use crate::fault::HandlerFault;
 use crate::filling::text_filled;
-use crate::outcome::Effect;
+use crate::outcome::Done;
 use crate::rewrite::{MethodText, Rewrite, Substring, is_token};
 use cd_fill::{Form, RequestLine, Scene, fill_as, with_slash_before};
 use cd_rewrite::{QueryChange, Replacement, Rewriting, Target, rewritten};
@@ -251,28 +252,30 @@ fn first_line<'r>(original: Option<RequestLine<'r>>, current: RequestLine<'r>) -
     }
 }
 
-// The scene with what is asked for now.
-fn asking<'r>(line: RequestLine<'r>, scene: Scene<'r>) -> Scene<'r>
-    ensures { result ≡ asking line.entry scene.entry }
+// What is asked for from here on.
+fn ask<'r>(line: RequestLine<'r>, scene: &mut Scene<'r>)
+    ensures { scene.new ≡ asking line.entry scene.old }
 {
-    let mut scene = scene;
     let original = replace(&mut scene.original, None);
     let current = replace(&mut scene.current, line);
     scene.original = Some(first_line(original, current));
-    scene
 }
 
 /// Rewrites what is asked for.
 #[tactic(auto, unfolding(crate::specs::Rewrite::rewrite_effect))]
-pub(crate) fn rewrite_effect<'r>(
+pub(crate) fn rewrite<'a, 'r>(
     alloc: Global,
     settings: &Rewrite,
-    scene: Scene<'r>,
-) -> Result<Effect<'r>, NoMemory>
-    ensures { IfOk result (λ made. made ≡ rewrite_effect settings.now scene.entry) }
+    scene: &mut Scene<'r>,
+) -> Result<Done<'a>, NoMemory>
+    ensures effect { IfOk result (λ done. effect_of done scene.new ≡ rewrite_effect settings.now scene.old) }
+    ensures changes { IfOk result (λ done. left_by done ≡ None) }
 {
-    match line_rewritten(alloc, settings, &scene) {
-        Ok(line) => Ok(Effect::Next(asking(line, scene))),
-        Err(fault) => failed(alloc, fault, scene),
+    match line_rewritten(alloc, settings, scene) {
+        Ok(line) => {
+            ask(line, scene);
+            Ok(Done::Goes)
+        }
+        Err(fault) => unable(alloc, fault),
     }
 }

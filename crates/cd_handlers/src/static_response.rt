@@ -1,23 +1,25 @@
-ghost use Rattle.std.specs.Prelude.{◌≡◌, IfOk};
+ghost use Rattle.std.specs.Prelude.{◌≡◌, None, IfOk};
 ghost use Rattle.cd_text.specs.Gives.{Gives};
 ghost use Rattle.cd_handlers.specs.declared.fault.HandlerFault.{HandlerFault};
+ghost use Rattle.cd_handlers.specs.Done.{effect_of, left_by};
 ghost use Rattle.cd_handlers.specs.StaticResponse.{static_response, type_field, with_type, parts_filled, answered, static_effect};
 
 use crate::body::BodyText;
-use crate::failing::failed;
+use crate::failing::unable;
 use crate::fault::HandlerFault;
 use crate::field_values::{FieldList, FieldValues, fields_or_none};
 use crate::fields::{FilledField, has_field, replaced};
 use crate::filling::{fields_filled, text_lent};
-use crate::outcome::Effect;
+use crate::outcome::Done;
 use crate::status::{Status, status_given, usual_status};
 use crate::texts::no_text;
-use cd_fill::{Scene, response_of};
+use cd_fill::Scene;
 use cd_module::{LoadFault, Settings, fields_of, optional};
 use cd_text::{List, NoMemory, Text};
 use cd_tree::{Place, Tree};
 use cd_wire::{Answer, Field, Lent};
 use std::alloc::Global;
+use std::mem::replace;
 
 /// `static_response`: an answer that the settings fix but for placeholders (Caddy, JSON Config Structure,
 /// http.handlers.static_response).
@@ -136,20 +138,22 @@ fn answered<'r>(
     })
 }
 
-/// What a static response does.
+/// Answers as the settings say.
 #[tactic(auto, unfolding(crate::specs::StaticResponse::static_effect))]
-pub(crate) fn static_effect<'r>(
+pub(crate) fn respond<'r>(
     alloc: Global,
     settings: &'r StaticResponse,
-    scene: Scene<'r>,
-) -> Result<Effect<'r>, NoMemory>
-    ensures { IfOk result (λ made. made ≡ static_effect settings.now scene.entry) }
+    scene: &mut Scene<'r>,
+) -> Result<Done<'r>, NoMemory>
+    ensures effect { IfOk result (λ done. effect_of done scene.new ≡ static_effect settings.now scene.old) }
+    ensures changes { IfOk result (λ done. left_by done ≡ None) }
 {
-    match parts_filled(alloc, settings, &scene) {
+    match parts_filled(alloc, settings, scene) {
         Ok(parts) => {
-            let answer = answered(alloc, settings, response_of(scene), parts)?;
-            Ok(Effect::Answered(answer))
+            let response = replace(&mut scene.response, List::new(alloc));
+            let answer = answered(alloc, settings, response, parts)?;
+            Ok(Done::Answered(answer))
         }
-        Err(fault) => failed(alloc, fault, scene),
+        Err(fault) => unable(alloc, fault),
     }
 }

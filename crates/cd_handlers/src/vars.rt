@@ -1,13 +1,14 @@
-ghost use Rattle.std.specs.Prelude.{◌≡◌, ◌++◌, ◌∷◌, [], IfOk};
+ghost use Rattle.std.specs.Prelude.{◌≡◌, ◌++◌, ◌∷◌, [], None, IfOk};
 ghost use Rattle.cd_text.specs.Gives.{Gives};
 ghost use Rattle.cd_tree.specs.Tree.{number_text};
 ghost use Rattle.cd_module.specs.declared.fault.LoadFault.{LoadFault};
-ghost use Rattle.cd_handlers.specs.Vars.{variables, setting_text, setting, vars, with_variable, truth_text, variables_set};
+ghost use Rattle.cd_handlers.specs.Done.{effect_of, left_by};
+ghost use Rattle.cd_handlers.specs.Vars.{variables, setting_text, setting, vars, truth_text, variables_set};
 
-use crate::failing::failed;
+use crate::failing::unable;
 use crate::filling::text_filled;
-use crate::outcome::Effect;
-use cd_fill::{Scene, Variable, let_go};
+use crate::outcome::Done;
+use cd_fill::{Scene, Variable};
 use cd_module::{LoadFault, LoadKind, Named, Settings, object_by_name};
 use cd_text::{List, NoMemory, Octets, Text};
 use cd_tree::{Num, Place, Tree};
@@ -106,36 +107,21 @@ fn add_variable(
     variables.push(Variable { name, value })
 }
 
-fn with_variable<'r>(
-    alloc: Global,
-    name: &Text,
-    value: Octets,
-    scene: Scene<'r>,
-) -> Result<Scene<'r>, NoMemory>
-    ensures { IfOk result (λ made. made ≡ with_variable name.now value scene.entry) }
-{
-    let mut scene = scene;
-    match add_variable(alloc, name, value, &mut scene.variables) {
-        Ok(()) => Ok(scene),
-        Err(NoMemory) => Err(let_go(scene)),
-    }
-}
-
 /// Sets one variable after another. Each text is filled in the scene that the ones before left.
 #[tactic(auto, unfolding(crate::specs::Vars::variables_set))]
-pub(crate) fn variables_set<'r>(
+pub(crate) fn set_variables<'r>(
     alloc: Global,
     settings: &Vars,
-    scene: Scene<'r>,
-) -> Result<Effect<'r>, NoMemory>
-    ensures { IfOk result (λ made. made ≡ variables_set settings.now.settings scene.entry) }
+    scene: &mut Scene<'_>,
+) -> Result<Done<'r>, NoMemory>
+    ensures effect { IfOk result (λ done. effect_of done scene.new ≡ variables_set settings.now.settings scene.old) }
+    ensures changes { IfOk result (λ done. left_by done ≡ None) }
 {
-    let mut scene = scene;
     for setting in settings.settings.as_slice() {
-        match text_filled(alloc, &setting.text, &scene) {
-            Ok(value) => scene = with_variable(alloc, &setting.name, value, scene)?,
-            Err(fault) => return failed(alloc, fault, scene),
+        match text_filled(alloc, &setting.text, scene) {
+            Ok(value) => add_variable(alloc, &setting.name, value, &mut scene.variables)?,
+            Err(fault) => return unable(alloc, fault),
         }
     }
-    Ok(Effect::Next(scene))
+    Ok(Done::Goes)
 }

@@ -9,3 +9,4 @@ pub mod Depends
 pub mod NamedMeaning
 pub mod NameKept
 pub mod Bare
+pub mod Sure

@@ -47,7 +47,7 @@ led named n r is = mapped_got (λ (s : NamedRoute). places_of named (route_invok
 pub size : (named : List NamedRoute) → length named ≡ length (leads_of named)
 size named = sym (length-map named (λ (s : NamedRoute). places_of named (route_invokes s.route)))
 
-agree_by_places : {A : Type 0} (named : List NamedRoute) (f g : ℕ → A) (n : ℕ) (r : NamedRoute) → slice_get named n ≡ Some r → ((m : ℕ) → names (leads_of named) n m ≡ true → f m ≡ g m) →
+pub agree_by_places : {A : Type 0} (named : List NamedRoute) (f g : ℕ → A) (n : ℕ) (r : NamedRoute) → slice_get named n ≡ Some r → ((m : ℕ) → names (leads_of named) n m ≡ true → f m ≡ g m) →
     Agree (by_name (route_names named) f) (by_name (route_names named) g) (route_invokes r.route)
 agree_by_places named f g n r is same = record {
   to = λ name there. same (place_of (route_names named) name)
@@ -66,7 +66,7 @@ placed_same f g (Some name) h agree = agree.to name (found_here name)
 done_of_names : IsOfNames step_level
 done_of_names = record { handler = λ f g h agree. placed_same f g (invoked h) h agree; subroute = λ f g u. refl }
 
-run_depends : (r : Route) (f g : Named) → Agree f g (route_invokes r) → run_route f r ≡ run_route g r
+pub run_depends : (r : Route) (f g : Named) → Agree f g (route_invokes r) → run_route f r ≡ run_route g r
 unfolding run_route
 run_depends r f g agree = depends Middleware step_level routed nested done_of_names r f g agree
 
@@ -84,12 +84,17 @@ does_level named = record {
   unknown = λ f n absent. ap (λ found. named_does found (by_name (route_names named) f)) (unknown_none (leads_of named) named n (size named) absent);
 }
 
+-- the named route of a place does what its route does
+pub place_is : (named : List NamedRoute) (place : ℕ) → HasNoCycle named → named_to named (length named) place ≡ named_does (slice_get named place) (named_routes named)
+unfolding named_routes
+place_is named place none =
+    ap (λ d. to_depth (does named) passes d place) (size named)
+    ∙ level_settles (leads_of named) (does named) passes place (does_level named) (no_cycle_of (leads_of named) none)
+    ∙ ap (λ d. does named (to_depth (does named) passes d) place) (sym (size named))
+
 pub named_is : (named : List NamedRoute) (name : List ℕ) → HasNoCycle named → named_routes named name ≡ named_does (route_named named name) (named_routes named)
 unfolding named_routes
-named_is named name none =
-    ap (λ d. to_depth (does named) passes d (place_of (route_names named) name)) (size named)
-    ∙ level_settles (leads_of named) (does named) passes (place_of (route_names named) name) (does_level named) (no_cycle_of (leads_of named) none)
-    ∙ ap (λ d. does named (to_depth (does named) passes d) (place_of (route_names named) name)) (sym (size named))
+named_is named name none = place_is named (place_of (route_names named) name) none
 
 pub enough_depth : (named : List NamedRoute) (depth place : ℕ) → HasNoCycle named → length named ≤ depth → named_to named depth place ≡ named_to named (length named) place
 enough_depth named depth place none enough =

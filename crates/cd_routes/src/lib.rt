@@ -37,6 +37,7 @@ pub use laws::{
     a_route_does, a_step_does, an_invoke_does_its_route, names_of_servers_rise, routes_are,
     routes_see_no_ids, servers_are_named_and_listen, servers_see_no_ids, steps_have_their_names,
 };
+pub use leading::{leads_of, order_of};
 pub use listen::{Listen, ListenText};
 pub use named::{KnownName, NamedRoute};
 pub use outcome::Outcome;

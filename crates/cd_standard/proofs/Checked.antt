@@ -1,7 +1,7 @@
 -- What is checked of servers, app by app, and what is known of named routes after that.
-use Rattle.std.proofs.Common.{◌≡◌, ℕ, ◌+◌, ◌<◌, List, [], ◌∷◌, ◌++◌, length, get_or, drop, refl, sym, ap, subst, ◌∙◌, Bool, true, false, option_map}
+use Rattle.std.proofs.Common.{◌≡◌, ℕ, ◌+◌, ◌<◌, List, [], ◌∷◌, ◌++◌, length, get_or, drop, refl, sym, ap, ◌∙◌, option_map}
 use Rattle.std.specs.Prelude.{Option, Some, None, Result, Ok, Err}
-use Rattle.std.specs.List.{find, flat_map}
+use Rattle.std.specs.List.{flat_map}
 use Rattle.std.proofs.lemmas.List.Concat.{flat_map-cons}
 use Rattle.cd_tree.proofs.Trees.{drop-element}
 use Rattle.cd_text.specs.Steps.{◌▷◌}
@@ -68,25 +68,22 @@ none_least server f (Some n) fine = cc
 pub one_has_none : (server : Server) → HaveNoCycle (server ∷ []) → HasNoCycle server.named
 one_has_none server fine = none_least server _ (least_in_cycle (leads_of server.named)) (both_fine (checked NamedRoutes server) (Ok tt) fine).0
 
-abbrev or_other : Server → Option Server → Server
-or_other a None = a
-or_other a (Some b) = b
+-- the first of them, and the others
+pub first_has_none : (left others : List Server) (server : Server) → left ≡ server ∷ others → HaveNoCycle left → HasNoCycle server.named
+first_has_none left others server is fine = one_has_none server (one_fine server others (sym (ap (each_checked NamedRoutes) is) ∙ fine)).0
 
-some_is : (a b : Server) → Some a ≡ Some b → a ≡ b
-some_is a b is = ap (or_other a) is
+pub others_have_none : (left others : List Server) (server : Server) → left ≡ server ∷ others → HaveNoCycle left → HaveNoCycle others
+others_have_none left others server is fine = (one_fine server others (sym (ap (each_checked NamedRoutes) is) ∙ fine)).1
 
-found_by : (p : Server → Bool) (first server : Server) (servers : List Server) (b : Bool) → p first ≡ b → (HaveNoCycle servers → find p servers ≡ Some server → HasNoCycle server.named) → HaveNoCycle (first ∷ servers) → find p (first ∷ servers) ≡ Some server → HasNoCycle server.named
-found_by p first server servers true holds later fine found =
-    subst (λ (s : Server). HasNoCycle s.named) (some_is first server (sym (here p first servers holds) ∙ found)) (one_has_none first (one_fine first servers fine).0)
-  where
-    here : (p : Server → Bool) (first : Server) (servers : List Server) → p first ≡ true → find p (first ∷ servers) ≡ Some first
-    here p first servers holds = rw holds refl
-found_by p first server servers false holds later fine found = later (one_fine first servers fine).1 (sym (past p first servers holds) ∙ found)
-  where
-    past : (p : Server → Bool) (first : Server) (servers : List Server) → p first ≡ false → find p (first ∷ servers) ≡ find p servers
-    past p first servers holds = rw holds refl
+-- the same of apps
+apps_fine : (left others : List App) (app : App) → left ≡ app ∷ others → HaveNoCycle (flat_map app_servers left) → HaveNoCycle (app_servers app) × HaveNoCycle (flat_map app_servers others)
+apps_fine left others app is fine =
+    both_fine (each_checked NamedRoutes (app_servers app)) (each_checked NamedRoutes (flat_map app_servers others))
+    (sym (ap (λ apps. each_checked NamedRoutes (flat_map app_servers apps)) is ∙ ap (each_checked NamedRoutes) (flat_map-cons app_servers app others)
+    ∙ each_more NamedRoutes (app_servers app) (flat_map app_servers others)) ∙ fine)
 
--- nor has one that is found among those of which none has
-pub found_has_none : (p : Server → Bool) (servers : List Server) (server : Server) → HaveNoCycle servers → find p servers ≡ Some server → HasNoCycle server.named
-found_has_none p [] server fine found = cc
-found_has_none p (first ∷ servers) server fine found = found_by p first server servers (p first) refl (found_has_none p servers server) fine found
+pub first_app_has_none : (left others : List App) (app : App) → left ≡ app ∷ others → HaveNoCycle (flat_map app_servers left) → HaveNoCycle (app_servers app)
+first_app_has_none left others app is fine = (apps_fine left others app is fine).0
+
+pub other_apps_have_none : (left others : List App) (app : App) → left ≡ app ∷ others → HaveNoCycle (flat_map app_servers left) → HaveNoCycle (flat_map app_servers others)
+other_apps_have_none left others app is fine = (apps_fine left others app is fine).1

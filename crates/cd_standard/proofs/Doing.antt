@@ -26,6 +26,8 @@ use Rattle.cd_standard.specs.Plans.{admin_plans, app_modules, apps_modules, app_
 use Rattle.cd_legal.specs.declared.plan.PlanApp.{PlanApp}
 use Rattle.cd_standard.specs.declared.app.App.{App}
 use Rattle.cd_admin.specs.declared.admin.Admin.{Admin}
+use Rattle.cd_standard.specs.Compiled.{compiled_acts}
+use Rattle.cd_standard.specs.declared.compiled.Compiled.{Compiled}
 use Rattle.cd_standard.specs.declared.configuration.Configuration.{Configuration}
 use Rattle.cd_standard.specs.declared.loading.Configured.{Configured}
 
@@ -112,12 +114,9 @@ few_apps t l h = let keeps = loaded_keeps t l h in subst (λ (x : Configured). l
 
 -- ---- what it does
 
-alike : (acts : Acts) → DoAlike acts acts
-alike acts = record { targets = λ at. refl; answers = λ at request. refl; lines = λ at request answer. refl }
-
-pub does_as_loaded : (t : Tree) (l : Configured) → loaded t ≡ Ok l → DoAlike (acts_of l.configuration) (acts_of_tree t)
-does_as_loaded t l h = subst (λ r. DoAlike (acts_of l.configuration) (acts_in r)) (sym h) (alike (acts_of l.configuration))
+pub does_as_loaded : (t : Tree) (l : Configured) (acts : Acts) → loaded t ≡ Ok l → DoAlike acts (acts_of l.configuration) → DoAlike acts (acts_of_tree t)
+does_as_loaded t l acts h same = subst (λ r. DoAlike acts (acts_in r)) (sym h) same
 
 -- a configuration without apps, whose admin API is disabled
-pub idle_does_nothing : (c : Configuration) → c.admin.disabled ≡ true → c.apps ≡ [] → DoAlike (acts_of c) nobody
+pub idle_does_nothing : (c : Compiled) → c.admin.disabled ≡ true → c.apps ≡ [] → DoAlike (compiled_acts c) nobody
 idle_does_nothing c disabled none = rw (disabled, none) (record { targets = λ at. refl; answers = λ at request. refl; lines = λ at request answer. refl })

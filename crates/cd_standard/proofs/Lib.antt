@@ -6,4 +6,5 @@ pub mod Examples
 pub mod Doing
 pub mod Tallies
 pub mod Finding
+pub mod Alike
 pub mod Crossing

@@ -4,5 +4,7 @@ pub mod Loading
 pub mod Checking
 pub mod Walking
 pub mod Acting
+pub mod Compiled
 pub mod Responders
 pub mod Administering
+pub mod Sure

@@ -1,21 +1,19 @@
-//! Who answers at an address of a configuration.
+//! Who answers at an address of a compiled configuration.
 ghost use Rattle.std.specs.Prelude.{◌≡◌, None, if◌then◌else◌};
 ghost use Rattle.std.specs.List.{find, flat_map, list_any};
 ghost use Rattle.std.specs.Option.{option_copied};
 ghost use Rattle.cd_addr.specs.Addresses.{is_address};
 ghost use Rattle.cd_module_set.specs.declared.target.Target.TheVariants as target;
-ghost use Rattle.cd_standard.specs.Acting.{admin_at, echo_at, echoes_at, has_address, stdio_address};
-ghost use Rattle.cd_standard.specs.Loading.{app_servers};
+ghost use Rattle.cd_standard.specs.Acting.{stdio_address};
+ghost use Rattle.cd_standard.specs.Compiled.{admin_at, app_servers, echo_at, echoes_at, has_address};
 ghost use Rattle.cd_standard.specs.Responders.{AreNumbers, IsNumber, Responds, server_numbered};
 
-use crate::app::App;
-use crate::configuration::Configuration;
+use crate::compiled::{Compiled, CompiledApp, CompiledServer};
 use crate::judging::is_address;
 use cd_module_set::{Responder, Target};
 use cd_outside::Address;
-use cd_routes::Server;
 
-impl Configuration {
+impl Compiled {
     /// Who answers at an address, with the numbers of the server there. It takes no memory.
     pub fn responder_at(&self, at: &Address) -> Responder
         ensures { Responds self.now at.now result }
@@ -59,17 +57,17 @@ impl Configuration {
     }
 
     /// The server with a responder's numbers, if it is one. It takes no memory.
-    pub fn server_of(&self, responder: Responder) -> Option<&Server>
+    pub fn server_of(&self, responder: Responder) -> Option<&CompiledServer>
         ensures { option_copied result ≡ server_numbered self.now.apps responder.app responder.server }
     {
         match self.apps.get(responder.app)? {
-            App::Echo(_) => None,
-            App::Http(http) => http.servers.get(responder.server),
+            CompiledApp::Echo(_) => None,
+            CompiledApp::Http(servers) => servers.get(responder.server),
         }
     }
 }
 
-fn any_echoes_at(at: &Address, apps: &[App]) -> bool
+fn any_echoes_at(at: &Address, apps: &[CompiledApp]) -> bool
     ensures { result ≡ list_any (echoes_at at.now) apps.now }
 {
     for app in apps {
@@ -80,19 +78,19 @@ fn any_echoes_at(at: &Address, apps: &[App]) -> bool
     false
 }
 
-fn echoes_at(at: &Address, app: &App) -> bool
+fn echoes_at(at: &Address, app: &CompiledApp) -> bool
     ensures { result ≡ echoes_at at.now app.now }
 {
     match app {
-        App::Echo(echo) => echo.listen.contains(at),
-        App::Http(_) => false,
+        CompiledApp::Echo(echo) => echo.listen.contains(at),
+        CompiledApp::Http(_) => false,
     }
 }
 
 // ---- servers
 
 // The first server with the address, by the numbers of its app and of itself.
-fn server_of_apps(at: &Address, apps: &[App]) -> Option<Responder>
+fn server_of_apps(at: &Address, apps: &[CompiledApp]) -> Option<Responder>
     ensures { AreNumbers apps.now (find (has_address at.now) (flat_map app_servers apps.now)) result }
 {
     for (place, app) in apps.iter().enumerate() {
@@ -107,16 +105,16 @@ fn server_of_apps(at: &Address, apps: &[App]) -> Option<Responder>
     None
 }
 
-fn server_of_app(at: &Address, app: &App) -> Option<usize>
+fn server_of_app(at: &Address, app: &CompiledApp) -> Option<usize>
     ensures { IsNumber (app_servers app.now) (find (has_address at.now) (app_servers app.now)) result }
 {
     match app {
-        App::Echo(_) => None,
-        App::Http(http) => first_with(at, http.servers.as_slice()),
+        CompiledApp::Echo(_) => None,
+        CompiledApp::Http(servers) => first_with(at, servers.as_slice()),
     }
 }
 
-fn first_with(at: &Address, servers: &[Server]) -> Option<usize>
+fn first_with(at: &Address, servers: &[CompiledServer]) -> Option<usize>
     ensures { IsNumber servers.now (find (has_address at.now) servers.now) result }
 {
     for (place, server) in servers.iter().enumerate() {
@@ -127,7 +125,7 @@ fn first_with(at: &Address, servers: &[Server]) -> Option<usize>
     None
 }
 
-fn has_address(at: &Address, server: &Server) -> bool
+fn has_address(at: &Address, server: &CompiledServer) -> bool
     ensures { result ≡ has_address at.now server.now }
 {
     is_stdio(at) || server.listen.contains(at)

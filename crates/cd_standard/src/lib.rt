@@ -6,10 +6,10 @@
 //! plan, or the first fault in this order: no object, ids, the settings, named routes that lead to themselves, limits, addresses
 //! that are listened on twice.
 //!
-//! `Standard` is the set of these modules (`ModuleSet`). What it compiles is the configuration, with the fact that no named route
-//! leads to itself (`Compiled`), which the answers of a server need. What a configuration does is in specs/Acting.antt: who answers at an
-//! address, the admin API, a server, or `echo`; a server's answers are those of cd_routes. The addresses are compared one after
-//! another.
+//! `Standard` is the set of these modules (`ModuleSet`). What a configuration does is in specs/Acting.antt: who answers at an
+//! address, the admin API, a server, or `echo`; a server's answers are those of cd_routes. It is compiled (`Compiled`): the routes
+//! of each server are laid out as a chain of cd_chain, from which its requests are answered. What a compiled configuration does is
+//! in specs/Compiled.antt, and `Compiled::compile` says that it is the same. The addresses are compared one after another.
 #![tactic(auto)]
 
 mod acting;
@@ -30,7 +30,7 @@ mod walking;
 
 pub use app::App;
 pub use checks::Check;
-pub use compiled::Compiled;
+pub use compiled::{Compiled, CompiledApp, CompiledServer};
 pub use configuration::Configuration;
 pub use echo::Echo;
 pub use http::Http;

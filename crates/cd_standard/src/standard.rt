@@ -1,11 +1,12 @@
 //! The set of the standard modules.
 ghost use Rattle.std.specs.Prelude.{◌≡◌, IfOk};
 ghost use Rattle.cd_admin.specs.Deciding.{change_of};
-ghost use Rattle.cd_standard.specs.Acting.{acts_of, acts_of_tree, lines_by, plan_of_tree, server_lines};
+ghost use Rattle.cd_standard.specs.Acting.{acts_of_tree, plan_of_tree};
+ghost use Rattle.cd_standard.specs.Compiled.{compiled_acts, lines_by, server_lines};
 ghost use Rattle.cd_standard.specs.Responders.{responds, server_numbered};
+ghost use Rattle.cd_standard.specs.Sure.{plan_is_sure};
 
-use crate::compiled::Compiled;
-use crate::configuration::Configuration;
+use crate::compiled::{Compiled, CompiledServer};
 use crate::loading::{Configured, load};
 use cd_admin::Admin;
 use cd_echo::echo_answer;
@@ -13,7 +14,6 @@ use cd_log::Logs;
 use cd_module::LoadFault;
 use cd_module_set::{Line, Loaded, ModuleSet, Responder, Target};
 use cd_outside::Address;
-use cd_routes::{Server, server_answer};
 use cd_text::{List, NoMemory};
 use cd_tree::Tree;
 use cd_wire::{Answer, Request};
@@ -31,22 +31,22 @@ impl ModuleSet for Standard {
 
     ghost acts = { acts_of_tree };
 
-    ghost form = { λ c. acts_of c.configuration };
+    ghost form = { compiled_acts };
 
     ghost responds = { responds };
 
     ghost change = { change_of plan_of_tree };
+
+    ghost sure = { plan_is_sure };
 
     #[tactic(auto, using(crate::proofs::Doing::idle_does_nothing))]
     fn nothing(alloc: Global) -> Result<Compiled, NoMemory> {
         let mut admin = Admin::usual(alloc)?;
         admin.disabled = true;
         Ok(Compiled {
-            configuration: Configuration {
-                admin,
-                apps: List::new(alloc),
-                logs: Logs::none(alloc),
-            },
+            admin,
+            apps: List::new(alloc),
+            logs: Logs::none(alloc),
         })
     }
 
@@ -56,18 +56,18 @@ impl ModuleSet for Standard {
             configuration,
             plan,
         } = load(alloc, &tree)?;
+        let compiled = Compiled::compile(alloc, configuration)?;
         Ok(Loaded {
             tree,
             plan,
-            compiled: Compiled { configuration },
+            compiled,
         })
     }
 
     fn target(compiled: &Compiled, at: &Address) -> Responder {
-        compiled.configuration.responder_at(at)
+        compiled.responder_at(at)
     }
 
-    #[tactic(auto, using(crate::proofs::Checked::found_has_none))]
     fn answer<'a>(
         alloc: Global,
         compiled: &'a Compiled,
@@ -77,8 +77,8 @@ impl ModuleSet for Standard {
     ) -> Result<Option<Answer<'a>>, NoMemory> {
         match responder.target {
             Target::Admin | Target::Nobody => Ok(None),
-            Target::App => match compiled.configuration.server_of(responder) {
-                Some(server) => Ok(Some(server_answer(alloc, server, request)?)),
+            Target::App => match compiled.server_of(responder) {
+                Some(server) => Ok(Some(server.chain.answer(alloc, request)?)),
                 None => Ok(Some(echo_answer(alloc, request))),
             },
         }
@@ -94,9 +94,7 @@ impl ModuleSet for Standard {
     ) -> Result<List<Line>, NoMemory> {
         match responder.target {
             Target::Admin | Target::Nobody => Ok(List::new(alloc)),
-            Target::App => {
-                lines_of_app(alloc, &compiled.configuration, responder, request, answer)
-            }
+            Target::App => lines_of_app(alloc, compiled, responder, request, answer),
         }
     }
 }
@@ -104,16 +102,16 @@ impl ModuleSet for Standard {
 // The lines of the server with a responder's numbers; of another app nothing is logged.
 fn lines_of_app(
     alloc: Global,
-    configuration: &Configuration,
+    compiled: &Compiled,
     responder: Responder,
     request: &Request,
     answer: &Answer<'_>,
 ) -> Result<List<Line>, NoMemory>
-    ensures { IfOk result (λ lines. lines ≡ lines_by configuration.now.logs
-        (server_numbered configuration.now.apps responder.app responder.server) request.now answer.now) }
+    ensures { IfOk result (λ lines. lines ≡ lines_by compiled.now.logs
+        (server_numbered compiled.now.apps responder.app responder.server) request.now answer.now) }
 {
-    match configuration.server_of(responder) {
-        Some(server) => server_lines(alloc, &configuration.logs, server, request, answer),
+    match compiled.server_of(responder) {
+        Some(server) => server_lines(alloc, &compiled.logs, server, request, answer),
         None => Ok(List::new(alloc)),
     }
 }
@@ -121,7 +119,7 @@ fn lines_of_app(
 fn server_lines(
     alloc: Global,
     logs: &Logs,
-    server: &Server,
+    server: &CompiledServer,
     request: &Request,
     answer: &Answer<'_>,
 ) -> Result<List<Line>, NoMemory>

@@ -1,6 +1,6 @@
 use Rattle.std.proofs.Common.{◌≡◌, drop}
 use Rattle.std.specs.List.{list_any}
-use Rattle.cd_standard.specs.Acting.{echoes_at}
+use Rattle.cd_standard.specs.Compiled.{echoes_at}
 use Rattle.cd_standard.proofs.acting.any_echoes_at.Given as goal
 
 abbrev pub invariant-loop-app : goal.invariant-loop-app

@@ -1,6 +1,6 @@
 use Rattle.std.proofs.Common.{◌∙◌, sym, refl, rules}
 use Rattle.std.proofs.lemmas.Option.{slice_get_read}
-use Rattle.cd_standard.specs.Acting.{has_address}
+use Rattle.cd_standard.specs.Compiled.{has_address}
 use Rattle.cd_standard.proofs.Finding.{found_first}
 use Rattle.cd_standard.proofs.acting.first_with.Goals as goal
 

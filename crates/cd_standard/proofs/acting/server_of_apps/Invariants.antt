@@ -1,7 +1,6 @@
 use Rattle.std.proofs.Common.{◌≡◌, drop}
 use Rattle.std.specs.List.{find, flat_map}
-use Rattle.cd_standard.specs.Acting.{has_address}
-use Rattle.cd_standard.specs.Loading.{app_servers}
+use Rattle.cd_standard.specs.Compiled.{app_servers, has_address}
 use Rattle.cd_standard.proofs.acting.server_of_apps.Given as goal
 
 abbrev pub invariant-loop-place : goal.invariant-loop-place

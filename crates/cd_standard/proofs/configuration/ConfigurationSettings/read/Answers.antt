@@ -1,4 +1,3 @@
-use Rattle.std.proofs.Common.{rules}
 use Rattle.cd_standard.specs.Configuration.{configuration}
 use Rattle.cd_handlers.proofs.Readers.{step_failed}
 use Rattle.cd_standard.proofs.configuration.ConfigurationSettings.read.Goals as goal

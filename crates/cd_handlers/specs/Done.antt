@@ -2,10 +2,10 @@
 use Rattle.std.specs.Prelude.{Option, Some, None}
 use Rattle.cd_fill.specs.declared.scene.Scene.{Scene}
 use Rattle.cd_handlers.specs.declared.changes.FilledChanges.{FilledChanges}
+use Rattle.cd_handlers.specs.declared.outcome.Done.{Done}
+use Rattle.cd_handlers.specs.declared.outcome.Done.TheVariants as done
 use Rattle.cd_handlers.specs.declared.outcome.Effect.{Effect}
 use Rattle.cd_handlers.specs.declared.outcome.Effect.TheVariants.{Next, Answered, Failed}
-use Rattle.cd_chain.specs.declared.doing.Done.{Done}
-use Rattle.cd_chain.specs.declared.doing.Done.TheVariants as done
 
 -- the effect of what left this scene
 abbrev pub effect_of : Done → Scene → Effect
