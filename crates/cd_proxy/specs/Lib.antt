@@ -1,0 +1,10 @@
+pub mod Removed
+pub mod Forward
+pub mod Heads
+pub mod Responses
+pub mod Reading
+pub mod Taking
+pub mod Intake
+pub mod Exchanges
+pub mod Relayed
+pub mod Replying
