@@ -1,0 +1,13 @@
+pub mod WordSteps
+pub mod ReadBack
+pub mod LineSteps
+pub mod SpellSteps
+pub mod AddressSteps
+pub mod LeftSteps
+pub mod Sooner
+pub mod ReaderSteps
+pub mod FaultSteps
+pub mod RepeatSteps
+pub mod Examples
+pub mod KeySteps
+pub mod TextWords
