@@ -1,0 +1,13 @@
+mod Beginnings
+mod Choices
+mod Examples
+mod Gating
+mod Images
+mod Keeping
+mod KeptProp
+mod Moments
+mod Putting
+mod Recovered
+mod Surviving
+mod Turning
+mod Writes

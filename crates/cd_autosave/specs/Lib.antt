@@ -1,0 +1,9 @@
+pub mod Places
+pub mod Image
+pub mod Disk
+pub mod Saving
+pub mod Memory
+pub mod MemoryLaws
+pub mod Heads
+pub mod Opening
+pub mod Saves
