@@ -1,0 +1,11 @@
+pub mod Duties
+pub mod Counts
+pub mod Words
+pub mod Rule
+pub mod Steps
+pub mod Tables
+pub mod Passes
+pub mod Ends
+pub mod Growing
+pub mod Knowing
+pub mod Cores

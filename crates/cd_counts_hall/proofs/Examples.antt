@@ -1,0 +1,51 @@
+-- Examples of the definitions: of each one where it is true and one where it is false.
+use Rattle.std.specs.Prelude.{◌≡◌, true, false, [], ◌∷◌}
+use Rattle.std.proofs.Common.{inl, refl}
+use Rattle.cd_legal.specs.declared.entry.Entry.TheVariants.{Finish, Halt}
+use Rattle.cd_legal.specs.declared.state.State.{State}
+use Rattle.cd_legal.specs.Entry.{signed}
+use Rattle.cd_legal.specs.State.{opening_state}
+use Rattle.cd_counts.specs.Steps.{first_view, with_turn}
+use Rattle.cd_counts.specs.Tables.{Found}
+use Rattle.cd_counts_hall.specs.Dues.{is_last_at, is_before_halt, DueThen}
+use Rattle.cd_counts_hall.specs.Since.{Since}
+use Rattle.cd_counts_hall.specs.Turned.{Turned}
+use Rattle.cd_counts_hall.proofs.Since.{entered}
+
+-- serial 1 is current, and one request runs under serial 0
+abbrev one_runs : State
+one_runs = record opening_state { serial = 1; tickets = record { caller = 2; serial = 0 } ∷ [] }
+
+abbrev halted : State
+halted = record one_runs { halted = true }
+
+abbrev Tests : Type 0
+Tests =
+    (is_last_at one_runs 0 ≡ true) × (is_last_at one_runs 1 ≡ false) × (is_before_halt halted 0 ≡ true) × (is_before_halt one_runs 0 ≡ false)
+
+tests : Tests
+tests = (refl, refl, refl, refl)
+
+-- the end of that request gives the duty, unless the host was halted: then the pass that halted may have it
+gives : DueThen one_runs 0 (0 ∷ [])
+gives = refl
+
+keeps : DueThen one_runs 0 [] → ⊥
+keeps is = absurd (let h : [] ≡ 0 ∷ [] = is in cc)
+
+may_have : DueThen halted 0 []
+may_have = inl refl
+
+-- a pass that has taken the turn has made nothing in it; what it has not seen it did not find
+module _ (b : State) where
+  found : Found (first_view b) []
+  found = record { history = record { is_legal = refl; is_signed = refl }; seen = ([], refl); own = refl; own_seen = refl; owes = refl; in_turn = λ has. refl }
+
+  since : Since (first_view b) (with_turn (first_view b) []) [] []
+  since = entered (first_view b) (with_turn (first_view b) []) [] found refl
+
+  not_since : Since (first_view b) (first_view b) (signed 1 (Halt 1) ∷ []) [] → ⊥
+  not_since s = absurd (let h : [] ≡ signed 1 (Halt 1) ∷ [] = s.first in cc)
+
+  not_turned : Turned (first_view b) (first_view b) [] (Finish 0 ∷ []) → ⊥
+  not_turned t = absurd (let h : [] ≡ signed 0 (Finish 0) ∷ [] = t.is in cc)

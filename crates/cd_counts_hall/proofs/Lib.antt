@@ -1,0 +1,6 @@
+pub mod Since
+pub mod DueThen
+pub mod Turning
+pub mod Cores
+pub mod Beginning
+mod Examples

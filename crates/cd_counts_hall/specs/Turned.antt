@@ -1,0 +1,27 @@
+-- What a call in a turn of its own has made.
+use Rattle.std.specs.Prelude.{◌≡◌, ℕ, List, [], ◌∷◌, ◌++◌}
+use mathlib.Core.List.{IsPrefix}
+use Rattle.cd_legal.specs.declared.entry.Entry.{Entry}
+use Rattle.cd_legal.specs.declared.entry.Signed.{Signed}
+use Rattle.cd_legal.specs.declared.state.State.{State}
+use Rattle.cd_legal.specs.Entry.{signed}
+use Rattle.cd_legal.specs.Legal.{state_at}
+use Rattle.cd_legal.specs.Placed.{Placed}
+use Rattle.cd_counts.specs.declared.view.View.{View}
+use Rattle.cd_counts.specs.Growing.{all_signed, Grows}
+
+-- the entries that follow a history, each where it stands
+abbrev pub placed_behind : ℕ → List Signed → List Entry → List Placed
+placed_behind k found [] = []
+placed_behind k found (e ∷ es) = record { before = found; entry = e } ∷ placed_behind k (found ++ signed k e ∷ []) es
+
+module _ {T : Type 0} where
+  -- in one turn, right after the history that it found, a call of a pass made these entries
+  pub record Turned (v w : View T) (found : List Signed) (made : List Entry) : Type 0 where
+    pub seen : IsPrefix v.seen found
+    pub is : w.seen ≡ found ++ all_signed v.number made
+    pub grows : Grows v w made
+
+  -- the call made these entries, by the state that it met
+  abbrev pub Makes : View T → View T → (State → List Entry) → Type 0
+  Makes v w made = (found : List Signed) × Turned v w found (made (state_at found))
