@@ -12,3 +12,5 @@ pub mod Found
 pub mod Joined
 pub mod ReadBack
 pub mod Utf8Texts
+mod LastBytes
+mod SolidWords

@@ -1,5 +1,6 @@
 pub mod Counted
 pub mod Direct
+pub mod Endings
 pub mod Fields
 pub mod Lengths
 pub mod Path

@@ -25,6 +25,7 @@
 mod converting;
 mod copies;
 mod direct;
+mod endings;
 mod equality;
 mod fault;
 mod fields;
@@ -43,6 +44,7 @@ mod tree;
 mod way;
 
 pub use copies::{copy, copy_member};
+pub use endings::no_tree_ends_in_zero;
 pub use equality::equal;
 pub use fault::{FieldFault, TreeFault};
 pub use fields::Fields;
