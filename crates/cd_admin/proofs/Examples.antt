@@ -1,15 +1,16 @@
 -- Examples of the definitions, from the rule by hand.
-use Rattle.std.proofs.Common.{◌≡◌, ℕ, List, [], ◌∷◌, true, false, Some, Ok, Err, refl, rules}
+use Rattle.std.proofs.Common.{◌≡◌, ℕ, Bool, List, [], ◌∷◌, true, false, Some, Ok, Err, refl, rules}
 use Rattle.std.specs.Prelude.{codes}
 use Rattle.cd_tree.specs.declared.path.Path.{Path}
-use Rattle.cd_tree.specs.declared.tree.Tree.{Null, the_lemmas}
+use Rattle.cd_tree.specs.declared.tree.Member.{roll-Member}
+use Rattle.cd_tree.specs.declared.tree.Tree.{Tree, Null, Bool as Truth, Object, the_lemmas}
 use Rattle.cd_outside.specs.declared.address.Address.{Address}
 use Rattle.cd_addr.specs.Addresses.{written}
 use Rattle.cd_wire.specs.declared.fields.Field.{Field}
 use Rattle.cd_module.specs.Faults.{refused}
-use Rattle.cd_module.specs.Settings.{optional}
+use Rattle.cd_module.specs.Settings.{members, optional}
 use Rattle.cd_module.specs.declared.fault.LoadKind.TheVariants.{BadAddress}
-use Rattle.cd_admin.specs.Admin.{admin_in, admin_of, one_address, usual_address, usual_admin}
+use Rattle.cd_admin.specs.Admin.{admin, admin_config, admin_in, admin_of, one_address, persists, usual_address, usual_admin}
 use Rattle.cd_admin.specs.Endings.{denied}
 use Rattle.cd_admin.specs.Origins.{admitted, expected, names, text_at, texts_of, without_scheme}
 use Rattle.cd_admin.specs.declared.admin.Admin.{Admin}
@@ -87,3 +88,23 @@ two_are_not address other at = refl
 null_is_usual : admin_of Null ≡ usual_admin
 unfolding admin_in optional
 null_is_usual = search (rules, the_lemmas)
+
+-- ---- what is kept
+
+abbrev alone : List ℕ → Tree → Tree
+alone name value = Object (roll-Member (record { key = name; value = value }) ∷ [])
+
+abbrev saying : Bool → Tree
+saying b = alone (codes "admin") (alone (codes "config") (alone (codes "persist") (Truth b)))
+
+null_is_kept : persists Null ≡ true
+unfolding admin_in optional
+null_is_kept = search (rules, the_lemmas)
+
+what_is_denied_is_not_kept : persists (saying false) ≡ false
+unfolding admin_in admin admin_config members optional
+what_is_denied_is_not_kept = search (rules, the_lemmas)
+
+what_is_asked_for_is_kept : persists (saying true) ≡ true
+unfolding admin_in admin admin_config members optional
+what_is_asked_for_is_kept = search (rules, the_lemmas)

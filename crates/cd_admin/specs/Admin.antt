@@ -1,6 +1,6 @@
 -- Part of the main theorem.
 -- The settings of the admin API, and the first fault there (Caddy, JSON Config Structure, `admin`).
-use Rattle.std.specs.Prelude.{false, List, [], ◌∷◌, codes, Option, Some, None, unwrap_or, Result, Ok, Err}
+use Rattle.std.specs.Prelude.{Bool, true, false, List, [], ◌∷◌, codes, Option, Some, None, unwrap_or, Result, Ok, Err}
 use Rattle.cd_text.specs.Steps.{◌▷◌}
 use Rattle.cd_tree.specs.declared.path.Path.{Path}
 use Rattle.cd_tree.specs.declared.tree.Member.{Member}
@@ -35,12 +35,16 @@ abbrev pub given_or_usual : Option AdminListen → Address
 given_or_usual None = usual_address
 given_or_usual (Some given) = given.address
 
--- its members have no effect so far
+-- configurations are kept, unless that is denied
 unfoldable pub admin_config : Reader AdminConfig
 admin_config t at =
     members (codes "persist") t at ▷ λ ms.
-    optional truth (codes "persist") ms at ▷ λ _.
-    Ok (record {})
+    optional truth (codes "persist") ms at ▷ λ persist.
+    Ok (record { persist = unwrap_or persist true })
+
+abbrev pub kept_unless_denied : Option AdminConfig → Bool
+kept_unless_denied None = true
+kept_unless_denied (Some config) = config.persist
 
 -- origins are enforced only where that is said
 unfoldable pub admin : Reader Admin
@@ -50,12 +54,12 @@ admin t at =
     optional admin_listen (codes "listen") ms at ▷ λ listen.
     optional truth (codes "enforce_origin") ms at ▷ λ enforced.
     optional (list_of text) (codes "origins") ms at ▷ λ origins.
-    optional admin_config (codes "config") ms at ▷ λ _.
-    Ok (record { disabled = unwrap_or disabled false; listen = given_or_usual listen; enforce_origin = unwrap_or enforced false; origins = origins })
+    optional admin_config (codes "config") ms at ▷ λ config.
+    Ok (record { disabled = unwrap_or disabled false; listen = given_or_usual listen; enforce_origin = unwrap_or enforced false; origins = origins; persist = kept_unless_denied config })
 
 -- the admin API where nothing is said of it
 abbrev pub usual_admin : Admin
-usual_admin = record { disabled = false; listen = usual_address; enforce_origin = false; origins = None }
+usual_admin = record { disabled = false; listen = usual_address; enforce_origin = false; origins = None; persist = true }
 
 abbrev pub admin_or_usual : Option Admin → Admin
 admin_or_usual None = usual_admin
@@ -84,3 +88,7 @@ unless_faulty (Err fault) = usual_admin
 -- the settings of the admin API in a configuration
 abbrev pub admin_of : Tree → Admin
 admin_of t = unless_faulty (admin_in t)
+
+-- a configuration is kept, so that it outlasts the program, unless it says that it is not to be
+abbrev pub persists : Tree → Bool
+persists t = (admin_of t).persist

@@ -2,7 +2,7 @@
 ghost use Rattle.std.specs.Prelude.{◌≡◌, Ok, IfOk};
 ghost use Rattle.std.specs.Result.{IsOk};
 ghost use Rattle.cd_text.specs.Gives.{Gives};
-ghost use Rattle.cd_admin.specs.Admin.{admin, admin_config, admin_in, admin_listen, admin_of, admin_or_usual, given_or_usual, one_address, usual_address, usual_admin};
+ghost use Rattle.cd_admin.specs.Admin.{admin, admin_config, admin_in, admin_listen, admin_of, admin_or_usual, given_or_usual, kept_unless_denied, one_address, persists, usual_address, usual_admin};
 
 use cd_addr::{AddrFault, read};
 use cd_module::{LoadFault, LoadKind, Settings, fields_of, optional};
@@ -22,6 +22,8 @@ pub struct Admin {
     pub enforce_origin: bool,
     /// Which hosts and origins are expected, as they are written: that of `listen`, unless they are given.
     pub origins: Option<List<Text>>,
+    /// Whether the configuration is kept, so that it outlasts the program: unless `persist` of `config` is false.
+    pub persist: bool,
 }
 
 // The one address that a text writes.
@@ -30,9 +32,11 @@ struct AdminListen {
     address: Address,
 }
 
-// `config`, whose members have no effect so far.
+// `config`: whether configurations are kept.
 #[derive(Clone, Copy, Debug)]
-struct AdminConfig;
+struct AdminConfig {
+    persist: bool,
+}
 
 impl Settings for AdminListen {
     ghost reader = { admin_listen };
@@ -71,8 +75,10 @@ impl Settings for AdminConfig {
     #[tactic(auto, unfolding(crate::specs::Admin::admin_config))]
     fn read(alloc: Global, tree: &Tree, at: &Place<'_>) -> Result<AdminConfig, LoadFault> {
         let fields = fields_of(alloc, tree, at, "persist")?;
-        let _ = optional::<bool>(alloc, &fields, at, "persist")?;
-        Ok(AdminConfig)
+        let persist = optional::<bool>(alloc, &fields, at, "persist")?;
+        Ok(AdminConfig {
+            persist: persist.unwrap_or(true),
+        })
     }
 }
 
@@ -86,6 +92,7 @@ impl Admin {
             listen: usual_address(alloc)?,
             enforce_origin: false,
             origins: None,
+            persist: true,
         })
     }
 
@@ -112,6 +119,16 @@ impl Admin {
     }
 }
 
+/// Whether a configuration, which has no fault in what it says of the admin API, is kept, so that it outlasts the program: unless
+/// `admin.config.persist` is false (Caddy, JSON Config Structure, `admin`).
+pub fn persists(alloc: Global, tree: &Tree) -> Result<bool, NoMemory>
+    requires { IsOk (admin_in tree.now) }
+    ensures { IfOk result (λ kept. kept ≡ persists tree.now) }
+{
+    let admin = Admin::of_tree(alloc, tree)?;
+    Ok(admin.persist)
+}
+
 /// What a configuration says of the admin API. Its other members are not looked at.
 #[tactic(auto, unfolding(crate::specs::Admin::admin_in))]
 fn admin_in(alloc: Global, tree: &Tree) -> Result<Option<Admin>, LoadFault>
@@ -132,6 +149,15 @@ fn usual_address(alloc: Global) -> Result<Address, NoMemory>
         host: Text::from_str(alloc, "localhost")?,
         port: 2019,
     })
+}
+
+fn kept_unless_denied(config: Option<AdminConfig>) -> bool
+    ensures { result ≡ kept_unless_denied config }
+{
+    match config {
+        Some(config) => config.persist,
+        None => true,
+    }
 }
 
 fn address_or_usual(alloc: Global, given: Option<AdminListen>) -> Result<Address, NoMemory>
@@ -161,12 +187,13 @@ impl Settings for Admin {
         let listen = optional::<AdminListen>(alloc, &fields, at, "listen")?;
         let enforced = optional::<bool>(alloc, &fields, at, "enforce_origin")?;
         let origins = optional::<List<Text>>(alloc, &fields, at, "origins")?;
-        let _ = optional::<AdminConfig>(alloc, &fields, at, "config")?;
+        let config = optional::<AdminConfig>(alloc, &fields, at, "config")?;
         Ok(Admin {
             disabled: disabled.unwrap_or(false),
             listen: address_or_usual(alloc, listen)?,
             enforce_origin: enforced.unwrap_or(false),
             origins,
+            persist: kept_unless_denied(config),
         })
     }
 }

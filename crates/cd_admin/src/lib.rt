@@ -33,7 +33,7 @@ mod origins;
 mod paths;
 mod wording;
 
-pub use admin::Admin;
+pub use admin::{Admin, persists};
 pub use administered::Administered;
 pub use answers::{done, error_answer};
 pub use deciding::decide;

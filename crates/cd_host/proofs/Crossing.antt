@@ -17,7 +17,7 @@ use Rattle.cd_desk.specs.contracts.desk.Desk as Desk
 use Rattle.cd_gate.proofs.gate.Gate.TheSendSync as gate
 use Rattle.cd_gate.proofs.pass.Pass.TheSendSync as pass
 use Rattle.cd_hall.specs.contracts.hall.Hall as Hall
-use Rattle.cd_serve.proofs.lane_end.LaneEnd.TheSendSync as end
+use Rattle.cd_session.proofs.lane_end.LaneEnd.TheSendSync as end
 use Rattle.cd_host.specs.contracts.slot.Slot as Slot
 
 tree_send : IsSend Tree.the_row

@@ -13,8 +13,8 @@ use Rattle.cd_legal.specs.Legal.{state_at}
 use Rattle.cd_legal.specs.Placed.{Placed, placed, placed_entries}
 use Rattle.cd_legal.proofs.Logs.{prefix_trans, mine-append, entries-append}
 use Rattle.cd_legal.proofs.Placed.{placed-entries}
-use Rattle.cd_serve.specs.declared.lane_end.LaneHow.{LaneHow}
-use Rattle.cd_serve.specs.declared.lane_end.LaneHow.TheVariants as how
+use Rattle.cd_session.specs.declared.lane_end.LaneHow.{LaneHow}
+use Rattle.cd_session.specs.declared.lane_end.LaneHow.TheVariants as how
 use Rattle.cd_serve.specs.Reports.{ServedLane, ServedLanesFrom, lanes_of}
 use Rattle.cd_serve.specs.Lanes.{IsLaneEnd, IsServed}
 use Rattle.cd_serve.specs.Meanings.{Meaning}

@@ -15,7 +15,7 @@ use Rattle.cd_gate.specs.Growing.{all_signed}
 use Rattle.cd_gate.specs.Passes.{view}
 use Rattle.cd_hall.specs.declared.hall.Hall.{Hall}
 use Rattle.cd_hall.specs.Calls.{IsPassOf}
-use Rattle.cd_serve.specs.declared.lane_end.LaneHow.TheVariants as how
+use Rattle.cd_session.specs.declared.lane_end.LaneHow.TheVariants as how
 use Rattle.cd_serve.specs.Meanings.{Meaning}
 use Rattle.cd_serve.specs.Lanes.{IsServed}
 use Rattle.cd_serve.specs.Reports.{Span, ServedLane as Served, lanes_of}

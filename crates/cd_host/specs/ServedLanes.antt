@@ -11,7 +11,7 @@ use Rattle.cd_legal.specs.Entry.{mine}
 use Rattle.cd_legal.specs.Legal.{state_at}
 use Rattle.cd_legal.specs.Placed.{Placed, placed, placed_entries}
 use Rattle.cd_gate.specs.Growing.{all_signed}
-use Rattle.cd_serve.specs.declared.lane_end.LaneHow.TheVariants as how
+use Rattle.cd_session.specs.declared.lane_end.LaneHow.TheVariants as how
 use Rattle.cd_serve.specs.Meanings.{Meaning}
 use Rattle.cd_serve.specs.Lanes.{IsServed}
 use Rattle.cd_serve.specs.Reports.{Span, ServedLane}

@@ -1,11 +1,12 @@
 -- What is done under a ticket, by who answers.
-use Rattle.std.proofs.Common.{◌≡◌, ◌∙◌, ◌++◌, ◌||◌, ◌&&◌, ◌==◌, not, ℕ, Bool, true, false, cond, List, [], ◌∷◌, Option, Some, None, inl, inr, refl, ap, sym, subst, eq-eqb}
+use Rattle.std.proofs.Common.{◌≡◌, ◌∙◌, ◌++◌, ◌||◌, ◌&&◌, ◌==◌, not, ℕ, ◌+◌, Bool, true, false, cond, List, [], ◌∷◌, Option, Some, None, inl, inr, refl, ap, sym, subst, eq-eqb}
 use Rattle.std.specs.List.{list_any}
 use Rattle.std.specs.Result.{IsOk}
 use Rattle.std.specs.Arc.{arc_value}
 use Rattle.std.proofs.lemmas.List.{append_assoc, append-nil, append_cancel_left}
 use mathlib.Core.List.{IsPrefix}
 use Rattle.cd_outside.specs.declared.address.Address.{Address}
+use Rattle.cd_outside.specs.declared.past.KeepRecord.{KeepRecord}
 use Rattle.cd_outside.specs.declared.past.Logged.{Logged}
 use Rattle.cd_outside.specs.declared.past.Past.{Past}
 use Rattle.cd_tree.specs.declared.tree.Tree.{Tree}
@@ -45,7 +46,7 @@ use Rattle.cd_serve.specs.declared.how.How.{How}
 use Rattle.cd_serve.specs.declared.how.How.TheVariants as how
 use Rattle.cd_serve.specs.Attempts.{Attempted, Works}
 use Rattle.cd_serve.specs.Changes.{IsHalting}
-use Rattle.cd_serve.specs.Meanings.{Meaning, nothing_sent, IsForNobody, IsAnswer, Decides}
+use Rattle.cd_serve.specs.Meanings.{Meaning, nothing_sent, keeps_of, IsForNobody, IsAnswer, Decides}
 use Rattle.cd_serve.specs.Faults.{fault_answer, halted_answer}
 use Rattle.cd_serve.specs.Episodes.{Kind, Outcome, Answers, Replaces, Halts, conf_met, makes_change, is_halt, another_halted}
 use Rattle.cd_serve.specs.Requests.{outcome_of, IsSent, IsBegun, FinishesAfter, EndsIn, Acted, ActedQuietly}
@@ -144,26 +145,26 @@ module _ (m : Meaning) (at : Address) (q : Request) (conf : Conf) (serial : ℕ)
   pub quiet-lacking : (told : Option Past) → ActedQuietly m at q conf serial how.NoMemory told told
   quiet-lacking told = record { what = nothing_sent; past = nothing-sent told; is = λ k seen begin finish b f. (inr refl, refl) }
 
-  pub quiet-answer : (r : Answer) (all : List Logged) (h : How) (old new : Option Past) → IsAnswer m conf at q r all → IsSent h q r all old new → ActedQuietly m at q conf serial h old new
+  pub quiet-answer : (r : Answer) (all : List Logged) (h : How) (old new : Option Past) → IsAnswer m conf at q r all → IsSent h q r all [] old new → ActedQuietly m at q conf serial h old new
   quiet-answer r all h old new a s = record {
     what = s.what;
     past = s.past;
     is = λ k seen begin finish b f.
-        ends-sent m k at q Kind.served begin [] finish r all h s.what (subst (λ (c : Conf). IsAnswer m c at q r all) (sym b.conf_is) a, refl) s.is (λ e. refl);
+        ends-sent m k at q Kind.served begin [] finish r all [] h s.what (subst (λ (c : Conf). IsAnswer m c at q r all) (sym b.conf_is) a, refl, refl) s.is (λ e. refl);
   }
 
   -- ---- with entries
 
   module _ {T : Type 0} (v w : View T) where
-    acted-kind : (kind : Kind) (work : List Placed) (r : Answer) (h : How) (old new : Option Past) → Places v w work
-        → ((begin finish : Placed) → BeganWith conf serial begin → FinishesAfter w.seen finish → Answers m v.number at q kind begin work finish r [])
-        → IsSent h q r [] old new → (h ≡ how.NoMemory → makes_change kind ≡ false) → Acted m at q conf serial (Some h) v w old new
-    acted-kind kind work r h old new p answers s made = record {
+    acted-kind : (kind : Kind) (work : List Placed) (r : Answer) (keeps : List KeepRecord) (h : How) (old new : Option Past) → Places v w work
+        → ((begin finish : Placed) → BeganWith conf serial begin → FinishesAfter w.seen finish → Answers m v.number at q kind begin work finish r [] keeps)
+        → IsSent h q r [] keeps old new → (h ≡ how.NoMemory → makes_change kind ≡ false) → Acted m at q conf serial (Some h) v w old new
+    acted-kind kind work r keeps h old new p answers s made = record {
       work = work;
       what = s.what;
       places = p;
       past = s.past;
-      is = λ begin finish b f. ends-sent m v.number at q kind begin work finish r [] h s.what (answers begin finish b f) s.is made;
+      is = λ begin finish b f. ends-sent m v.number at q kind begin work finish r [] keeps h s.what (answers begin finish b f) s.is made;
     }
 
     -- no change that was made lacked the memory for its answer
@@ -180,15 +181,15 @@ module _ (m : Meaning) (at : Address) (q : Request) (conf : Conf) (serial : ℕ)
     replaces tree begin d b = subst (λ (c : Conf). Decides m c at q (replace tree)) (sym b.conf_is) d
 
     pub acted-published : (tree : Tree) (work : List Placed) (h : How) (old new : Option Past) → Decides m conf at q (replace tree) → Works v w work → Attempted m tree q v.number serial (state_at w.seen) work attempt.Published
-        → IsSent h q done [] old new → ¬ (h ≡ how.NoMemory) → Acted m at q conf serial (Some h) v w old new
+        → IsSent h q done [] (keeps_of (serial + 1) tree) old new → ¬ (h ≡ how.NoMemory) → Acted m at q conf serial (Some h) v w old new
     acted-published tree work h old new d p a s made =
-        acted-kind Kind.changed work done h old new p.places
+        acted-kind Kind.changed work done (keeps_of (serial + 1) tree) h old new p.places
         (λ begin finish b f. answers-made m v.number at q tree serial (state_at w.seen) begin finish work (replaces tree begin d b) b.serial_is a) s (has-memory h Kind.changed made)
 
     pub acted-refused : (tree : Tree) (why : ChangeFault) (work : List Placed) (h : How) (old new : Option Past) → Decides m conf at q (replace tree) → Works v w work → Attempted m tree q v.number serial (state_at w.seen) work (attempt.Refused why)
-        → IsSent h q (fault_answer why) [] old new → Acted m at q conf serial (Some h) v w old new
+        → IsSent h q (fault_answer why) [] [] old new → Acted m at q conf serial (Some h) v w old new
     acted-refused tree why work h old new d p a s =
-        acted-kind (kind_of why) work (fault_answer why) h old new p.places
+        acted-kind (kind_of why) work (fault_answer why) [] h old new p.places
         (λ begin finish b f.
         answers-refused m v.number at q tree serial (state_at w.seen) begin finish work (replaces tree begin d b) b.serial_is why a
         (λ full. drafts-stay-spent w.seen finish.before f.after f.legal full)) s (λ e. refused-kind why)
@@ -215,9 +216,9 @@ module _ (m : Meaning) (at : Address) (q : Request) (conf : Conf) (serial : ℕ)
     halts : (begin : Placed) → Decides m conf at q halt → BeganWith conf serial begin → Halts m v.number at q begin
     halts begin d b = subst (λ (c : Conf). Decides m c at q halt) (sym b.conf_is) d
 
-    pub acted-halted : (work : List Placed) (h : How) (old new : Option Past) → Decides m conf at q halt → Works v w work → IsHalting work → IsSent h q halted_answer [] old new → ¬ (h ≡ how.NoMemory) → Acted m at q conf serial (Some h) v w old new
+    pub acted-halted : (work : List Placed) (h : How) (old new : Option Past) → Decides m conf at q halt → Works v w work → IsHalting work → IsSent h q halted_answer [] [] old new → ¬ (h ≡ how.NoMemory) → Acted m at q conf serial (Some h) v w old new
     acted-halted work h old new d p is s made =
-        acted-kind Kind.halting work halted_answer h old new p.places (λ begin finish b f. (halts begin d b, is, refl, refl)) s (has-memory h Kind.halting made)
+        acted-kind Kind.halting work halted_answer [] h old new p.places (λ begin finish b f. (halts begin d b, is, refl, refl, refl)) s (has-memory h Kind.halting made)
 
     runs : (d : Decides m conf at q halt) → is_halted conf ≡ false
     runs d = ap is_halted d.runs

@@ -1,7 +1,6 @@
 -- A connection that was not interrupted has all its answers.
 use Rattle.std.proofs.Common.{◌≡◌, ◌∙◌, ℕ, ◌++◌, Bool, true, false, List, [], ◌∷◌, inl, inr, refl, ap, sym, subst}
-use Rattle.std.specs.Prelude.{map}
-use Rattle.std.proofs.lemmas.List.{append_assoc, append-nil, map-append}
+use Rattle.std.proofs.lemmas.List.{append-nil, map-append}
 use Rattle.cd_outside.specs.declared.address.Address.{Address}
 use Rattle.cd_outside.specs.declared.past.Connection.{Connection}
 use Rattle.cd_wire.specs.declared.answer.Answer.{Answer}
@@ -10,7 +9,7 @@ use Rattle.cd_wire.specs.Render.{refusal_bytes}
 use Rattle.cd_wire.specs.Requests.{Splits, Tail}
 use Rattle.cd_legal.specs.declared.entry.Signed.{Signed}
 use Rattle.cd_legal.specs.Placed.{Placed}
-use Rattle.cd_serve.specs.Meanings.{Meaning, Sent, sent, nothing_sent, both_sent, only_bytes, IsForNobody}
+use Rattle.cd_serve.specs.Meanings.{Meaning, Sent, sent, nothing_sent, both_sent, IsForNobody}
 use Rattle.cd_serve.specs.Episodes.{Outcome, Ends, conf_met}
 use Rattle.cd_serve.specs.Replies.{Reply, IsReply, AreReplies, requests, all_sent}
 use Rattle.cd_serve.specs.Connections.{Way, Ending, AllGoOn, LastIs, IsTail, HasFurther, IsWorn, EndsBy, Serves}
@@ -27,7 +26,7 @@ record All (m : Meaning) (k : ℕ) (at : Address) (rs : List Reply) : Type 0 whe
 one : (m : Meaning) (k : ℕ) (at : Address) (r : Reply) (close : Bool) → IsReply m k at r → r.outcome ≡ Outcome.answered close → (a : Answer) × IsAnsweredBy m k at r a
 one m k at r close i is =
     let e : Ends m k at r.request (Outcome.answered close) i.episode.begin i.episode.work i.episode.finish r.sent = subst (λ (o : Outcome). Ends m k at r.request o i.episode.begin i.episode.work i.episode.finish r.sent) is i.ends in
-    (e.1, record { episode = i.episode; kind = e.0; lines = e.2; answers = e.3; sent = e.4 })
+    (e.1, record { episode = i.episode; kind = e.0; lines = e.2; keeps = e.3; answers = e.4; sent = e.5 })
 
 more : (m : Meaning) (k : ℕ) (at : Address) (r : Reply) (rs : List Reply) → ((a : Answer) × IsAnsweredBy m k at r a) → All m k at rs → All m k at (r ∷ rs)
 more m k at r rs first rest = record {
@@ -56,6 +55,10 @@ module _ (m : Meaning) (k : ℕ) (history : List Signed) (before : List Placed) 
   put-is : (answers : List Answer) → (all_sent s.replies).put ≡ answer_bytes (requests s.replies) answers → c.put ≡ answer_bytes (requests s.replies) answers ++ s.fixed
   put-is answers is = ap (λ (z : Sent). z.put) s.sent ∙ ap (λ (b : List ℕ). b ++ s.fixed) is
 
+  -- only replies keep configurations
+  keeps-are : c.keeps ≡ (all_sent s.replies).keeps
+  keeps-are = ap (λ (z : Sent). z.keeps) s.sent ∙ append-nil (all_sent s.replies).keeps
+
   -- nobody answers the last one, for which nothing was sent
   for-nobody : (o : Outcome) → LastIs o s.replies → ((q : Request) (begin : Placed) (work : List Placed) (finish : Placed) (z : Sent) → Ends m k c.address q o begin work finish z → IsForNobody m (conf_met begin) c.address q × (z ≡ nothing_sent)) → s.fixed ≡ [] → IsComplete m k history own c
   for-nobody o l nobody none =
@@ -72,7 +75,7 @@ module _ (m : Meaning) (k : ℕ) (history : List Signed) (before : List Placed) 
         are = a.are;
         fixed = [];
         put = ap (λ (z : Sent). z.put) s.sent ∙ (ap (λ (b : List ℕ). (all_sent s.replies).put ++ b) none ∙ (ap (λ (z : Sent). z.put ++ []) sent ∙ ap (λ (b : List ℕ). b ++ []) a.put));
-        keeps = s.keeps;
+        keeps = keeps-are ∙ ap (λ (z : Sent). z.keeps) sent;
         why = inr (inr (inl (l.last.request, s.rest, subst (λ (qs : List Request). Splits c.taken qs s.rest) asked s.splits, (f.1.episode.begin, n.0), refl)));
       }
 
@@ -86,7 +89,7 @@ module _ (m : Meaning) (k : ℕ) (history : List Signed) (before : List Placed) 
         are = a.are;
         fixed = s.fixed;
         put = put-is a.answers a.put;
-        keeps = s.keeps;
+        keeps = keeps-are;
         why = inl (tail, record { rest = s.rest; splits = s.splits; no_more = is.0; tail_is = is.1 }, fixed);
       }
 
@@ -100,7 +103,7 @@ module _ (m : Meaning) (k : ℕ) (history : List Signed) (before : List Placed) 
         are = a.are;
         fixed = s.fixed;
         put = put-is a.answers a.put;
-        keeps = s.keeps;
+        keeps = keeps-are;
         why = inr (inl (s.rest, s.splits, l, fixed));
       }
 
@@ -113,7 +116,7 @@ module _ (m : Meaning) (k : ℕ) (history : List Signed) (before : List Placed) 
         are = a.are;
         fixed = s.fixed;
         put = put-is a.answers a.put;
-        keeps = s.keeps;
+        keeps = keeps-are;
         why = inr (inr (inr (s.rest, s.again, s.splits, further, is, fixed)));
       }
 

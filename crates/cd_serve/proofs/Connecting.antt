@@ -1,5 +1,5 @@
 -- A connection goes on from nothing, and ends in one of the ways.
-use Rattle.std.proofs.Common.{◌≡◌, ◌∙◌, ◌++◌, ◌+◌, ℕ, min, Bool, true, false, cond, List, [], ◌∷◌, length, Option, option_map, refl, ap, sym, subst, arith}
+use Rattle.std.proofs.Common.{◌≡◌, ◌∙◌, ◌++◌, ◌+◌, ℕ, min, Bool, true, false, cond, List, [], ◌∷◌, Option, option_map, refl, ap, sym, subst, arith}
 use Rattle.std.specs.Prelude.{flat_map, sum_by}
 use Rattle.std.proofs.lemmas.List.{append-nil, map-append}
 use Rattle.std.proofs.lemmas.List.Sums.{sum_by-append}
@@ -7,22 +7,22 @@ use Rattle.std.proofs.lemmas.Grind.{flat_map-append}
 use mathlib.Core.List.{IsPrefix}
 use Rattle.cd_text.specs.Steps.{joined}
 use Rattle.cd_outside.specs.declared.address.Address.{Address}
-use Rattle.cd_outside.specs.declared.past.KeepRecord.{KeepRecord}
 use Rattle.cd_outside.specs.declared.past.Past.{Past}
 use Rattle.cd_outside.specs.Counts.{count_end}
-use Rattle.cd_outside.specs.Past.{after_put, with_connection, fresh}
+use Rattle.cd_outside.specs.Past.{after_put, with_connection}
 use Rattle.cd_wire.specs.declared.request.Request.{Request}
 use Rattle.cd_wire.specs.Requests.{Splits, BeginsRequest}
 use Rattle.cd_wire.proofs.RequestLaws.{Splits-append, Splits-snoc}
 use Rattle.cd_legal.specs.declared.entry.Signed.{Signed}
 use Rattle.cd_legal.specs.Placed.{Placed, through}
-use Rattle.cd_serve.specs.declared.cause.Cause.{Cause}
-use Rattle.cd_serve.specs.Meanings.{Meaning, Sent, only_bytes, nothing_sent, kept_after, both_sent, after_sending}
+use Rattle.cd_session.specs.declared.cause.Cause.{Cause}
+use Rattle.cd_serve.specs.Meanings.{Meaning, Sent, only_bytes, kept_after, both_sent, nothing_sent, after_sending}
 use Rattle.cd_serve.specs.Episodes.{Outcome, Ends}
 use Rattle.cd_serve.specs.Replies.{Reply, IsReply, AreReplies, requests, own_of, owns, all_sent, is_whole, answered_of}
 use Rattle.cd_serve.specs.Connections.{Way, AllGoOn, EndsBy}
 use Rattle.cd_serve.specs.Lanes.{finds_halt}
 use Rattle.cd_serve.specs.Serving.{Replied, ConnectionSoFar, ConnectionServed, CausedBy, after_all}
+use Rattle.cd_serve.proofs.KeptFirst.{kept-first}
 use Rattle.cd_serve.proofs.Told.{nothing-first, nothing-then, sent-assoc, sent-new, put-sent, nothing-yet, nothing-put, taking, ending, sending}
 
 -- ---- one reply more
@@ -47,23 +47,6 @@ count-more replies r =
 pub sent-more : (replies : List Reply) (r : Reply) → all_sent (replies ++ r ∷ []) ≡ both_sent (all_sent replies) r.sent
 sent-more [] r = nothing-then r.sent ∙ sym (nothing-first r.sent)
 sent-more (x ∷ xs) r = ap (both_sent x.sent) (sent-more xs r) ∙ sym (sent-assoc x.sent (all_sent xs) r.sent)
-
--- no reply keeps a configuration
-end-keeps : (m : Meaning) (k : ℕ) (at : Address) (q : Request) (o : Outcome) (begin : Placed) (work : List Placed) (finish : Placed) (s : Sent) → Ends m k at q o begin work finish s → s.keeps ≡ []
-end-keeps m k at q (Outcome.answered close) begin work finish s e = ap (λ (z : Sent). z.keeps) e.4
-end-keeps m k at q Outcome.unlogged begin work finish s e = ap (λ (z : Sent). z.keeps) e.6
-end-keeps m k at q Outcome.broken begin work finish s e = ap (λ (z : Sent). z.keeps) e.6
-end-keeps m k at q Outcome.lacking begin work finish s e = ap (λ (z : Sent). z.keeps) e.1
-end-keeps m k at q Outcome.dropped begin work finish s e = ap (λ (z : Sent). z.keeps) e.3
-end-keeps m k at q Outcome.halted begin work finish s e = ap (λ (z : Sent). z.keeps) e.3
-
-none-kept : (s t : Sent) → s.keeps ≡ [] → t.keeps ≡ [] → (both_sent s t).keeps ≡ []
-none-kept s t one two = ap (λ (z : List KeepRecord). z ++ kept_after (length s.put) t.keeps) one ∙ ap (kept_after (length s.put)) two
-
-all-keep-none : (m : Meaning) (k : ℕ) (at : Address) (replies : List Reply) → AreReplies m k at replies → (all_sent replies).keeps ≡ []
-all-keep-none m k at [] all = refl
-all-keep-none m k at (r ∷ rs) all =
-    none-kept r.sent (all_sent rs) (end-keeps m k at r.request r.outcome all.0.episode.begin all.0.episode.work all.0.episode.finish r.sent all.0.ends) (all-keep-none m k at rs all.1)
 
 -- ---- it goes on
 
@@ -132,7 +115,7 @@ connection-ends m k at seen longer replies own left ended answered again fixed w
         each = s.each;
         own = ap (λ (o : List Placed). o ++ joined again) s.own_is;
         sent = sent-new all;
-        keeps = ap (λ (z : Sent). z.keeps) (sent-new all) ∙ none-kept (all_sent replies) (only_bytes fixed) (all-keep-none m k at replies s.each) refl;
+        kept = kept-first m k at replies _ s.each (ap (λ (z : Sent). z.keeps) (sent-new all) ∙ append-nil (all_sent replies).keeps);
         ends = ends before front;
         answered = refl;
       };

@@ -28,7 +28,7 @@ use Rattle.cd_admin.specs.Deciding.{decided, reply, replace, halt}
 use Rattle.cd_module_set.specs.declared.target.Target.TheVariants as who
 use Rattle.cd_serve.specs.declared.fault.ChangeFault.{ChangeFault}
 use Rattle.cd_serve.specs.declared.fault.ChangeFault.TheVariants as fault
-use Rattle.cd_serve.specs.Meanings.{Meaning, Sent, Decides, IsAnswer, logged, only_bytes, nothing_sent, both_sent, after_sending}
+use Rattle.cd_serve.specs.Meanings.{Meaning, Sent, Decides, IsAnswer, logged, only_bytes, nothing_sent, both_sent, after_sending, keeps_of}
 use Rattle.cd_serve.specs.Faults.{words, status, fault_answer, halted_answer}
 use Rattle.cd_serve.specs.Retirements.{Retirement, due}
 use Rattle.cd_serve.specs.Changes.{no_room, IsPublished, IsUndone, IsKept, IsHalting}
@@ -148,13 +148,13 @@ module _ (t u : Tree) (q : Request) where
   changing_is_legal : (legal (entries changing) ≡ true) × (are_signed changing ≡ true)
   changing_is_legal = (refl, refl)
 
-  abbrev begin_of_two : Placed
+  abbrev pub begin_of_two : Placed
   begin_of_two = record { before = first ++ signed 1 (Begin 1 1) ∷ []; entry = Begin 2 1 }
 
-  abbrev finish_of_two : Placed
+  abbrev pub finish_of_two : Placed
   finish_of_two = record { before = stopped_there; entry = Finish 2 }
 
-  abbrev work_of_two : List Placed
+  abbrev pub work_of_two : List Placed
   work_of_two = on 2 begun (opening ++ (Publish 1 2 1 (change.Request q) ∷ Stopped 0 1 ∷ Stopped 0 0 ∷ []))
 
   changes : Episode 2 (placed 2 changing)
@@ -315,8 +315,8 @@ module _ (m : Meaning) (at : Address) (t u : Tree) (q : Request) where
 
   module _ (app : (m.acts t).target at ≡ who.App) where
     -- its answer is that of the configuration that was current at the Begin, with its lines
-    served : Answers m 1 at q Kind.served (begin_of_one t u q) [] (finish_of_one t u q) ((m.acts t).answer at q) (map logged ((m.acts t).lines at q ((m.acts t).answer at q)))
-    served = (inl (record { there = app; answer = refl; logs = refl }), refl)
+    served : Answers m 1 at q Kind.served (begin_of_one t u q) [] (finish_of_one t u q) ((m.acts t).answer at q) (map logged ((m.acts t).lines at q ((m.acts t).answer at q))) []
+    served = (inl (record { there = app; answer = refl; logs = refl }), refl, refl)
 
     -- and not that of a configuration that was published since
     served_late : (lines : List Logged) → ((m.acts u).answer at q ≡ (m.acts t).answer at q → ⊥) → IsAnswer m (conf_met (begin_of_one t u q)) at q ((m.acts u).answer at q) lines → ⊥
@@ -355,17 +355,17 @@ module _ (m : Meaning) (at : Address) (t u : Tree) (q : Request) where
   -- ---- the admin API answers there
 
   -- it answers 404, say, and nothing changes
-  told : (r : Answer) → Decides m (Conf.Of t) at q (reply r) → Answers m 1 at q Kind.served (begin_of_one t u q) [] (finish_of_one t u q) r []
-  told r asks = (inr (asks, refl), refl)
+  told : (r : Answer) → Decides m (Conf.Of t) at q (reply r) → Answers m 1 at q Kind.served (begin_of_one t u q) [] (finish_of_one t u q) r [] []
+  told r asks = (inr (asks, refl), refl, refl)
 
   -- ---- another tree is asked for
 
   module _ (asks : Decides m (Conf.Of t) at q (replace u)) where
     -- there is no draft left
-    spent : (finish : Placed) → length (met finish).drafts ≡ MAX_DRAFTS → Answers m 1 at q Kind.spent (begin_of_one t u q) [] finish (fault_answer fault.NoDraftLeft) []
-    spent finish full = ((u, asks), refl, full, refl, refl)
+    spent : (finish : Placed) → length (met finish).drafts ≡ MAX_DRAFTS → Answers m 1 at q Kind.spent (begin_of_one t u q) [] finish (fault_answer fault.NoDraftLeft) [] []
+    spent finish full = ((u, asks), refl, full, refl, refl, refl)
 
-    not_spent : (r : Answer) → Answers m 1 at q Kind.spent (begin_of_one t u q) [] (finish_of_one t u q) r [] → ⊥
+    not_spent : (r : Answer) → Answers m 1 at q Kind.spent (begin_of_one t u q) [] (finish_of_one t u q) r [] [] → ⊥
     not_spent r s = let h : 2 ≡ MAX_DRAFTS = s.2 in omega (arith, h)
 
     -- another pass had halted before the draft was given up, so the request is decided again
@@ -397,8 +397,8 @@ module _ (m : Meaning) (at : Address) (t u : Tree) (q : Request) where
         let h : replace u ≡ halt = sym asks.comes_to ∙ ap (λ (c : Tree). decided m.plan c q) (same_tree asks.tree a.0.tree (sym asks.runs ∙ a.0.runs)) ∙ a.0.comes_to in
         cc
 
-    -- the draft was published
-    changed : (planned : m.plan u ≡ Ok site) → Answers m 2 at q Kind.changed (begin_of_two t u q) (work_of_two t u q) (finish_of_two t u q) done []
+    -- the draft was published, and its configuration was kept
+    pub changed : (planned : m.plan u ≡ Ok site) → Answers m 2 at q Kind.changed (begin_of_two t u q) (work_of_two t u q) (finish_of_two t u q) done [] (keeps_of 2 u)
     changed planned = (
       (
         u,
@@ -415,6 +415,7 @@ module _ (m : Meaning) (at : Address) (t u : Tree) (q : Request) where
           publishes = refl;
           stops = refl;
         },
+        refl,
       ),
       refl,
       refl,
@@ -428,8 +429,8 @@ module _ (m : Meaning) (at : Address) (t u : Tree) (q : Request) where
         (ap length p.opens ∙ ap (λ (x : Plan). length (Draft p.draft u x ∷ opened p.draft x)) (sym same)) refl
 
     -- a key could not be opened, and its words are answered
-    unopened : (planned : m.plan u ≡ Ok (wide t u q)) → Answers m 1 at q Kind.unopened (begin_of_one t u q) (undone_work t u q) (undone_finish t u q) (fault_answer (fault.CannotOpen (second_key t u q))) []
-    unopened planned = ((u, second_key t u q, asks, record { draft = 1; plan = wide t u q; failure = Failure.InApp 1 1; planned = planned; whole = refl }, refl), refl)
+    unopened : (planned : m.plan u ≡ Ok (wide t u q)) → Answers m 1 at q Kind.unopened (begin_of_one t u q) (undone_work t u q) (undone_finish t u q) (fault_answer (fault.CannotOpen (second_key t u q))) [] []
+    unopened planned = ((u, second_key t u q, asks, record { draft = 1; plan = wide t u q; failure = Failure.InApp 1 1; planned = planned; whole = refl }, refl), refl, refl)
 
     -- a draft of another tree is none for this request
     undone_of_another : (other : Tree) (key : Key) → (u ≡ other → ⊥) → IsUndone m other key (undone_work t u q) → ⊥
@@ -469,8 +470,8 @@ module _ (m : Meaning) (at : Address) (t u : Tree) (q : Request) where
   -- ---- the halt is asked for
 
   module _ (asks : Decides m (Conf.Of t) at q halt) where
-    halting_answers : Answers m 1 at q Kind.halting (halt_begin t u q) (halt_work t u q) (halt_finish t u q) halted_answer []
-    halting_answers = (asks, halts_all t u q, refl, refl)
+    halting_answers : Answers m 1 at q Kind.halting (halt_begin t u q) (halt_work t u q) (halt_finish t u q) halted_answer [] []
+    halting_answers = (asks, halts_all t u q, refl, refl, refl)
 
     -- the last app is stopped first
     stopped_in_another_order : IsHalting (on 1 (halted_before t u q) (Halt 2 ∷ Stopped 0 0 ∷ Stopped 0 1 ∷ [])) → ⊥

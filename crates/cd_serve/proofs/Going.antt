@@ -1,39 +1,27 @@
 -- A lane goes on: it begins, one more connection is served, and its last accept says that no more comes or fails.
-use Rattle.std.proofs.Common.{◌≡◌, ◌≤◌, ◌<◌, ◌∙◌, ◌++◌, ◌+◌, ◌-◌, ℕ, min, Bool, true, false, cond, List, [], ◌∷◌, Some, option_map, refl, ap, sym, subst, arith}
+use Rattle.std.proofs.Common.{◌≡◌, ◌≤◌, ◌<◌, ◌∙◌, ◌++◌, ◌+◌, ◌-◌, ℕ, min, Bool, cond, List, [], ◌∷◌, Some, refl, ap, sym, subst, arith}
 use Rattle.std.specs.Prelude.{sum_by, count_by}
-use Rattle.std.proofs.lemmas.List.{append_assoc, append-nil}
+use Rattle.std.proofs.lemmas.List.{append-nil}
 use Rattle.std.proofs.lemmas.List.Sums.{sum_by-append}
 use mathlib.Core.List.{IsPrefix}
 use Rattle.cd_outside.specs.declared.accepted.Accepted.TheVariants as accepted
 use Rattle.cd_outside.specs.declared.address.Address.{Address}
 use Rattle.cd_outside.specs.declared.past.Connection.{Connection}
 use Rattle.cd_outside.specs.declared.past.Past.{Past}
-use Rattle.cd_outside.specs.Counts.{count_end, Rose, Covers}
-use Rattle.cd_outside.specs.Past.{with_last, with_connection, after_accept, fresh}
+use Rattle.cd_outside.specs.Counts.{count_end, Rose}
+use Rattle.cd_outside.specs.Past.{with_connection, after_accept, fresh}
 use Rattle.cd_legal.specs.declared.entry.Signed.{Signed}
 use Rattle.cd_legal.specs.Placed.{Placed, through}
-use Rattle.cd_serve.specs.declared.cause.Cause.{Cause}
-use Rattle.cd_serve.specs.declared.cause.Cause.TheVariants as cause
-use Rattle.cd_serve.specs.declared.connection_end.ConnectionEnd.{ConnectionEnd}
+use Rattle.cd_session.proofs.Causes.{covers-more, faults-more, cut-more, caused-whole, caused-lacking, caused-failed, covers-same}
+pub use Rattle.cd_session.proofs.Changes.{past_is}
+use Rattle.cd_session.proofs.Changes.{connections_more}
+use Rattle.cd_session.specs.declared.connection_end.ConnectionEnd.{ConnectionEnd}
 use Rattle.cd_serve.specs.Meanings.{Meaning}
 use Rattle.cd_serve.specs.Connections.{Way, Ending}
 use Rattle.cd_serve.specs.Lanes.{Told, is_interrupted, is_faulted, finds_halt, interrupted_in, faulted_in, halted_in, answered_in, LaneSoFar}
-use Rattle.cd_serve.specs.Serving.{ConnectionServed, CausedBy, after_all, HasRisen, cut_by}
+use Rattle.cd_serve.specs.Serving.{ConnectionServed, after_all, HasRisen, cut_by}
 use Rattle.cd_serve.proofs.Longer.{told-longer}
 use Rattle.cd_serve.proofs.Together.{told-together}
-
-with_last-append : {A : Type 0} (f : A → A) (xs : List A) (x : A) → with_last f (xs ++ x ∷ []) ≡ xs ++ f x ∷ []
-with_last-append f [] x = refl
-with_last-append f (y ∷ []) x = refl
-with_last-append f (y ∷ z ∷ zs) x = ap (λ ws. y ∷ ws) (with_last-append f (z ∷ zs) x)
-
--- the past with one more connection, which was served
-pub past_is : (at : Address) (q now : Past) (f : Connection → Connection) → Some now ≡ option_map (with_connection f) (Some (after_accept (accepted.Connection at) q)) → now ≡ with_connection f (after_accept (accepted.Connection at) q)
-past_is at q now f is = cc
-
-connections_more : (at : Address) (p q now : Past) (cs : List Connection) (f : Connection → Connection) → q.connections ≡ p.connections ++ cs → now ≡ with_connection f (after_accept (accepted.Connection at) q) → now.connections ≡ p.connections ++ (cs ++ f (fresh at) ∷ [])
-connections_more at p q now cs f added is =
-    ap (λ (z : Past). z.connections) is ∙ with_last-append f q.connections (fresh at) ∙ ap (λ (xs : List Connection). xs ++ f (fresh at) ∷ []) added ∙ append_assoc p.connections cs (f (fresh at) ∷ [])
 
 -- what is told in a history is told in each one that begins with it
 told-within : (m : Meaning) (k : ℕ) (history longer : List Signed) (own : List Placed) (cs : List Connection) (es : List Ending) → IsPrefix history longer → Told m k history own cs es → Told m k longer own cs es
@@ -51,59 +39,6 @@ count-more f es e =
     let g = λ (x : Ending). cond {A = ℕ} (f x.way) 1 0 in
     let one : sum_by g (e ∷ []) ≡ g e = omega arith in
     sum_by-append g es (e ∷ []) ∙ ap (λ (n : ℕ). sum_by g es + n) one
-
-covers-more : (c : Cause) (early : Bool) (interruptions f0 f1 f2 f3 cut : ℕ) → (c ≡ cause.Whole → early ≡ false) → Covers interruptions f0 f1 cut → f1 ≤ f2 → HasRisen c f2 f3 → Covers (interruptions + cond early 1 0) f0 f3 (cut_by c cut)
-covers-more cause.Whole true interruptions f0 f1 f2 f3 cut whole covers le rose = absurd (let h : true ≡ false = whole refl in cc)
-covers-more cause.Whole false interruptions f0 f1 f2 f3 cut whole covers le rose = λ a b. let h : f1 < count_end = omega (arith, le, rose) in omega (arith, covers h b, le, rose)
-covers-more cause.Failed true interruptions f0 f1 f2 f3 cut whole covers le rose = λ a b. let h : f1 < count_end = omega (arith, le, rose.1) in omega (arith, covers h b, le, rose.0, rose.1)
-covers-more cause.Failed false interruptions f0 f1 f2 f3 cut whole covers le rose = λ a b. let h : f1 < count_end = omega (arith, le, rose.1) in omega (arith, covers h b, le, rose.0, rose.1)
-covers-more cause.Lacking true interruptions f0 f1 f2 f3 cut whole covers le rose = λ a b. let h : f1 < count_end = omega (arith, le, rose) in let c : cut < count_end = omega arith in omega (arith, covers h c, le, rose)
-covers-more cause.Lacking false interruptions f0 f1 f2 f3 cut whole covers le rose = λ a b. let h : f1 < count_end = omega (arith, le, rose) in let c : cut < count_end = omega arith in omega (arith, covers h c, le, rose)
-
--- without the memory that a connection lacked
-faults-more : (c : Cause) (faulted : Bool) (interruptions f0 f1 f2 f3 : ℕ) → (faulted ≡ true → c ≡ cause.Failed) → Covers interruptions f0 f1 0 → f1 ≤ f2 → HasRisen c f2 f3 → Covers (interruptions + cond faulted 1 0) f0 f3 0
-faults-more cause.Failed true interruptions f0 f1 f2 f3 failed covers le rose = λ a b. let h : f1 < count_end = omega (arith, le, rose.1) in omega (arith, covers h b, le, rose.0, rose.1)
-faults-more cause.Failed false interruptions f0 f1 f2 f3 failed covers le rose = λ a b. let h : f1 < count_end = omega (arith, le, rose.1) in omega (arith, covers h b, le, rose.0, rose.1)
-faults-more cause.Whole true interruptions f0 f1 f2 f3 failed covers le rose = absurd (let h : cause.Whole ≡ cause.Failed = failed refl in cc)
-faults-more cause.Whole false interruptions f0 f1 f2 f3 failed covers le rose = λ a b. let h : f1 < count_end = omega (arith, le, rose) in omega (arith, covers h b, le, rose)
-faults-more cause.Lacking true interruptions f0 f1 f2 f3 failed covers le rose = absurd (let h : cause.Lacking ≡ cause.Failed = failed refl in cc)
-faults-more cause.Lacking false interruptions f0 f1 f2 f3 failed covers le rose = λ a b. let h : f1 < count_end = omega (arith, le, rose) in omega (arith, covers h b, le, rose)
-
-cut-more : (c : Cause) (early : Bool) (cut earlies : ℕ) → (c ≡ cause.Lacking → early ≡ true) → cut ≤ earlies → cut_by c cut ≤ earlies + cond early 1 0
-cut-more cause.Whole early cut earlies lacking le = omega (arith, le)
-cut-more cause.Failed early cut earlies lacking le = omega (arith, le)
-cut-more cause.Lacking true cut earlies lacking le = omega (arith, le)
-cut-more cause.Lacking false cut earlies lacking le = absurd (let h : false ≡ true = lacking refl in cc)
-
--- the causes of a way
-caused-whole : (c : Cause) (way : Way) → CausedBy c way → c ≡ cause.Whole → is_interrupted way ≡ false
-caused-whole cause.Whole way caused is = caused
-caused-whole cause.Failed way caused is = absurd (let h : cause.Failed ≡ cause.Whole = is in cc)
-caused-whole cause.Lacking way caused is = absurd (let h : cause.Lacking ≡ cause.Whole = is in cc)
-
-caused-lacking : (c : Cause) (way : Way) → CausedBy c way → c ≡ cause.Lacking → is_interrupted way ≡ true
-caused-lacking cause.Lacking way caused is = caused.0
-caused-lacking cause.Whole way caused is = absurd (let h : cause.Whole ≡ cause.Lacking = is in cc)
-caused-lacking cause.Failed way caused is = absurd (let h : cause.Failed ≡ cause.Lacking = is in cc)
-
--- only an interrupted way is faulted
-faulted-interrupted : (way : Way) → is_faulted way ≡ true → is_interrupted way ≡ true
-faulted-interrupted (Way.interrupted break) is = refl
-faulted-interrupted Way.clean is = absurd (let h : false ≡ true = is in cc)
-faulted-interrupted Way.truncated is = absurd (let h : false ≡ true = is in cc)
-faulted-interrupted Way.closed is = absurd (let h : false ≡ true = is in cc)
-faulted-interrupted Way.dropped is = absurd (let h : false ≡ true = is in cc)
-faulted-interrupted Way.halted is = absurd (let h : false ≡ true = is in cc)
-faulted-interrupted Way.worn is = absurd (let h : false ≡ true = is in cc)
-faulted-interrupted (Way.refused fault) is = absurd (let h : false ≡ true = is in cc)
-
-caused-failed : (c : Cause) (way : Way) → CausedBy c way → is_faulted way ≡ true → c ≡ cause.Failed
-caused-failed cause.Failed way caused is = refl
-caused-failed cause.Whole way caused is = absurd (let h : true ≡ false = sym (faulted-interrupted way is) ∙ caused in cc)
-caused-failed cause.Lacking way caused is = absurd (let h : true ≡ false = sym is ∙ caused.1 in cc)
-
-covers-same : (a b f0 f1 cut : ℕ) → a ≡ b → Covers b f0 f1 cut → Covers a f0 f1 cut
-covers-same a b f0 f1 cut is covers = λ x y. omega (arith, covers x y, is)
 
 pub lane-starts : (m : Meaning) (k : ℕ) (history : List Signed) (f : ℕ) (p : Past) → LaneSoFar m k history [] f f 0 0 0 p p
 lane-starts m k history f p = record {

@@ -12,10 +12,10 @@ use Rattle.cd_legal.specs.Legal.{IsLegal}
 use Rattle.cd_legal.specs.Placed.{Placed, placed}
 use Rattle.cd_legal.proofs.Fresh.{legal-fresh}
 use Rattle.cd_legal.proofs.Placed.{placed-stays}
-use Rattle.cd_serve.specs.declared.lane_end.LaneEnd.{LaneEnd}
+use Rattle.cd_session.specs.declared.lane_end.LaneEnd.{LaneEnd}
 use Rattle.cd_serve.specs.Meanings.{Meaning}
 use Rattle.cd_serve.specs.Connections.{Ending}
-use Rattle.cd_serve.specs.Lanes.{Told, IsServed, is_interrupted, interrupted_in, faulted_in, answered_in}
+use Rattle.cd_serve.specs.Lanes.{Told, IsServed, is_interrupted, interrupted_in, answered_in}
 use Rattle.cd_serve.specs.Reports.{Span, LaneReport, ReportOf, ReportsFrom, of_report, interruptions, faults, all_of, AllTell, of_those, EachCovered, EachFaulted, NoneRose, AreUninterrupted, NoneInterrupted, NoneAtEnd, LanesTold, ServedLane, IsServedLane, ServedLanesFrom, lanes_of}
 use Rattle.cd_serve.proofs.Longer.{placed-stays-in, told-longer}
 

@@ -10,11 +10,12 @@ use Rattle.cd_outside.specs.Telling.{TellsOn}
 use Rattle.cd_legal.specs.declared.entry.Signed.{Signed}
 use Rattle.cd_legal.specs.Placed.{Placed, placed, through}
 use Rattle.cd_gate.specs.declared.view.View.{View}
-use Rattle.cd_serve.specs.declared.connection_end.ConnectionEnd.{ConnectionEnd}
-use Rattle.cd_serve.specs.declared.lane_end.LaneEnd.{LaneEnd}
-use Rattle.cd_serve.specs.declared.lane_end.LaneHow.TheVariants as how
+use Rattle.cd_session.specs.declared.counting.Counts.{Counts}
+use Rattle.cd_session.specs.declared.connection_end.ConnectionEnd.{ConnectionEnd}
+use Rattle.cd_session.specs.declared.lane_end.LaneEnd.{LaneEnd}
+use Rattle.cd_session.specs.declared.lane_end.LaneHow.TheVariants as how
 use Rattle.cd_serve.specs.Meanings.{Meaning}
-use Rattle.cd_serve.specs.Lanes.{LaneSoFar, IsServed}
+use Rattle.cd_serve.specs.Lanes.{IsServed}
 use Rattle.cd_serve.specs.Serving.{ConnectionServed, after_all, HasRisen, cut_by}
 use Rattle.cd_serve.specs.Stepping.{HasPlaced, IsEnded, IsLaneSoFar, LaneGoesOn, LaneServed, LastCame}
 use Rattle.cd_legal.specs.Fresh.{Fresh}
@@ -77,8 +78,11 @@ last-came at f None new is = subst (LastCame at) (sym is) tt
 last-came at f (Some q) new is = subst (LastCame at) (sym is) refl
 
 module _ {T : Type 0} (m : Meaning) where
-  pub lane-new : (faults : ℕ) (v : View T) (told : Option Past) → LaneGoesOn m faults faults 0 0 0 v v told told
+  lane-new : (faults : ℕ) (v : View T) (told : Option Past) → LaneGoesOn m faults faults 0 0 0 v v told told
   lane-new faults v told = record { own = []; made = placed-none v; told = tells-new m v.number v.seen faults told }
+
+  pub lane-started : (faults : ℕ) (counts : Counts) → counts ≡ record { answered = 0; cut = 0 } → (v : View T) (told : Option Past) → LaneGoesOn m faults faults counts.answered counts.cut 0 v v told told
+  lane-started faults counts is v told = subst (λ (k : Counts). LaneGoesOn m faults faults k.answered k.cut 0 v v told told) (sym is) (lane-new faults v told)
 
   pub lane-more : (at : Address) (first faults accepted_at served_at answered cut halts : ℕ) (e : ConnectionEnd) (v w x : View T) (old then before new : Option Past)
       → LaneGoesOn m first faults answered cut halts v w old then → faults ≤ accepted_at → before ≡ option_map (after_accept (accepted.Connection at)) then → HasRisen e.cause accepted_at served_at → IsEnded m at e w x before new

@@ -2,12 +2,15 @@ pub mod Longer
 pub mod Together
 pub mod Joined
 pub mod Told
+pub mod Unpublished
+pub mod KeptFirst
 pub mod Connecting
 pub mod Completing
 pub mod Going
 pub mod Halts
 mod Examples
 mod Tellings
+mod Kept
 pub mod Works
 pub mod Opens
 pub mod Tries

@@ -49,7 +49,7 @@ serves-longer m k history more before c e s = record {
   each = s.each;
   own = s.own;
   sent = s.sent;
-  keeps = s.keeps;
+  kept = s.kept;
   ends = ends-longer m k history more (before ++ e.own) c.address c.ended s.replies s.rest s.again s.fixed e.way s.ends;
   answered = s.answered;
 }

@@ -1,5 +1,5 @@
 -- A connection goes on by one step, or ends.
-use Rattle.std.proofs.Common.{◌≡◌, ◌≤◌, ◌∙◌, ◌++◌, ◌+◌, ℕ, min, Bool, true, false, cond, List, [], ◌∷◌, Option, Some, None, option_map, refl, ap, sym, subst, arith}
+use Rattle.std.proofs.Common.{◌≡◌, ◌≤◌, ◌∙◌, ◌++◌, ◌+◌, ℕ, min, Bool, true, false, cond, List, [], ◌∷◌, Option, Some, None, option_map, inl, inr, refl, ap, sym, subst, arith}
 use Rattle.std.proofs.lemmas.List.{append_assoc, append-nil, map-append}
 use mathlib.Core.List.{IsPrefix}
 use Rattle.cd_text.specs.Steps.{joined}
@@ -22,16 +22,17 @@ use Rattle.cd_legal.proofs.Begun.{begins-now}
 use Rattle.cd_legal.proofs.Logs.{prefix_trans}
 use Rattle.cd_gate.specs.declared.view.View.{View}
 use Rattle.cd_gate.specs.Growing.{Places, all_signed}
-use Rattle.cd_serve.specs.declared.cause.Cause.{Cause}
-use Rattle.cd_serve.specs.declared.cause.Cause.TheVariants as cause
-use Rattle.cd_serve.specs.declared.connection_end.ConnectionEnd.{ConnectionEnd}
+use Rattle.cd_session.specs.declared.cause.Cause.{Cause}
+use Rattle.cd_session.specs.declared.cause.Cause.TheVariants as cause
+use Rattle.cd_session.specs.declared.connection_end.ConnectionEnd.{ConnectionEnd}
+use Rattle.cd_session.specs.Reading.{ReadsOn, IsRefused}
 use Rattle.cd_serve.specs.Meanings.{Meaning, IsProperPrefix}
 use Rattle.cd_serve.specs.Episodes.{Outcome}
 use Rattle.cd_serve.specs.Replies.{Reply, is_whole}
 use Rattle.cd_serve.specs.Connections.{Interruption, Way, LastIs, IsTail, HasFurther, IsWorn, EndsBy}
 use Rattle.cd_serve.specs.Lanes.{finds_halt}
-use Rattle.cd_serve.specs.Serving.{Replied, NotBegun, ConnectionSoFar, ConnectionServed, CausedBy, HasRisen}
-use Rattle.cd_serve.specs.Stepping.{HasPlaced, GoesOn, IsEnded}
+use Rattle.cd_serve.specs.Serving.{Replied, NotBegun, ConnectionSoFar, CausedBy}
+use Rattle.cd_serve.specs.Stepping.{HasPlaced, GoesOn, IsEnded, Steps}
 use Rattle.cd_serve.proofs.Connecting.{connection-starts, connection-takes, connection-ended, connection-replies, connection-ends, connection-ends-quietly, go-on-more}
 use Rattle.cd_serve.proofs.Told.{nothing-put}
 
@@ -87,10 +88,16 @@ abbrev pub over_with : Cause → ℕ → Bool → ConnectionEnd
 over_with c n halted = record { cause = c; answered = n; halted = halted }
 
 module _ {T : Type 0} (m : Meaning) (at : Address) where
-  pub goes-new : (v : View T) (told : Option Past) → GoesOn m at [] false 0 v v told told
+  goes-new : (v : View T) (told : Option Past) → GoesOn m at [] false 0 v v told told
   goes-new v told = record { replies = []; own = []; made = placed-none v; so_far = connection-starts m v.number at told; none_closes = tt }
 
-  pub goes-more : (left piece new : List ℕ) (ended : Bool) (n : ℕ) (v w : View T) (first then now : Option Past) → GoesOn m at left ended n v w first then → new ≡ left ++ piece → now ≡ option_map (with_connection (λ c. record c { taken = c.taken ++ piece })) then
+  pub goes-started : (left : List ℕ) (ended : Bool) (n : ℕ) → left ≡ [] → ended ≡ false → n ≡ 0 → (v : View T) (told : Option Past) → GoesOn m at left ended n v v told told
+  goes-started left ended n one two three v told =
+      subst (λ (z : List ℕ). GoesOn m at z ended n v v told told) (sym one)
+      (subst (λ (b : Bool). GoesOn m at [] b n v v told told) (sym two)
+      (subst (λ (z : ℕ). GoesOn m at [] false z v v told told) (sym three) (goes-new v told)))
+
+  goes-more : (left piece new : List ℕ) (ended : Bool) (n : ℕ) (v w : View T) (first then now : Option Past) → GoesOn m at left ended n v w first then → new ≡ left ++ piece → now ≡ option_map (with_connection (λ c. record c { taken = c.taken ++ piece })) then
       → GoesOn m at new ended n v w first now
   goes-more left piece new ended n v w first then now g is step = record {
     replies = g.replies;
@@ -100,7 +107,7 @@ module _ {T : Type 0} (m : Meaning) (at : Address) where
     none_closes = g.none_closes;
   }
 
-  pub goes-ended : (left : List ℕ) (n : ℕ) (v w : View T) (first then now : Option Past) → GoesOn m at left false n v w first then → now ≡ option_map (with_connection (λ c. record c { ended = true })) then → GoesOn m at left true n v w first now
+  goes-ended : (left : List ℕ) (n : ℕ) (v w : View T) (first then now : Option Past) → GoesOn m at left false n v w first then → now ≡ option_map (with_connection (λ c. record c { ended = true })) then → GoesOn m at left true n v w first now
   goes-ended left n v w first then now g step = record {
     replies = g.replies;
     own = g.own;
@@ -108,11 +115,6 @@ module _ {T : Type 0} (m : Meaning) (at : Address) where
     so_far = connection-ended m v.number at g.replies g.own left n first then now g.so_far step;
     none_closes = g.none_closes;
   }
-
-  -- nothing was told
-  pub same-past : (left : List ℕ) (ended : Bool) (n : ℕ) (v w : View T) (first then now : Option Past) → GoesOn m at left ended n v w first then → now ≡ option_map (λ p. p) then → GoesOn m at left ended n v w first now
-  same-past left ended n v w first None now g is = subst (λ (z : Option Past). GoesOn m at left ended n v w first z) (sym is) g
-  same-past left ended n v w first (Some p) now g is = subst (λ (z : Option Past). GoesOn m at left ended n v w first z) (sym is) g
 
   -- it is over with what is handed out
   pub ends-as : (c : Cause) (n : ℕ) (v w : View T) (first now : Option Past) (e : ConnectionEnd) → e ≡ over_with c n false → IsEnded m at (over_with c n false) v w first now → IsEnded m at e v w first now
@@ -128,6 +130,10 @@ module _ {T : Type 0} (m : Meaning) (at : Address) where
   }
 
   module _ (left : List ℕ) (ended : Bool) (n : ℕ) (v w : View T) (first now : Option Past) (g : GoesOn m at left ended n v w first now) where
+    -- the same where other bytes are left and something else was told
+    over-read : (new : List ℕ) (then : Option Past) → GoesOn m at new ended n v w first then → (c : Cause) → CausedBy c (Way.interrupted Interruption.reading) → IsEnded m at (over_with c n false) v w first then
+    over-read new then goes c caused = ends-quietly new ended n v w first then c (Way.interrupted Interruption.reading) goes.replies goes.own goes.made goes.so_far (λ before. (goes.none_closes, refl, refl)) caused
+
     pub over-clean : IsTail left ended Tail.clean → IsEnded m at (over_with cause.Whole n false) v w first now
     over-clean tail = ends-quietly left ended n v w first now cause.Whole Way.clean g.replies g.own g.made g.so_far (λ before. (g.none_closes, tail, refl, refl)) refl
 
@@ -146,11 +152,35 @@ module _ {T : Type 0} (m : Meaning) (at : Address) where
       served = connection-ends m v.number at v.seen w.seen g.replies g.own left ended n [] part way c first now then g.so_far caused put (λ before front. ends before);
     }
 
-    pub over-refused : (fault : WireFault) (part : List ℕ) (then : Option Past) → IsTail left ended (Tail.refused fault) → part ≡ refusal_bytes (status_of fault) → then ≡ option_map (after_put part) now → IsEnded m at (over_with cause.Whole n false) v w first then
+    over-refused : (fault : WireFault) (part : List ℕ) (then : Option Past) → IsTail left ended (Tail.refused fault) → part ≡ refusal_bytes (status_of fault) → then ≡ option_map (after_put part) now → IsEnded m at (over_with cause.Whole n false) v w first then
     over-refused fault part then tail is put = refused-so part then cause.Whole (Way.refused fault) put (λ before. (g.none_closes, tail, refl, is)) refl
 
-    pub over-refusing : (fault : WireFault) (part : List ℕ) (then : Option Past) → IsTail left ended (Tail.refused fault) → IsProperPrefix part (refusal_bytes (status_of fault)) → then ≡ option_map (after_put part) now → IsEnded m at (over_with cause.Failed n false) v w first then
+    over-refusing : (fault : WireFault) (part : List ℕ) (then : Option Past) → IsTail left ended (Tail.refused fault) → IsProperPrefix part (refusal_bytes (status_of fault)) → then ≡ option_map (after_put part) now → IsEnded m at (over_with cause.Failed n false) v w first then
     over-refusing fault part then tail is put = refused-so part then cause.Failed (Way.interrupted (Interruption.refusing fault)) put (λ before. (g.none_closes, tail, refl, is)) refl
+
+    -- a read, after which it goes on or is over
+    pub reads-on : (end : Option ConnectionEnd) (new : List ℕ) (new_ended : Bool) (l : ℕ) (then : Option Past) → ended ≡ false → ReadsOn end left new ended new_ended n l now then → Steps m at end new new_ended l v w first then
+    reads-on None new new_ended l then more (same, inl came) =
+        subst (λ (z : ℕ). GoesOn m at new new_ended z v w first then) (sym same)
+        (subst (λ (b : Bool). GoesOn m at new b n v w first then) (sym came.ended_is) (goes-more left came.piece new ended n v w first now then g came.left_is came.told))
+    reads-on None new new_ended l then more (same, inr came) =
+        subst (λ (z : ℕ). GoesOn m at new new_ended z v w first then) (sym same)
+        (subst (λ (b : Bool). GoesOn m at new b n v w first then) (sym came.ended_is)
+        (subst (λ (z : List ℕ). GoesOn m at z true n v w first then) (sym came.left_is)
+        (goes-ended left n v w first now then (subst (λ (b : Bool). GoesOn m at left b n v w first now) more g) came.told)))
+    reads-on (Some end) new new_ended l then more (inl lacks) =
+        ends-as cause.Lacking n v w first then end lacks.end_is
+        (over-read (left ++ lacks.piece) then (goes-more left lacks.piece (left ++ lacks.piece) ended n v w first now then g refl lacks.told) cause.Lacking (refl, refl))
+    reads-on (Some end) new new_ended l then more (inr failed) =
+        ends-as cause.Failed n v w first then end failed.end_is
+        (subst (λ (z : Option Past). IsEnded m at (over_with cause.Failed n false) v w first z) (sym failed.told) (over-reading cause.Failed refl))
+
+    -- the fixed answer to what is refused
+    pub over-refuse : (fault : WireFault) (end : ConnectionEnd) (then : Option Past) → IsTail left ended (Tail.refused fault) → IsRefused fault n end now then → IsEnded m at end v w first then
+    over-refuse fault end then tail r = elim r.is as (λ _. IsEnded m at end v w first then) [
+      | inl whole ↦ ends-as cause.Whole n v w first then end whole.1 (over-refused fault r.part then tail whole.0 r.told)
+      | inr some ↦ ends-as cause.Failed n v w first then end some.1 (over-refusing fault r.part then tail some.0 r.told)
+    ]
 
     -- ---- a request
 
@@ -248,9 +278,3 @@ module _ {T : Type 0} (m : Meaning) (at : Address) where
 
         pub over-unbegun : IsEnded m at (over_with cause.Lacking n false) v x first then
         over-unbegun = over-so [] then cause.Lacking (Way.interrupted Interruption.beginning) (nothing-put then) (λ before front. (g.none_closes, further, refl)) (refl, refl)
-
--- a fault that rose later has risen since before
-pub risen-later : (c : Cause) (f0 f1 f2 : ℕ) → f0 ≤ f1 → HasRisen c f1 f2 → HasRisen c f0 f2
-risen-later cause.Whole f0 f1 f2 le rose = omega arith
-risen-later cause.Failed f0 f1 f2 le rose = (omega (arith, rose.0, rose.1, le), omega (arith, rose.1, le))
-risen-later cause.Lacking f0 f1 f2 le rose = omega arith

@@ -5,6 +5,7 @@ use Rattle.std.proofs.lemmas.List.{length-append}
 use Rattle.cd_text.specs.Steps.{joined}
 use Rattle.cd_outside.specs.declared.address.Address.{Address}
 use Rattle.cd_outside.specs.declared.past.Connection.{Connection}
+use Rattle.cd_outside.specs.declared.past.KeepRecord.{KeepRecord}
 use Rattle.cd_outside.specs.declared.past.Logged.{Logged}
 use Rattle.cd_tree.specs.declared.tree.Tree.{Tree}
 use Rattle.cd_wire.specs.declared.answer.Answer.{Answer}
@@ -13,14 +14,15 @@ use Rattle.cd_wire.specs.Requests.{BeginsRequest, HasNoRequest, Splits}
 use Rattle.cd_wire.proofs.TakingLemmas.{nothing_no_request}
 use Rattle.cd_legal.specs.declared.limits.TheConstants.{MAX_DRAFTS}
 use Rattle.cd_legal.specs.declared.entry.Entry.TheVariants.{Begin, Finish, Retire, Cleaned}
-use Rattle.cd_legal.specs.Placed.{Placed, placed, placed_entries, met}
+use Rattle.cd_legal.specs.Placed.{Placed, placed}
 use Rattle.cd_module_set.specs.declared.target.Target.TheVariants as who
 use Rattle.cd_serve.specs.Meanings.{Meaning, Sent, sent, says_close, logged, answer_sent, nothing_sent, both_sent}
 use Rattle.cd_serve.specs.Episodes.{Episode, Kind, Outcome, Answers}
 use Rattle.cd_serve.specs.Replies.{Reply, IsReply, AreReplies, requests, owns}
 use Rattle.cd_serve.specs.Connections.{Way, Ending, Serves}
 use Rattle.cd_serve.specs.Lanes.{Told, interrupted_in, answered_in, halted_in}
-use Rattle.cd_serve.proofs.Examples.{all_by, on, finished_there, stopped_there, changing, begin_of_one, finish_of_one, first_of_one, serves}
+use Rattle.cd_serve.proofs.Examples.{all_by, on, finished_there, changing, begin_of_one, finish_of_one, first_of_one, serves}
+use Rattle.cd_serve.proofs.KeptFirst.{kept-first}
 use Rattle.cd_serve.proofs.Told.{nothing-then}
 
 -- of a pass that serves before and after a change, what it serves after
@@ -71,10 +73,10 @@ module _ (m : Meaning) (at : Address) (t u : Tree) (q : Request) (bytes : List �
   second_lines = map logged ((m.acts u).lines at q second_answer)
 
   abbrev first_reply : Reply
-  first_reply = record { request = q; again = []; last = first_of_one t u q; outcome = Outcome.answered false; sent = answer_sent q first_answer first_lines }
+  first_reply = record { request = q; again = []; last = first_of_one t u q; outcome = Outcome.answered false; sent = answer_sent q first_answer first_lines [] }
 
   abbrev second_reply : Reply
-  second_reply = record { request = q; again = []; last = second_of_one t u q; outcome = Outcome.answered true; sent = answer_sent q second_answer second_lines }
+  second_reply = record { request = q; again = []; last = second_of_one t u q; outcome = Outcome.answered true; sent = answer_sent q second_answer second_lines [] }
 
   abbrev first_connection : Connection
   first_connection = record { address = at; taken = bytes; ended = true; put = sent q first_answer; lines = first_lines; keeps = [] }
@@ -93,10 +95,10 @@ module _ (m : Meaning) (at : Address) (t u : Tree) (q : Request) (bytes : List �
 
   module _ (goes_on : says_close q first_answer ≡ false) (closes : says_close q second_answer ≡ true) where
     first_is : IsReply m 1 at first_reply
-    first_is = record { agains = tt; episode = serves t u q; ends = (Kind.served, first_answer, first_lines, (inl (record { there = app; answer = refl; logs = refl }), refl), refl, sym goes_on) }
+    first_is = record { agains = tt; episode = serves t u q; ends = (Kind.served, first_answer, first_lines, [], (inl (record { there = app; answer = refl; logs = refl }), refl, refl), refl, sym goes_on) }
 
     second_is : IsReply m 1 at second_reply
-    second_is = record { agains = tt; episode = serves_again t u q; ends = (Kind.served, second_answer, second_lines, (inl (record { there = app_then; answer = refl; logs = refl }), refl), refl, sym closes) }
+    second_is = record { agains = tt; episode = serves_again t u q; ends = (Kind.served, second_answer, second_lines, [], (inl (record { there = app_then; answer = refl; logs = refl }), refl, refl), refl, sym closes) }
 
     serves_first : Serves m 1 (changing t u q) [] first_connection first_ending
     serves_first = record {
@@ -107,8 +109,8 @@ module _ (m : Meaning) (at : Address) (t u : Tree) (q : Request) (bytes : List �
       splits = ([], asks, refl);
       each = (first_is, tt);
       own = refl;
-      sent = sent_alone (answer_sent q first_answer first_lines);
-      keeps = refl;
+      sent = sent_alone (answer_sent q first_answer first_lines []);
+      kept = kept-first m 1 at (first_reply ∷ []) [] (first_is, tt) refl;
       ends = ((refl, tt), (nothing_no_request, (refl, refl)), refl, refl);
       answered = refl;
     }
@@ -122,8 +124,8 @@ module _ (m : Meaning) (at : Address) (t u : Tree) (q : Request) (bytes : List �
       splits = ([], asks, refl);
       each = (second_is, tt);
       own = refl;
-      sent = sent_alone (answer_sent q second_answer second_lines);
-      keeps = refl;
+      sent = sent_alone (answer_sent q second_answer second_lines []);
+      kept = kept-first m 1 at (second_reply ∷ []) [] (second_is, tt) refl;
       ends = (record { before = []; last = second_reply; are = refl; go_on = tt; is = refl }, refl, refl);
       answered = refl;
     }
@@ -143,18 +145,18 @@ module _ (m : Meaning) (at : Address) (t u : Tree) (q : Request) (bytes : List �
       subst HasNoRequest (sym rest) s.ends.1.0 q [] asks
 
   -- an answer without an entry between Begin and Finish is that of the configuration that the Begin met
-  answered_so : (kind : Kind) (r : Answer) (lines : List Logged) → Answers m 1 at q kind (begin_of_one t u q) [] (finish_of_one t u q) r lines → r ≡ first_answer
-  answered_so Kind.served r lines (inl a, none) = a.answer
-  answered_so Kind.served r lines (inr d, none) = absurd (let h : who.App ≡ who.Admin = sym app ∙ d.0.there in cc)
-  answered_so Kind.changed r lines a = let p = a.0.2 in absurd (omega (arith, ap length p.whole, length-append p.opening (p.publish ∷ p.stopping)))
-  answered_so Kind.unopened r lines a = let p = a.0.3 in absurd (omega (arith, ap length p.whole))
-  answered_so Kind.kept r lines a = let p = a.0.3.given_up in absurd (omega (arith, ap length p.whole, length-append p.opening (p.abandon ∷ p.ending)))
-  answered_so Kind.halting r lines a = let p = a.1 in absurd (omega (arith, ap length p.whole))
-  answered_so Kind.spent r lines a = let h : 2 ≡ MAX_DRAFTS = a.2 in absurd (omega (arith, h))
+  answered_so : (kind : Kind) (r : Answer) (lines : List Logged) (keeps : List KeepRecord) → Answers m 1 at q kind (begin_of_one t u q) [] (finish_of_one t u q) r lines keeps → r ≡ first_answer
+  answered_so Kind.served r lines keeps (inl a, none, unkept) = a.answer
+  answered_so Kind.served r lines keeps (inr d, none, unkept) = absurd (let h : who.App ≡ who.Admin = sym app ∙ d.0.there in cc)
+  answered_so Kind.changed r lines keeps a = let p = a.0.2 in absurd (omega (arith, ap length p.whole, length-append p.opening (p.publish ∷ p.stopping)))
+  answered_so Kind.unopened r lines keeps a = let p = a.0.3 in absurd (omega (arith, ap length p.whole))
+  answered_so Kind.kept r lines keeps a = let p = a.0.3.given_up in absurd (omega (arith, ap length p.whole, length-append p.opening (p.abandon ∷ p.ending)))
+  answered_so Kind.halting r lines keeps a = let p = a.1 in absurd (omega (arith, ap length p.whole))
+  answered_so Kind.spent r lines keeps a = let h : 2 ≡ MAX_DRAFTS = a.2 in absurd (omega (arith, h))
 
   -- the answer of the later configuration, and so that of the other connection, is none to the request that began before
-  exchanged : (close : Bool) (lines : List Logged) → (sent q second_answer ≡ sent q first_answer → ⊥) → IsReply m 1 at (record { request = q; again = []; last = first_of_one t u q; outcome = Outcome.answered close; sent = answer_sent q second_answer lines }) → ⊥
-  exchanged close lines differ r =
+  exchanged : (close : Bool) (lines : List Logged) (keeps : List KeepRecord) → (sent q second_answer ≡ sent q first_answer → ⊥) → IsReply m 1 at (record { request = q; again = []; last = first_of_one t u q; outcome = Outcome.answered close; sent = answer_sent q second_answer lines keeps }) → ⊥
+  exchanged close lines keeps differ r =
       let e = r.episode in
       let begins : begin_of_one t u q ≡ e.begin = let is : first_of_one t u q ≡ e.begin ∷ (e.work ++ e.finish ∷ e.block) = e.whole in cc in
       let rest : finish_of_one t u q ∷ on 1 (finished_there t u q) (Retire 1 ∷ Cleaned 0 0 ∷ []) ≡ e.work ++ e.finish ∷ e.block = let is : first_of_one t u q ≡ e.begin ∷ (e.work ++ e.finish ∷ e.block) = e.whole in cc in
@@ -163,8 +165,8 @@ module _ (m : Meaning) (at : Address) (t u : Tree) (q : Request) (bytes : List �
       let finishes : finish_of_one t u q ≡ e.finish = cc in
       let kind = r.ends.0 in
       let it : Answer = r.ends.1 in
-      let here : Answers m 1 at q kind (begin_of_one t u q) [] (finish_of_one t u q) it r.ends.2 =
-      subst (λ (b : Placed). Answers m 1 at q kind b [] (finish_of_one t u q) it r.ends.2) (sym begins)
-      (subst (λ (f : Placed). Answers m 1 at q kind e.begin [] f it r.ends.2) (sym finishes)
-      (subst (λ (w : List Placed). Answers m 1 at q kind e.begin w e.finish it r.ends.2) none r.ends.3)) in
-      differ (ap (λ (z : Sent). z.put) r.ends.4 ∙ ap (sent q) (answered_so kind it r.ends.2 here))
+      let here : Answers m 1 at q kind (begin_of_one t u q) [] (finish_of_one t u q) it r.ends.2 r.ends.3 =
+      subst (λ (b : Placed). Answers m 1 at q kind b [] (finish_of_one t u q) it r.ends.2 r.ends.3) (sym begins)
+      (subst (λ (f : Placed). Answers m 1 at q kind e.begin [] f it r.ends.2 r.ends.3) (sym finishes)
+      (subst (λ (w : List Placed). Answers m 1 at q kind e.begin w e.finish it r.ends.2 r.ends.3) none r.ends.4)) in
+      differ (ap (λ (z : Sent). z.put) r.ends.5 ∙ ap (sent q) (answered_so kind it r.ends.2 r.ends.3 here))

@@ -1,46 +1,15 @@
 -- What is told of a connection, one call after another.
-use Rattle.std.proofs.Common.{◌≡◌, ◌∙◌, ◌+◌, List, [], ◌∷◌, ◌++◌, ◌||◌, ℕ, Bool, true, false, length, Option, Some, None, option_map, refl, ap, sym, arith}
-use Rattle.std.specs.Prelude.{map}
-use Rattle.std.proofs.lemmas.List.{append_assoc, append-nil, map-append, length-append}
+use Rattle.std.proofs.Common.{◌≡◌, ◌∙◌, ◌+◌, List, [], ◌∷◌, ◌++◌, ◌||◌, ℕ, Bool, true, false, length, Option, option_map, refl, ap, sym, arith, Some, None}
+use Rattle.std.proofs.lemmas.List.{append_assoc, append-nil, length-append}
 use Rattle.cd_outside.specs.declared.past.Connection.{Connection}
 use Rattle.cd_outside.specs.declared.past.KeepRecord.{KeepRecord}
 use Rattle.cd_outside.specs.declared.past.Logged.{Logged}
 use Rattle.cd_outside.specs.declared.past.Past.{Past}
-use Rattle.cd_outside.specs.Past.{with_last, with_connection, after_put}
+use Rattle.cd_outside.specs.Past.{with_connection, after_put}
+pub use Rattle.cd_session.proofs.Changes.{changes, no-change, change-as, nothing-put}
 use Rattle.cd_serve.specs.Meanings.{Sent, only_bytes, nothing_sent, kept_after, both_sent, sent_on, after_sending}
-use Rattle.cd_serve.specs.Requests.{only_lines}
+use Rattle.cd_serve.specs.Requests.{only_lines, only_keeps}
 use Rattle.cd_serve.specs.Serving.{after_all}
-
-with_last-twice : {A : Type 0} (f g h : A → A) (xs : List A) → ((x : A) → g (f x) ≡ h x) → with_last g (with_last f xs) ≡ with_last h xs
-with_last-twice f g h [] same = refl
-with_last-twice f g h (x ∷ []) same = ap (λ z. z ∷ []) (same x)
-with_last-twice f g h (x ∷ y ∷ []) same = ap (λ z. x ∷ z ∷ []) (same y)
-with_last-twice f g h (x ∷ y ∷ z ∷ zs) same = ap (λ ws. x ∷ ws) (with_last-twice f g h (y ∷ z ∷ zs) same)
-
-with_last-same : {A : Type 0} (f : A → A) (xs : List A) → ((x : A) → f x ≡ x) → with_last f xs ≡ xs
-with_last-same f [] same = refl
-with_last-same f (x ∷ []) same = ap (λ z. z ∷ []) (same x)
-with_last-same f (x ∷ y ∷ ys) same = ap (λ zs. x ∷ zs) (with_last-same f (y ∷ ys) same)
-
--- two changes of the connection make one
-pub changes : (f g h : Connection → Connection) (first old now : Option Past) → old ≡ option_map (with_connection f) first → now ≡ option_map (with_connection g) old → ((c : Connection) → g (f c) ≡ h c) → now ≡ option_map (with_connection h) first
-changes f g h None old now one two same = two ∙ ap (option_map (with_connection g)) one
-changes f g h (Some p) old now one two same = two ∙ ap (option_map (with_connection g)) one ∙ ap Some (ap (λ (cs : List Connection). record p { connections = cs }) (with_last-twice f g h p.connections same))
-
--- a change that changes nothing
-pub no-change : (f : Connection → Connection) (told : Option Past) → ((c : Connection) → f c ≡ c) → told ≡ option_map (with_connection f) told
-no-change f None same = refl
-no-change f (Some p) same = ap Some (ap (λ (cs : List Connection). record p { connections = cs }) (sym (with_last-same f p.connections same)))
-
-with_last-as : {A : Type 0} (f g : A → A) (xs : List A) → ((x : A) → f x ≡ g x) → with_last f xs ≡ with_last g xs
-with_last-as f g [] same = refl
-with_last-as f g (x ∷ []) same = ap (λ z. z ∷ []) (same x)
-with_last-as f g (x ∷ y ∷ ys) same = ap (λ zs. x ∷ zs) (with_last-as f g (y ∷ ys) same)
-
--- one change for another one that does the same
-pub change-as : (f g : Connection → Connection) (old now : Option Past) → now ≡ option_map (with_connection f) old → ((c : Connection) → f c ≡ g c) → now ≡ option_map (with_connection g) old
-change-as f g None now is same = is
-change-as f g (Some p) now is same = is ∙ ap Some (ap (λ (cs : List Connection). record p { connections = cs }) (with_last-as f g p.connections same))
 
 -- ---- what is sent, one after another
 
@@ -107,6 +76,15 @@ line-sent line old now is =
     change-as (λ c. record c { lines = c.lines ++ line ∷ [] }) (after_sending (only_lines (line ∷ []))) old now is
     (λ c. ap (λ (s : Sent). sent_so c s) (sent-is c.put (c.put ++ []) (c.lines ++ line ∷ []) (c.lines ++ line ∷ []) c.keeps (c.keeps ++ []) (sym (append-nil c.put)) refl (sym (append-nil c.keeps))))
 
+pub keep-sent : (serial : ℕ) (text : List ℕ) (old now : Option Past) → now ≡ option_map (with_connection (λ c. record c { keeps = c.keeps ++ record { put = length c.put; serial = serial; text = text } ∷ [] })) old
+    → now ≡ option_map (with_connection (after_sending (only_keeps (record { put = 0; serial = serial; text = text } ∷ [])))) old
+keep-sent serial text old now is =
+    change-as (λ c. record c { keeps = c.keeps ++ record { put = length c.put; serial = serial; text = text } ∷ [] }) (after_sending (only_keeps (record { put = 0; serial = serial; text = text } ∷ []))) old now is
+    (λ c.
+    let here : length c.put ≡ length c.put + 0 = omega arith in
+    ap (λ (s : Sent). sent_so c s) (sent-is c.put (c.put ++ []) c.lines (c.lines ++ []) _ _ (sym (append-nil c.put)) (sym (append-nil c.lines))
+    (ap (λ (n : ℕ). c.keeps ++ record { put = n; serial = serial; text = text } ∷ []) here)))
+
 -- ---- a connection
 
 no-or : (b : Bool) → (b || false) ≡ b
@@ -125,9 +103,6 @@ unchanged c =
 
 pub nothing-yet : (told : Option Past) → told ≡ option_map (with_connection (after_all [] false nothing_sent)) told
 nothing-yet told = no-change (after_all [] false nothing_sent) told unchanged
-
-pub nothing-put : (told : Option Past) → told ≡ option_map (with_connection (λ c. record c { put = c.put ++ [] })) told
-nothing-put told = no-change (λ c. record c { put = c.put ++ [] }) told (λ c. ap (λ (t : List ℕ). record c { put = t }) (append-nil c.put))
 
 pub taking : (taken piece : List ℕ) (s : Sent) (ended : Bool) (first old now : Option Past) → old ≡ option_map (with_connection (after_all taken ended s)) first → now ≡ option_map (with_connection (λ c. record c { taken = c.taken ++ piece })) old
     → now ≡ option_map (with_connection (after_all (taken ++ piece) ended s)) first

@@ -3,6 +3,7 @@
 use Rattle.std.specs.Prelude.{◌≡◌, ◌⊎◌, ℕ, true, List, [], ◌∷◌, ◌++◌}
 use Rattle.cd_outside.specs.declared.address.Address.{Address}
 use Rattle.cd_outside.specs.declared.past.Connection.{Connection}
+use Rattle.cd_outside.specs.declared.past.KeepRecord.{KeepRecord}
 use Rattle.cd_outside.specs.declared.past.Logged.{Logged}
 use Rattle.cd_wire.specs.declared.answer.Answer.{Answer}
 use Rattle.cd_wire.specs.declared.request.Request.{Request}
@@ -13,16 +14,17 @@ use Rattle.cd_legal.specs.declared.entry.Signed.{Signed}
 use Rattle.cd_legal.specs.Placed.{Placed}
 use Rattle.cd_serve.specs.Meanings.{Meaning, sent, answer_sent, IsForNobody}
 use Rattle.cd_serve.specs.Episodes.{Episode, Kind, Outcome, Answers, conf_met}
-use Rattle.cd_serve.specs.Replies.{Reply, requests}
+use Rattle.cd_serve.specs.Replies.{Reply, requests, all_sent}
 use Rattle.cd_serve.specs.Connections.{LastIs, HasFurther, IsWorn}
 
--- the request was answered by this answer, which was sent whole, and all its lines were logged
+-- the request was answered by this answer, which was sent whole, all its lines were logged, and what it keeps was kept before
 pub record IsAnsweredBy (m : Meaning) (k : ℕ) (at : Address) (r : Reply) (answer : Answer) : Type 0 where
   pub episode : Episode k r.last
   pub kind : Kind
   pub lines : List Logged
-  pub answers : Answers m k at r.request kind episode.begin episode.work episode.finish answer lines
-  pub sent : r.sent ≡ answer_sent r.request answer lines
+  pub keeps : List KeepRecord
+  pub answers : Answers m k at r.request kind episode.begin episode.work episode.finish answer lines keeps
+  pub sent : r.sent ≡ answer_sent r.request answer lines keeps
 
 -- so each of them, by its own
 abbrev pub AreAnsweredBy : Meaning → ℕ → Address → List Reply → List Answer → Type 0
@@ -64,12 +66,12 @@ module _ (m : Meaning) (k : ℕ) (history : List Signed) (own : List Placed) (c 
       × HasFurther m k c.address rest again × IsWorn k history own × (fixed ≡ refusal_bytes 503)
 
 -- Of a connection that pass k served, these requests were answered, each by its own answer; what was sent is these answers, and then
--- a fixed one where one is due; and each request that its bytes have was answered, unless it ended before that for one of three reasons.
+-- a fixed one where one is due; what was kept is what they keep, each with the bytes that were put before it; and each request that its bytes have was answered, unless it ended before that for one of three reasons.
 pub record IsComplete (m : Meaning) (k : ℕ) (history : List Signed) (own : List Placed) (c : Connection) : Type 0 where
   pub answered : List Reply
   pub answers : List Answer
   pub are : AreAnsweredBy m k c.address answered answers
   pub fixed : List ℕ
   pub put : c.put ≡ answer_bytes (requests answered) answers ++ fixed
-  pub keeps : c.keeps ≡ []
+  pub keeps : c.keeps ≡ (all_sent answered).keeps
   pub why : HasAll m k history own c answered fixed ⊎ (LastCloses m k history own c answered fixed ⊎ (NobodyAnswers m k history own c answered fixed ⊎ FindsWorn m k history own c answered fixed))

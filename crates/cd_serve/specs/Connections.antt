@@ -5,35 +5,23 @@ use mathlib.Core.List.{IsPrefix}
 use Rattle.cd_text.specs.Steps.{joined}
 use Rattle.cd_outside.specs.declared.address.Address.{Address}
 use Rattle.cd_outside.specs.declared.past.Connection.{Connection}
-use Rattle.cd_wire.specs.declared.fault.WireFault.{WireFault}
 use Rattle.cd_wire.specs.declared.request.Request.{Request}
 use Rattle.cd_wire.specs.Faults.{status_of}
 use Rattle.cd_wire.specs.Render.{refusal_bytes}
-use Rattle.cd_wire.specs.Requests.{Splits, BeginsRequest, HasNoRequest, HasTail, Tail}
+use Rattle.cd_wire.specs.Requests.{Splits, BeginsRequest, Tail}
 use Rattle.cd_legal.specs.declared.limits.TheConstants.{MAX_BEGINS}
 use Rattle.cd_legal.specs.declared.entry.Signed.{Signed}
 use Rattle.cd_legal.specs.Begins.{begins_at}
 use Rattle.cd_legal.specs.Entry.{entries}
 use Rattle.cd_legal.specs.Legal.{state_at}
 use Rattle.cd_legal.specs.Placed.{Placed, through}
+pub use Rattle.cd_session.specs.Ways.{Interruption, Way, IsTail}
 use Rattle.cd_serve.specs.Meanings.{Meaning, IsProperPrefix, only_bytes, both_sent, sent_on}
 use Rattle.cd_serve.specs.Episodes.{Outcome}
+use Rattle.cd_serve.specs.Keeping.{AreKeptFirst}
 use Rattle.cd_serve.specs.Replies.{Reply, AllAgain, AreReplies, requests, owns, all_sent, answered_of}
 
--- ---- the ways to end
-
--- what cut a connection short: the answer to its last request, which was not written whole or lacked memory, or a line of it; the
--- reading of its next bytes; the beginning of a further request; the fixed answer to what is refused; or that where the serial is worn
-pub data Interruption : Type 0 where
-  answering lacking logging reading beginning wearing : Interruption
-  refusing : WireFault → Interruption
-
--- its bytes ended after its last request, or inside a body; what follows is refused; the last answer closes it; nobody answered its
--- last request there, or anywhere, since the host has halted; too many requests began under the serial; or it was interrupted
-pub data Way : Type 0 where
-  clean truncated closed dropped halted worn : Way
-  refused : WireFault → Way
-  interrupted : Interruption → Way
+-- ---- how requests go on
 
 -- each was answered, and none says that the connection closes
 abbrev pub AllGoOn : List Reply → Type 0
@@ -47,10 +35,6 @@ pub record LastIs (outcome : Outcome) (replies : List Reply) : Type 0 where
   pub are : replies ≡ before ++ last ∷ []
   pub go_on : AllGoOn before
   pub is : last.outcome ≡ outcome
-
--- the bytes begin with no further request, for this reason
-abbrev pub IsTail : List ℕ → Bool → Tail → Type 0
-IsTail rest ended tail = HasNoRequest rest × HasTail rest ended tail
 
 -- the bytes begin with a further request, which these episodes have decided again
 pub record HasFurther (m : Meaning) (k : ℕ) (at : Address) (rest : List ℕ) (again : List (List Placed)) : Type 0 where
@@ -97,7 +81,8 @@ pub record Ending : Type 0 where
   pub answered : ℕ
 
 -- Pass k served the connection, after these entries, so: its bytes are the requests that it replied to, and then a rest; its
--- entries are those of their episodes; what was sent is what was sent for them, and then the fixed answer, if one is due.
+-- entries are those of their episodes; what was sent is what was sent for them, and then the fixed answer, if one is due; and what is
+-- acknowledged had been kept first.
 pub record Serves (m : Meaning) (k : ℕ) (history : List Signed) (before : List Placed) (c : Connection) (e : Ending) : Type 0 where
   pub replies : List Reply
   pub rest : List ℕ
@@ -107,7 +92,7 @@ pub record Serves (m : Meaning) (k : ℕ) (history : List Signed) (before : List
   pub each : AreReplies m k c.address replies
   pub own : e.own ≡ owns replies ++ joined again
   pub sent : sent_on c ≡ both_sent (all_sent replies) (only_bytes fixed)
-  pub keeps : c.keeps ≡ []
+  pub kept : AreKeptFirst m k c.address c.keeps replies
   pub ends : EndsBy m k history (before ++ e.own) c.address c.ended replies rest again fixed e.way
   pub answered : e.answered ≡ answered_of replies
 

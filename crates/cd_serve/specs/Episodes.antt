@@ -1,8 +1,9 @@
 -- Part of the main theorem.
 -- Episodes: what a pass does in the history for a request, from its Begin to its Finish, and how the request is answered for it.
-use Rattle.std.specs.Prelude.{◌≡◌, ◌⊎◌, ℕ, ◌==◌, ◌&&◌, ◌||◌, not, Bool, true, false, List, [], ◌∷◌, ◌++◌, length, IsTrue}
+use Rattle.std.specs.Prelude.{◌≡◌, ◌⊎◌, ℕ, ◌+◌, ◌==◌, ◌&&◌, ◌||◌, not, Bool, true, false, List, [], ◌∷◌, ◌++◌, length, IsTrue}
 use Rattle.cd_outside.specs.declared.address.Address.{Address}
 use Rattle.cd_outside.specs.declared.key.Key.{Key}
+use Rattle.cd_outside.specs.declared.past.KeepRecord.{KeepRecord}
 use Rattle.cd_outside.specs.declared.past.Logged.{Logged}
 use Rattle.cd_tree.specs.declared.tree.Tree.{Tree}
 use Rattle.cd_wire.specs.declared.answer.Answer.{Answer}
@@ -18,7 +19,7 @@ use Rattle.cd_admin.specs.Answers.{done}
 use Rattle.cd_admin.specs.Deciding.{replace, halt}
 use Rattle.cd_serve.specs.declared.fault.ChangeFault.{ChangeFault}
 use Rattle.cd_serve.specs.declared.fault.ChangeFault.TheVariants.{CannotOpen, NoDraftLeft}
-use Rattle.cd_serve.specs.Meanings.{Meaning, Sent, sent, says_close, IsProperPrefix, only_bytes, nothing_sent, answer_sent, IsForNobody, Decides, IsAnswer}
+use Rattle.cd_serve.specs.Meanings.{Meaning, Sent, says_close, IsProperPrefix, nothing_sent, answer_sent, BreaksOff, keeps_of, IsForNobody, Decides, IsAnswer}
 use Rattle.cd_serve.specs.Faults.{fault_answer, halted_answer}
 use Rattle.cd_serve.specs.Retirements.{due, IsRetirement}
 use Rattle.cd_serve.specs.Changes.{IsPublished, IsUndone, IsKept, IsSuperseded, IsHalting}
@@ -45,7 +46,8 @@ conf_met p = conf_of (met p) (met p).serial
 pub data Kind : Type 0 where
   served changed unopened kept halting spent : Kind
 
--- a request that came to an address: which answer and which lines an episode with this Begin, work and Finish gives it
+-- a request that came to an address: which answer and which lines an episode with this Begin, work and Finish gives it, and which
+-- configurations are kept before that
 module _ (m : Meaning) (k : ℕ) (at : Address) (q : Request) where
   -- the admin API replaces the tree of the configuration by another one, which its modules find without a fault
   abbrev pub Replaces : Placed → Tree → Type 0
@@ -55,22 +57,22 @@ module _ (m : Meaning) (k : ℕ) (at : Address) (q : Request) where
   abbrev pub Halts : Placed → Type 0
   Halts begin = Decides m (conf_met begin) at q halt
 
-  abbrev pub Answers : Kind → Placed → List Placed → Placed → Answer → List Logged → Type 0
-  Answers Kind.served begin work finish r lines = IsAnswer m (conf_met begin) at q r lines × (work ≡ [])
-  Answers Kind.changed begin work finish r lines =
-      ((tree : Tree) × Replaces begin tree × IsPublished m tree q (met begin).serial work)
+  abbrev pub Answers : Kind → Placed → List Placed → Placed → Answer → List Logged → List KeepRecord → Type 0
+  Answers Kind.served begin work finish r lines keeps = IsAnswer m (conf_met begin) at q r lines × (work ≡ []) × (keeps ≡ [])
+  Answers Kind.changed begin work finish r lines keeps =
+      ((tree : Tree) × Replaces begin tree × IsPublished m tree q (met begin).serial work × (keeps ≡ keeps_of ((met begin).serial + 1) tree))
       × (r ≡ done) × (lines ≡ [])
-  Answers Kind.unopened begin work finish r lines =
+  Answers Kind.unopened begin work finish r lines keeps =
       ((tree : Tree) × (key : Key) × Replaces begin tree × IsUndone m tree key work × (r ≡ fault_answer (CannotOpen key)))
-      × (lines ≡ [])
-  Answers Kind.kept begin work finish r lines =
+      × (lines ≡ []) × (keeps ≡ [])
+  Answers Kind.kept begin work finish r lines keeps =
       ((tree : Tree) × (why : ChangeFault) × Replaces begin tree × IsKept m tree k (met begin).serial why work × (r ≡ fault_answer why))
-      × (lines ≡ [])
-  Answers Kind.halting begin work finish r lines =
-      Halts begin × IsHalting work × (r ≡ halted_answer) × (lines ≡ [])
-  Answers Kind.spent begin work finish r lines =
+      × (lines ≡ []) × (keeps ≡ [])
+  Answers Kind.halting begin work finish r lines keeps =
+      Halts begin × IsHalting work × (r ≡ halted_answer) × (lines ≡ []) × (keeps ≡ [])
+  Answers Kind.spent begin work finish r lines keeps =
       ((tree : Tree) × Replaces begin tree) × (work ≡ []) × (length (met finish).drafts ≡ MAX_DRAFTS)
-      × (r ≡ fault_answer NoDraftLeft) × (lines ≡ [])
+      × (r ≡ fault_answer NoDraftLeft) × (lines ≡ []) × (keeps ≡ [])
 
 -- ---- requests that are decided again
 
@@ -95,7 +97,7 @@ module _ (m : Meaning) (k : ℕ) (at : Address) (q : Request) where
 -- ---- how the last episode of a request ends it
 
 -- answered, and whether the connection closes then; answered, but a line was not logged; broken off, since the lane failed before all
--- of its answer was sent; not answered for want of memory; or dropped, since nobody answers there, or since the host has halted
+-- of its answer was sent, or before it was begun, as its configuration was to be kept; not answered for want of memory; or dropped, since nobody answers there, or since the host has halted
 pub data Outcome : Type 0 where
   answered : Bool → Outcome
   unlogged broken lacking dropped halted : Outcome
@@ -113,16 +115,16 @@ module _ (m : Meaning) (k : ℕ) (at : Address) (q : Request) where
   -- what is sent; where memory lacks no change was made
   abbrev pub Ends : Outcome → Placed → List Placed → Placed → Sent → Type 0
   Ends (Outcome.answered close) begin work finish s =
-      (kind : Kind) × (r : Answer) × (lines : List Logged) × Answers m k at q kind begin work finish r lines
-      × (s ≡ answer_sent q r lines) × (close ≡ says_close q r)
+      (kind : Kind) × (r : Answer) × (lines : List Logged) × (keeps : List KeepRecord) × Answers m k at q kind begin work finish r lines keeps
+      × (s ≡ answer_sent q r lines keeps) × (close ≡ says_close q r)
   Ends Outcome.unlogged begin work finish s =
-      (kind : Kind) × (r : Answer) × (all : List Logged) × (lines : List Logged) × Answers m k at q kind begin work finish r all
-      × IsProperPrefix lines all × (s ≡ answer_sent q r lines)
+      (kind : Kind) × (r : Answer) × (all : List Logged) × (lines : List Logged) × (keeps : List KeepRecord) × Answers m k at q kind begin work finish r all keeps
+      × IsProperPrefix lines all × (s ≡ answer_sent q r lines keeps)
   Ends Outcome.broken begin work finish s =
-      (kind : Kind) × (r : Answer) × (all : List Logged) × (part : List ℕ) × Answers m k at q kind begin work finish r all
-      × IsProperPrefix part (sent q r) × (s ≡ only_bytes part)
+      (kind : Kind) × (r : Answer) × (all : List Logged) × (keeps : List KeepRecord) × Answers m k at q kind begin work finish r all keeps
+      × BreaksOff q r keeps s
   Ends Outcome.lacking begin work finish s =
-      (((kind : Kind) × (r : Answer) × (all : List Logged) × Answers m k at q kind begin work finish r all × (makes_change kind ≡ false))
+      (((kind : Kind) × (r : Answer) × (all : List Logged) × (keeps : List KeepRecord) × Answers m k at q kind begin work finish r all keeps × (makes_change kind ≡ false))
       ⊎ (work ≡ [])) × (s ≡ nothing_sent)
   Ends Outcome.dropped begin work finish s =
       IsForNobody m (conf_met begin) at q × (is_halted (conf_met begin) ≡ false) × (work ≡ []) × (s ≡ nothing_sent)

@@ -5,6 +5,7 @@ pub mod Changes
 pub mod Attempts
 pub mod Episodes
 pub mod Replies
+pub mod Keeping
 pub mod Connections
 pub mod Complete
 pub mod Lanes

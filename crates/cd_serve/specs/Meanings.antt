@@ -1,11 +1,12 @@
 -- Part of the main theorem.
 -- What configurations mean to those who serve requests under them.
-use Rattle.std.specs.Prelude.{◌≡◌, ℕ, ◌+◌, ◌<◌, ◌⊎◌, ◌||◌, Bool, List, [], ◌++◌, length, take, map, Result}
+use Rattle.std.specs.Prelude.{◌≡◌, ℕ, ◌+◌, ◌⊎◌, ◌||◌, Bool, List, [], ◌++◌, length, map, Result, ◌<◌, if◌then◌else◌, ◌∷◌, take}
 use Rattle.cd_outside.specs.declared.address.Address.{Address}
 use Rattle.cd_outside.specs.declared.past.Connection.{Connection}
 use Rattle.cd_outside.specs.declared.past.KeepRecord.{KeepRecord}
 use Rattle.cd_outside.specs.declared.past.Logged.{Logged}
 use Rattle.cd_tree.specs.declared.tree.Tree.{Tree}
+use Rattle.cd_tree.specs.Tree.{text}
 use Rattle.cd_wire.specs.declared.answer.Answer.{Answer}
 use Rattle.cd_wire.specs.declared.request.Request.{Request}
 use Rattle.cd_wire.specs.Render.{is_head, render}
@@ -15,7 +16,9 @@ use Rattle.cd_legal.specs.State.{Conf}
 use Rattle.cd_module_set.specs.Acts.{Acts, conf_acts}
 use Rattle.cd_module_set.specs.declared.target.Line.{Line}
 use Rattle.cd_module_set.specs.declared.target.Target.TheVariants as who
+use Rattle.cd_admin.specs.Admin.{persists}
 use Rattle.cd_admin.specs.Deciding.{Outcome as Decision, reply, decided}
+pub use Rattle.cd_session.specs.Ways.{IsProperPrefix}
 
 -- what a set of modules means
 pub record Meaning : Type 0 where
@@ -38,10 +41,6 @@ says_close q r = r.close || q.close
 abbrev pub logged : Line → Logged
 logged l = record { key = l.key; line = l.text }
 
--- less than all of the whole, from its beginning
-abbrev pub IsProperPrefix : {A : Type 0} → List A → List A → Type 0
-IsProperPrefix part whole = (count : ℕ) × (count < length whole) × (part ≡ take count whole)
-
 -- ---- what is sent on a connection
 
 -- bytes, with the lines that were logged and the configurations that were kept meanwhile; each of these counts the bytes before it
@@ -57,9 +56,20 @@ only_bytes bytes = record { put = bytes; lines = []; keeps = [] }
 abbrev pub nothing_sent : Sent
 nothing_sent = only_bytes []
 
--- an answer to the request, and these lines of it
-abbrev pub answer_sent : Request → Answer → List Logged → Sent
-answer_sent q r lines = record { put = sent q r; lines = lines; keeps = [] }
+-- these configurations were kept, an answer to the request was put, and these lines of it were logged
+abbrev pub answer_sent : Request → Answer → List Logged → List KeepRecord → Sent
+answer_sent q r lines keeps = record { put = sent q r; lines = lines; keeps = keeps }
+
+-- less than all of an answer was put before which these were to be kept: not all of them were, and nothing was put; or all of them
+-- were, and a part was put
+abbrev pub BreaksOff : Request → Answer → List KeepRecord → Sent → Type 0
+BreaksOff q r keeps s =
+    ((some : List KeepRecord) × IsProperPrefix some keeps × (s ≡ record { put = []; lines = []; keeps = some }))
+    ⊎ ((part : List ℕ) × IsProperPrefix part (sent q r) × (s ≡ record { put = part; lines = []; keeps = keeps }))
+
+-- what is kept of a configuration that was published as this serial, before its answer: its compact text, unless it is not to be kept
+abbrev pub keeps_of : ℕ → Tree → List KeepRecord
+keeps_of serial tree = if persists tree then record { put = 0; serial = serial; text = text tree } ∷ [] else []
 
 -- what was kept, after so many more bytes
 abbrev pub kept_after : ℕ → List KeepRecord → List KeepRecord

@@ -10,7 +10,7 @@ use Rattle.cd_legal.specs.declared.entry.Signed.{Signed}
 use Rattle.cd_legal.specs.Entry.{mine}
 use Rattle.cd_legal.specs.Placed.{Placed, placed}
 use Rattle.cd_legal.specs.Fresh.{Fresh}
-use Rattle.cd_serve.specs.declared.lane_end.LaneEnd.{LaneEnd}
+use Rattle.cd_session.specs.declared.lane_end.LaneEnd.{LaneEnd}
 use Rattle.cd_serve.specs.Meanings.{Meaning}
 use Rattle.cd_serve.specs.Connections.{Ending}
 use Rattle.cd_serve.specs.Lanes.{Told, is_interrupted, interrupted_in, faulted_in, answered_in, IsServed}

@@ -1,12 +1,18 @@
 -- What serving one request does, call by call.
-use Rattle.std.specs.Prelude.{◌≡◌, ◌≤◌, ◌++◌, ◌∷◌, ℕ, Bool, true, false, List, [], Option, Some, None, option_map}
+use Rattle.std.specs.Prelude.{◌≡◌, ◌++◌, ◌∷◌, ℕ, Bool, true, false, List, [], Option, Some, None, option_map, ◌≤◌, ◌<◌, if◌then◌else◌, length, ◌+◌, IfSome}
 use mathlib.Core.List.{IsPrefix}
 use Rattle.cd_text.specs.Steps.{joined}
 use Rattle.cd_outside.specs.declared.address.Address.{Address}
+use Rattle.cd_outside.specs.declared.given.Given.{Given}
+use Rattle.cd_outside.specs.declared.given.Given.TheVariants as given
+use Rattle.cd_outside.specs.declared.limits.TheConstants.{MAX_KEPT_BYTES}
+use Rattle.cd_outside.specs.declared.past.KeepRecord.{KeepRecord}
 use Rattle.cd_outside.specs.declared.past.Logged.{Logged}
 use Rattle.cd_outside.specs.declared.past.Past.{Past}
-use Rattle.cd_outside.specs.Counts.{Rose}
 use Rattle.cd_outside.specs.Past.{with_connection}
+use Rattle.cd_tree.specs.declared.tree.Tree.{Tree}
+use Rattle.cd_tree.specs.Tree.{text}
+use Rattle.cd_admin.specs.Admin.{persists}
 use Rattle.cd_wire.specs.declared.answer.Answer.{Answer}
 use Rattle.cd_wire.specs.declared.request.Request.{Request}
 use Rattle.cd_legal.specs.declared.entry.Entry.TheVariants.{Begin, Finish}
@@ -26,9 +32,11 @@ use Rattle.cd_hall.specs.declared.hall.Hall.{Hall}
 use Rattle.cd_hall.specs.declared.hall.Ticket.{Ticket}
 use Rattle.cd_hall.specs.Calls.{IsPassOf}
 use Rattle.cd_hall.specs.Tickets.{IsTicketOf, BeganWith}
+pub use Rattle.cd_session.specs.Keeping.{KeepsConnection}
+use Rattle.cd_serve.specs.declared.keeping.Acknowledgement.{Acknowledgement}
 use Rattle.cd_serve.specs.declared.how.How.{How}
 use Rattle.cd_serve.specs.declared.how.How.TheVariants as how
-use Rattle.cd_serve.specs.Meanings.{Meaning, Sent, sent, says_close, IsProperPrefix, only_bytes, nothing_sent, answer_sent, after_sending}
+use Rattle.cd_serve.specs.Meanings.{Meaning, Sent, sent, says_close, IsProperPrefix, nothing_sent, answer_sent, BreaksOff, after_sending}
 use Rattle.cd_serve.specs.Retirements.{due, IsRetirement}
 use Rattle.cd_serve.specs.Episodes.{Outcome, Episode, IsAgain, Ends}
 use Rattle.cd_serve.specs.Replies.{AllAgain}
@@ -71,21 +79,21 @@ OwesTicket v serial = (v.ticket ≡ Some serial) × (v.draft ≡ None) × (v.dut
 
 -- ---- sending
 
--- what was sent of an answer with these lines
-abbrev pub Sends : How → Request → Answer → List Logged → Sent → Type 0
-Sends (how.Answered close) q r all s = (s ≡ answer_sent q r all) × (close ≡ says_close q r)
-Sends how.Unlogged q r all s = (lines : List Logged) × IsProperPrefix lines all × (s ≡ answer_sent q r lines)
-Sends how.Failed q r all s = (part : List ℕ) × IsProperPrefix part (sent q r) × (s ≡ only_bytes part)
-Sends how.NoMemory q r all s = s ≡ nothing_sent
-Sends how.Dropped q r all s = ⊥
-Sends how.Halted q r all s = ⊥
-Sends how.Worn q r all s = ⊥
-Sends how.Unbegun q r all s = ⊥
+-- what was sent of an answer with these lines, before which these configurations are kept
+abbrev pub Sends : How → Request → Answer → List Logged → List KeepRecord → Sent → Type 0
+Sends (how.Answered close) q r all keeps s = (s ≡ answer_sent q r all keeps) × (close ≡ says_close q r)
+Sends how.Unlogged q r all keeps s = (lines : List Logged) × IsProperPrefix lines all × (s ≡ answer_sent q r lines keeps)
+Sends how.Failed q r all keeps s = BreaksOff q r keeps s
+Sends how.NoMemory q r all keeps s = s ≡ nothing_sent
+Sends how.Dropped q r all keeps s = ⊥
+Sends how.Halted q r all keeps s = ⊥
+Sends how.Worn q r all keeps s = ⊥
+Sends how.Unbegun q r all keeps s = ⊥
 
-pub record IsSent (h : How) (q : Request) (r : Answer) (all : List Logged) (old new : Option Past) : Type 0 where
+pub record IsSent (h : How) (q : Request) (r : Answer) (all : List Logged) (keeps : List KeepRecord) (old new : Option Past) : Type 0 where
   pub what : Sent
   pub past : new ≡ option_map (with_connection (after_sending what)) old
-  pub is : Sends h q r all what
+  pub is : Sends h q r all keeps what
 
 -- lines that were logged, and nothing else
 abbrev pub only_lines : List Logged → Sent
@@ -97,6 +105,33 @@ pub record IsLogged (whole : Bool) (all : List Logged) (old new : Option Past) :
   pub past : new ≡ option_map (with_connection (after_sending (only_lines lines))) old
   pub all_are : whole ≡ true → lines ≡ all
   pub fewer : whole ≡ false → IsProperPrefix lines all
+
+-- ---- keeping
+
+-- the text that is to be kept of a configuration, where it is to be kept
+abbrev pub text_to_keep : Tree → Option (List ℕ)
+text_to_keep tree = if persists tree then Some (text tree) else None
+
+-- what is kept by this text as a serial, before anything is put
+abbrev pub keeps_as : ℕ → Option (List ℕ) → List KeepRecord
+keeps_as serial None = []
+keeps_as serial (Some bytes) = record { put = 0; serial = serial; text = bytes } ∷ []
+
+-- what acknowledges the change to this tree, by this answer to a request under a serial, was written out
+pub record IsReady (a : Acknowledgement) (serial : ℕ) (tree : Tree) (q : Request) (r : Answer) : Type 0 where
+  pub bytes : a.bytes ≡ sent q r
+  pub serial_is : a.serial ≡ serial + 1
+  pub text_is : a.text ≡ text_to_keep tree
+  pub short : IfSome a.text (λ bytes. length bytes ≤ MAX_KEPT_BYTES)
+
+-- configurations that were kept, and nothing else
+abbrev pub only_keeps : List KeepRecord → Sent
+only_keeps keeps = record { put = []; lines = []; keeps = keeps }
+
+-- these were kept; or there are some, and nothing is told
+abbrev pub Keeps : Given → List KeepRecord → Option Past → Option Past → Type 0
+Keeps given.All keeps old new = new ≡ option_map (with_connection (after_sending (only_keeps keeps))) old
+Keeps given.Failed keeps old new = (0 < length keeps) × (new ≡ old)
 
 -- ---- under a ticket
 
@@ -162,12 +197,6 @@ pub record HasActed {A F B : Type 0} {g : _} (m : Meaning) (h : Hall A F B g) (t
   pub pass : IsPassOf h p'
   pub owes : OwesTicket (view p') t.serial
   pub acted : Acted m at q (conf_in t.share) t.serial result (view p) (view p') old new
-
--- the connection of a lane is still there after a call, and the faults of the lane have risen where the call has failed
-pub record KeepsConnection (fails : Type 0) (connected : Bool) (before now : ℕ) : Type 0 where
-  pub busy : connected ≡ true
-  pub later : before ≤ now
-  pub failed : fails → Rose before now
 
 -- the request was ended, and its serial was retired where that was due
 pub record Concluded {T : Type 0} (v w : View T) : Type 0 where

@@ -1,25 +1,24 @@
 -- What is done by the calls that serve: for one request, for one connection, and for the connections of a lane so far. Each is
 -- said of the entries that the pass has made in the call, where they stand in what it has then seen.
-use Rattle.std.specs.Prelude.{◌≡◌, ◌++◌, ◌||◌, ◌≤◌, ℕ, Bool, true, false, min, List, [], Option, option_map}
+use Rattle.std.specs.Prelude.{◌≡◌, ◌++◌, ◌||◌, ℕ, Bool, min, List, Option, option_map}
 use mathlib.Core.List.{IsPrefix}
 use Rattle.cd_text.specs.Steps.{joined}
 use Rattle.cd_outside.specs.declared.address.Address.{Address}
 use Rattle.cd_outside.specs.declared.past.Connection.{Connection}
 use Rattle.cd_outside.specs.declared.past.Past.{Past}
-use Rattle.cd_outside.specs.Counts.{count_end, raised, Rose}
+use Rattle.cd_outside.specs.Counts.{count_end}
 use Rattle.cd_outside.specs.Past.{with_connection, fresh}
 use Rattle.cd_wire.specs.declared.request.Request.{Request}
 use Rattle.cd_wire.specs.Requests.{Splits}
 use Rattle.cd_legal.specs.declared.entry.Signed.{Signed}
 use Rattle.cd_legal.specs.Placed.{Placed, through}
-use Rattle.cd_serve.specs.declared.cause.Cause.{Cause}
-use Rattle.cd_serve.specs.declared.cause.Cause.TheVariants as cause
-use Rattle.cd_serve.specs.declared.connection_end.ConnectionEnd.{ConnectionEnd}
+use Rattle.cd_session.specs.declared.connection_end.ConnectionEnd.{ConnectionEnd}
+pub use Rattle.cd_session.specs.Ends.{CausedBy, HasRisen, cut_by}
 use Rattle.cd_serve.specs.Meanings.{Meaning, Sent, after_sending}
 use Rattle.cd_serve.specs.Episodes.{Outcome}
 use Rattle.cd_serve.specs.Replies.{Reply, AllAgain, IsReply, AreReplies, requests, own_of, owns, all_sent, answered_of}
-use Rattle.cd_serve.specs.Connections.{Way, Ending, Serves}
-use Rattle.cd_serve.specs.Lanes.{is_interrupted, is_faulted, finds_halt}
+use Rattle.cd_serve.specs.Connections.{Ending, Serves}
+use Rattle.cd_serve.specs.Lanes.{finds_halt}
 
 -- ---- one request
 
@@ -55,12 +54,6 @@ pub record ConnectionSoFar (m : Meaning) (k : ℕ) (at : Address) (replies : Lis
   pub answers : answered ≡ min (answered_of replies) count_end
   pub past : new ≡ option_map (with_connection (after_all taken ended (all_sent replies))) old
 
--- the way has this cause: it is none that cut a connection short; the lane has failed; or memory lacked, which no fault may stand for
-abbrev pub CausedBy : Cause → Way → Type 0
-CausedBy cause.Whole way = is_interrupted way ≡ false
-CausedBy cause.Failed way = is_interrupted way ≡ true
-CausedBy cause.Lacking way = (is_interrupted way ≡ true) × (is_faulted way ≡ false)
-
 -- Pass k served the connection that had just come to the address to its end, by these entries. That holds after whatever entries
 -- of the pass: all that it needs is that they stood in what the pass had seen.
 pub record ConnectionServed (m : Meaning) (k : ℕ) (at : Address) (seen_before seen_now : List Signed) (own : List Placed) (end : ConnectionEnd) (old new : Option Past) : Type 0 where
@@ -75,15 +68,3 @@ pub record ConnectionServed (m : Meaning) (k : ℕ) (at : Address) (seen_before 
   pub caused : CausedBy end.cause ending.way
   pub halted_is : finds_halt ending.way ≡ end.halted
   pub answers : end.answered ≡ min ending.answered count_end
-
--- a fault that is told has risen the count
-abbrev pub HasRisen : Cause → ℕ → ℕ → Type 0
-HasRisen cause.Whole before now = before ≤ now
-HasRisen cause.Failed before now = Rose before now × (before ≤ now)
-HasRisen cause.Lacking before now = before ≤ now
-
--- the count of those that lacked memory
-abbrev pub cut_by : Cause → ℕ → ℕ
-cut_by cause.Whole cut = cut
-cut_by cause.Failed cut = cut
-cut_by cause.Lacking cut = raised cut

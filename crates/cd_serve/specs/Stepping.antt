@@ -1,5 +1,5 @@
 -- A connection and a lane while they are served, from call to call.
-use Rattle.std.specs.Prelude.{◌≡◌, ◌≤◌, ◌++◌, ℕ, Bool, true, List, Option, Some, None}
+use Rattle.std.specs.Prelude.{◌≡◌, ◌++◌, ℕ, Bool, true, List, Option, Some, None}
 use mathlib.Core.List.{IsPrefix}
 use Rattle.cd_outside.specs.declared.accepted.Accepted.TheVariants as accepted
 use Rattle.cd_outside.specs.declared.address.Address.{Address}
@@ -11,8 +11,9 @@ use Rattle.cd_legal.specs.Placed.{Placed, placed, placed_entries, through}
 use Rattle.cd_legal.specs.Signing.{IsHistory}
 use Rattle.cd_gate.specs.declared.view.View.{View}
 use Rattle.cd_gate.specs.Growing.{all_signed}
-use Rattle.cd_serve.specs.declared.connection_end.ConnectionEnd.{ConnectionEnd}
-use Rattle.cd_serve.specs.declared.lane_end.LaneEnd.{LaneEnd}
+use Rattle.cd_session.specs.declared.connection_end.ConnectionEnd.{ConnectionEnd}
+use Rattle.cd_session.specs.declared.lane_end.LaneEnd.{LaneEnd}
+pub use Rattle.cd_session.specs.Ends.{RisesBy, HaltedBy}
 use Rattle.cd_serve.specs.Meanings.{Meaning}
 use Rattle.cd_serve.specs.Replies.{Reply}
 use Rattle.cd_serve.specs.Connections.{AllGoOn}
@@ -72,16 +73,6 @@ module _ {T : Type 0} where
     pub own : List Placed
     pub made : HasPlaced v w own
     pub told : TellsOn (IsServed m v.number w.seen own failed_before failed_now end) old new
-
--- the faults of the lane have risen where it ended for that
-abbrev pub RisesBy : Option ConnectionEnd → ℕ → ℕ → Type 0
-RisesBy (Some end) before now = HasRisen end.cause before now
-RisesBy None before now = before ≤ now
-
--- where it ended since the host has halted, that is so
-abbrev pub HaltedBy : Option ConnectionEnd → Bool → Type 0
-HaltedBy (Some end) halted = end.halted ≡ true → halted ≡ true
-HaltedBy None halted = Unit {0}
 
 -- where a lane tells its past, its last accept gave a connection to the address
 abbrev pub LastCame : Address → Option Past → Type 0

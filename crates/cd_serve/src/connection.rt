@@ -8,17 +8,16 @@ ghost use Rattle.cd_hall.specs.Calls.{IsPassOf};
 ghost use Rattle.cd_serve.specs.Requests.{MayServe, OwesNothing};
 ghost use Rattle.cd_serve.specs.Stepping.{EndsConnection, GoesOn, Steps, RisesBy, HaltedBy};
 
-use crate::cause::Cause;
-use crate::connection_end::ConnectionEnd;
 use crate::request::serve_request;
-use crate::session::{READ_BYTES, Session, after_request, read_more, refuse};
+use crate::session::after_request;
 use cd_admin::Administered;
 use cd_gate::Pass;
 use cd_hall::Hall;
 use cd_life::Board;
 use cd_outside::{Address, Fixtures, Lane};
+use cd_session::{Cause, ConnectionEnd, Session, read_more, refuse};
 use cd_text::NoMemory;
-use cd_wire::{Intake, Next};
+use cd_wire::Next;
 use std::alloc::Global;
 use std::sync::Wait;
 
@@ -54,12 +53,7 @@ fn serve_requests<R: Wait, M: Administered, F: Fixtures, L: Lane>(
     ensures may { MayServe hall.now pass.new (L.busy lane.new) }
     ensures ends { EndsConnection (record { acts = M.acts; plan = M.plan }) at.now result (view pass.old) (view pass.new) (L.past lane.old) (L.past lane.new) (L.faults lane.old) (L.faults lane.new) }
 {
-    let mut session = Session {
-        intake: Intake::new(alloc),
-        ended: false,
-        answered: 0,
-        buffer: [0; READ_BYTES],
-    };
+    let mut session = Session::new(alloc);
     for _ in rt.forever() {
         match serve_next(rt, alloc, hall, pass, lane, at, &mut session) {
             Some(end) => return end,
@@ -92,10 +86,10 @@ fn serve_next<R: Wait, M: Administered, F: Fixtures, L: Lane>(
             let how = serve_request(rt, alloc, hall, pass, lane, at, &request);
             after_request::<Board<M, F>, L>(session, lane, how)
         }
-        Ok(Next::More) => read_more::<Board<M, F>, L>(session, lane),
+        Ok(Next::More) => read_more(session, lane),
         Ok(Next::End) => Some(session.end(Cause::Whole)),
         Ok(Next::Cut) => Some(session.end(Cause::Whole)),
-        Ok(Next::Refused(fault)) => Some(refuse::<Board<M, F>, L>(fault, session, lane)),
+        Ok(Next::Refused(fault)) => Some(refuse(fault, session, lane)),
         Err(NoMemory) => Some(session.end(Cause::Lacking)),
     }
 }

@@ -11,28 +11,19 @@ ghost use Rattle.cd_legal.specs.Signing.{IsHistory};
 ghost use Rattle.cd_gate.specs.declared.view.View.{View};
 ghost use Rattle.cd_gate.specs.Passes.{view};
 ghost use Rattle.cd_hall.specs.Calls.{IsPassOf};
-ghost use Rattle.cd_serve.specs.declared.lane_end.LaneHow.TheVariants as how;
+ghost use Rattle.cd_session.specs.declared.lane_end.LaneHow.TheVariants as how;
 ghost use Rattle.cd_serve.specs.Requests.{OwesNothing};
-ghost use Rattle.cd_serve.specs.Serving.{cut_by};
 ghost use Rattle.cd_serve.specs.Stepping.{LaneServed, LaneGoesOn, LastCame};
 
-use crate::cause::Cause;
 use crate::connection::serve_connection;
-use crate::lane_end::{LaneEnd, LaneHow};
 use cd_admin::Administered;
 use cd_gate::Pass;
 use cd_hall::Hall;
 use cd_life::Board;
 use cd_outside::{Accepted, Address, Fixtures, Lane};
+use cd_session::{Counts, LaneEnd, LaneHow};
 use std::alloc::Global;
 use std::sync::Wait;
-
-/// What was counted of the connections of a lane so far. Each count stays at 2^64 - 1.
-#[derive(Drop)]
-struct Counts {
-    answered: u64,
-    cut: u64,
-}
 
 /// Serves the connections of the lane until no more comes, until it fails to accept, or until the host has halted. The pass owes
 /// nothing, before and after.
@@ -55,32 +46,19 @@ pub fn serve_lane<R: Wait, M: Administered, F: Fixtures, L: Lane>(
     ensures failed { result.how ≡ how.AcceptFault → Rose (L.faults lane.old) (L.faults lane.new) }
     ensures halted { result.how ≡ how.Halted → (state_at (view pass.new).seen).halted ≡ true }
 {
-    let mut counts = Counts {
-        answered: 0,
-        cut: 0,
-    };
+    let mut counts = Counts::new();
     for _ in rt.forever() {
         match lane.accept() {
             Accepted::Connection(at) => {
                 if serve_accepted(rt, alloc, hall, pass, lane, &at, &mut counts) {
-                    return end_of(&counts, LaneHow::Halted);
+                    return counts.end(LaneHow::Halted);
                 }
             }
-            Accepted::Ended => return end_of(&counts, LaneHow::Ended),
-            Accepted::Failed => return end_of(&counts, LaneHow::AcceptFault),
+            Accepted::Ended => return counts.end(LaneHow::Ended),
+            Accepted::Failed => return counts.end(LaneHow::AcceptFault),
         }
     }
     unreachable!()
-}
-
-fn end_of(counts: &Counts, how: LaneHow) -> LaneEnd
-    ensures { result ≡ record { how = how; answered = counts.now.answered; cut = counts.now.cut } }
-{
-    LaneEnd {
-        how,
-        answered: counts.answered,
-        cut: counts.cut,
-    }
 }
 
 // Serves the connection that has just come, and counts what came of it. Says whether it found the host halted.
@@ -108,17 +86,6 @@ fn serve_accepted<R: Wait, M: Administered, F: Fixtures, L: Lane>(
     ensures halted { result ≡ true → (state_at (view pass.new).seen).halted ≡ true }
 {
     let end = serve_connection(rt, alloc, hall, pass, lane, at);
-    counts.answered = counts.answered.saturating_add(end.answered);
-    counts.cut = cut_after(counts.cut, end.cause);
+    counts.add(&end);
     end.halted
-}
-
-// One more where memory was lacking.
-fn cut_after(cut: u64, cause: Cause) -> u64
-    ensures { result ≡ cut_by cause cut }
-{
-    match cause {
-        Cause::Lacking => cut.saturating_add(1),
-        Cause::Whole | Cause::Failed => cut,
-    }
 }

@@ -4,7 +4,8 @@
 //! finishes. specs/Episodes.antt says which entries that may be and which answer they stand for, specs/Replies.antt what is done
 //! for one request, specs/Connections.antt how a connection goes and in which ways it ends, and specs/Lanes.antt what a lane tells
 //! of all its connections (`Told`), with the counts that tie each one that was interrupted to a fault or to memory that lacked, and
-//! what ended it. specs/Complete.antt says what a connection has that was not interrupted: all its answers. specs/Reports.antt has
+//! what ended it. specs/Keeping.antt says that the configuration of a change was kept before that was acknowledged, and
+//! specs/Complete.antt what a connection has that was not interrupted: all its answers. specs/Reports.antt has
 //! what several lanes tell together. All of it is said of the entries of one pass, each with the history before it (`Placed` of
 //! `cd_legal`), and of what a set of modules means (`Meaning`). What is sent on a connection is one record (`Sent`).
 //!
@@ -12,11 +13,11 @@
 //! into them. That no request is answered under an older configuration than its pass has seen is a law of `cd_legal`.
 //! answering.rt has the answers to changes that are not made, and to the halt, and sending.rt what is sent for an answer.
 //!
-//! Files: lane.rt serves the connections of a lane, connection.rt one connection (session.rt is what it keeps in mind), and request.rt
-//! one request. acting.rt does what the configuration of the request says: responding.rt has the answer of an app, and changing.rt
+//! Files: lane.rt serves the connections of a lane, connection.rt one connection (what it keeps in mind is a `Session` of `cd_session`,
+//! and session.rt goes on after a request), and request.rt one request. acting.rt does what the configuration of the request says: responding.rt has the answer of an app, and changing.rt
 //! makes a change that the admin API decides on, by attempting.rt, opening.rt and
-//! halting.rt over the hall (specs/Attempts.antt). replying.rt sends an answer and logs
-//! its lines, and concluding.rt ends the request. Each of these says what it made in the history by `Places` of `cd_gate`, with
+//! halting.rt over the hall (specs/Attempts.antt). keeping.rt keeps a configuration that was published, before that is acknowledged.
+//! replying.rt sends an answer and logs its lines, and concluding.rt ends the request. Each of these says what it made in the history by `Places` of `cd_gate`, with
 //! specs/Requests.antt for a request and specs/Stepping.antt for a connection and a lane. Only a call of the hall or of the lane
 //! waits.
 #![tactic(auto)]
@@ -24,16 +25,14 @@
 mod acting;
 mod answering;
 mod attempting;
-mod cause;
 mod changing;
 mod concluding;
 mod connection;
-mod connection_end;
 mod fault;
 mod halting;
 mod how;
+mod keeping;
 mod lane;
-mod lane_end;
 mod laws;
 mod opening;
 mod replying;
@@ -44,13 +43,11 @@ mod session;
 
 pub use answering::{halted_answer, key_words};
 pub use attempting::{Attempt, attempt_change};
-pub use cause::Cause;
-pub use connection_end::ConnectionEnd;
+pub use cd_session::{Cause, ConnectionEnd, LaneEnd, LaneHow};
 pub use fault::ChangeFault;
 pub use halting::halt_host;
 pub use how::How;
 pub use lane::serve_lane;
-pub use lane_end::{LaneEnd, LaneHow};
 pub use laws::{
     a_halt_since_then_is_of_another, connections_are_complete, connections_are_told_together,
     connections_end, connections_go_on, counts_add_up, lanes_go_on, lanes_tell_together,

@@ -1,5 +1,5 @@
 //! An answer is sent on the connection of a lane, and its lines are logged.
-ghost use Rattle.std.specs.Prelude.{◌≡◌, List, ℕ, true, false, option_map, map};
+ghost use Rattle.std.specs.Prelude.{◌≡◌, true, false, map, [], List, ℕ, option_map};
 ghost use Rattle.cd_outside.specs.declared.given.Given.TheVariants as given;
 ghost use Rattle.cd_outside.specs.Given.{IsGivenOf};
 ghost use Rattle.cd_outside.specs.Past.{after_put};
@@ -11,6 +11,7 @@ use crate::how::How;
 use crate::sending::{says_close, sent};
 use cd_module_set::Line;
 use cd_outside::{Given, Lane};
+use cd_session::put;
 use cd_wire::{Answer, Request};
 use std::alloc::Global;
 
@@ -23,7 +24,7 @@ pub(crate) fn reply_with<L: Lane>(
     lines: &[Line],
 ) -> How
     requires { L.busy lane.old ≡ true }
-    ensures sent { IsSent result request.now answer.now (map logged lines.now) (L.past lane.old) (L.past lane.new) }
+    ensures sent { IsSent result request.now answer.now (map logged lines.now) [] (L.past lane.old) (L.past lane.new) }
     ensures lane { KeepsConnection (is_fault result ≡ true) (L.busy lane.new) (L.faults lane.old) (L.faults lane.new) }
 {
     let Ok(bytes) = sent(alloc, request, answer) else {
@@ -42,7 +43,7 @@ pub(crate) fn send<L: Lane>(
 ) -> How
     requires busy { L.busy lane.old ≡ true }
     requires bytes { bytes.now ≡ sent request.now answer.now }
-    ensures sent { IsSent result request.now answer.now (map logged lines.now) (L.past lane.old) (L.past lane.new) }
+    ensures sent { IsSent result request.now answer.now (map logged lines.now) [] (L.past lane.old) (L.past lane.new) }
     ensures made { ¬ (result ≡ how.NoMemory) }
     ensures lane { KeepsConnection (is_fault result ≡ true) (L.busy lane.new) (L.faults lane.old) (L.faults lane.new) }
 {
@@ -54,18 +55,6 @@ pub(crate) fn send<L: Lane>(
         return How::Unlogged;
     }
     How::Answered(says_close(request, answer))
-}
-
-/// Puts these bytes, which may be none.
-pub(crate) fn put<L: Lane>(lane: &mut L, bytes: &[u8]) -> Given
-    requires { L.busy lane.old ≡ true }
-    ensures past { (part : List ℕ) × IsGivenOf result part bytes.now × (L.past lane.new ≡ option_map (after_put part) (L.past lane.old)) }
-    ensures lane { KeepsConnection (result ≡ given.Failed) (L.busy lane.new) (L.faults lane.old) (L.faults lane.new) }
-{
-    if bytes.is_empty() {
-        return Given::All;
-    }
-    lane.write(bytes)
 }
 
 // Gives each line to its writer, until one fails. Says whether all were given.

@@ -15,7 +15,7 @@ returns-then-halt_host-clause-acted g c =
       pass = c.halt_host.ensures.pass;
       owes = search rules;
       acted = acted-halted (record { acts = g.M.ModuleSet.acts; plan = g.M.ModuleSet.plan }) c.args.at.now c.args.request.now (conf_in c.args.ticket.now.share) c.args.ticket.now.serial (view c.args.pass.now) (view c.halt_host.new.pass) h.0 c.send.result (g.L.Lane.past c.args.lane.now) (g.L.Lane.past c.send.new.lane)
-          c.requires.decides h.1 h.2 (subst (λ (r : Answer). IsSent c.send.result c.args.request.now r [] (g.L.Lane.past c.args.lane.now) (g.L.Lane.past c.send.new.lane)) c.halted_answer-answer.ensures c.send.ensures.sent) c.send.ensures.made;
+          c.requires.decides h.1 h.2 (subst (λ (r : Answer). IsSent c.send.result c.args.request.now r [] [] (g.L.Lane.past c.args.lane.now) (g.L.Lane.past c.send.new.lane)) c.halted_answer-answer.ensures c.send.ensures.sent) c.send.ensures.made;
     }
 
 pub returns-clause-acted : goal.returns-clause-acted

@@ -1,19 +1,27 @@
 use Rattle.std.proofs.Common.{List, ℕ, refl, sym, subst}
 use Rattle.cd_gate.specs.Passes.{view}
 use Rattle.cd_legal.specs.Legal.{state_at}
-use Rattle.cd_wire.specs.Requests.{Tail, HasNoRequest, HasTail, refused}
+use Rattle.cd_wire.specs.Requests.{Tail}
 use Rattle.cd_wire.proofs.TakingLemmas.{nothing_no_request}
-use Rattle.cd_serve.specs.declared.cause.Cause.TheVariants as cause
+use Rattle.cd_session.specs.declared.cause.Cause.TheVariants as cause
+use Rattle.cd_session.specs.Reading.{ReadsOn}
 use Rattle.cd_serve.specs.Connections.{IsTail}
 use Rattle.cd_serve.specs.Meanings.{Meaning}
-use Rattle.cd_serve.specs.Stepping.{GoesOn}
-use Rattle.cd_serve.proofs.Stepping.{over-clean, over-cut, over-reading, ends-as}
+use Rattle.cd_serve.proofs.Stepping.{reads-on, over-clean, over-cut, over-refuse, over-reading, ends-as}
 use Rattle.cd_serve.proofs.connection.serve_next.Goals as goal
 
 pub returns-in-Ok-Request-clause-steps : goal.returns-in-Ok-Request-clause-steps
 returns-in-Ok-Request-clause-steps g c v first going =
     let begins = rw c.in-Ok-Request.field-0-is at c.in-Ok-Request.ensures.found in
     c.after_request.ensures.steps (record { acts = g.M.ModuleSet.acts; plan = g.M.ModuleSet.plan }) c.args.at.now c.in-Ok-Request.request v (view c.args.pass.now) (view c.serve_request-how.new.pass) first (g.L.Lane.past c.args.lane.now) c.args.session.now.intake going begins c.serve_request-how.ensures.served c.serve_request-how.ensures.worn
+
+pub returns-in-Ok-More-clause-steps : goal.returns-in-Ok-More-clause-steps
+returns-in-Ok-More-clause-steps g c v first going =
+    let session = c.args.session.now in
+    let found = rw c.in-Ok-More.field-0-is at c.in-Ok-More.ensures.found in
+    reads-on (record { acts = g.M.ModuleSet.acts; plan = g.M.ModuleSet.plan }) c.args.at.now session.intake session.ended session.answered v (view c.args.pass.now) first (g.L.Lane.past c.args.lane.now) going
+    c.read_more.result c.read_more.new.session.intake c.read_more.new.session.ended c.read_more.new.session.answered (g.L.Lane.past c.read_more.new.lane) found.1
+    (subst (λ (left : List ℕ). ReadsOn c.read_more.result left c.read_more.new.session.intake session.ended c.read_more.new.session.ended session.answered c.read_more.new.session.answered (g.L.Lane.past c.args.lane.now) (g.L.Lane.past c.read_more.new.lane)) found.0 c.read_more.ensures.reads)
 
 pub returns-in-Ok-End-clause-steps : goal.returns-in-Ok-End-clause-steps
 returns-in-Ok-End-clause-steps g c v first going =
@@ -39,10 +47,8 @@ returns-in-Ok-Refused-clause-steps g c v first going =
     let m : Meaning = record { acts = g.M.ModuleSet.acts; plan = g.M.ModuleSet.plan } in
     let session = c.args.session.now in
     let found = rw c.in-Ok-Refused.field-0-is at c.in-Ok-Refused.ensures.found in
-    c.refuse.ensures.steps m c.args.at.now v (view c.args.pass.now) first
-    (subst (λ (left : List ℕ). GoesOn m c.args.at.now left session.ended session.answered v (view c.args.pass.now) first (g.L.Lane.past c.args.lane.now)) (sym found.0) going)
-    (subst (λ (left : List ℕ). HasNoRequest left) (sym found.0) found.1)
-    (subst (λ (left : List ℕ). HasTail left session.ended (refused c.in-Ok-Refused.fault)) (sym found.0) found.2)
+    over-refuse m c.args.at.now session.intake session.ended session.answered v (view c.args.pass.now) first (g.L.Lane.past c.args.lane.now) going c.in-Ok-Refused.fault c.refuse.result (g.L.Lane.past c.refuse.new.lane) (found.1, found.2)
+    c.refuse.ensures.refused
 
 pub returns-in-Ok-Refused-clause-halted : goal.returns-in-Ok-Refused-clause-halted
 returns-in-Ok-Refused-clause-halted g c = c.refuse.ensures.halted (state_at (view c.args.pass.now).seen).halted

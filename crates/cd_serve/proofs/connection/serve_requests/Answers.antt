@@ -1,7 +1,7 @@
-use Rattle.std.proofs.Common.{ℕ, List, false, subst, sym, arith}
+use Rattle.std.proofs.Common.{arith}
 use Rattle.cd_gate.specs.Passes.{view}
-use Rattle.cd_serve.specs.Stepping.{GoesOn}
-use Rattle.cd_serve.proofs.Stepping.{goes-new, risen-later}
+use Rattle.cd_session.proofs.Causes.{risen-later}
+use Rattle.cd_serve.proofs.Stepping.{goes-started}
 use Rattle.cd_serve.proofs.connection.serve_requests.Goals as goal
 
 pub loop-init : goal.loop-init
@@ -9,8 +9,7 @@ loop-init g c = record {
   turns = (tt, tt);
   may = c.requires.may;
   later = omega arith;
-  goes = subst (λ (left : List ℕ). GoesOn (record { acts = g.M.ModuleSet.acts; plan = g.M.ModuleSet.plan }) c.args.at.now left false 0 (view c.args.pass.now) (view c.args.pass.now) (g.L.Lane.past c.args.lane.now) (g.L.Lane.past c.args.lane.now)) (sym c.new.ensures)
-      (goes-new (record { acts = g.M.ModuleSet.acts; plan = g.M.ModuleSet.plan }) c.args.at.now (view c.args.pass.now) (g.L.Lane.past c.args.lane.now));
+  goes = goes-started (record { acts = g.M.ModuleSet.acts; plan = g.M.ModuleSet.plan }) c.args.at.now c.new-session.result.intake c.new-session.result.ended c.new-session.result.answered c.new-session.ensures.intake c.new-session.ensures.ended c.new-session.ensures.answered (view c.args.pass.now) (g.L.Lane.past c.args.lane.now);
 }
 
 pub loop-preserved : goal.loop-preserved

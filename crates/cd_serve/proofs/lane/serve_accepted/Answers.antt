@@ -15,10 +15,9 @@ returns-clause-goes g c v old then first faults so_far le came =
     let failed = g.L.Lane.faults c.serve_connection-end.new.lane in
     let x = view c.serve_connection-end.new.pass in
     let past = g.L.Lane.past c.serve_connection-end.new.lane in
-    let more : c.saturating_add-counts.result ≡ min (n + e.answered) count_end = omega (arith, c.saturating_add-counts.ensures) in
     let none : 0 + cond {A = ℕ} e.halted 1 0 ≡ cond {A = ℕ} e.halted 1 0 = omega arith in
-    subst (λ (a : ℕ). LaneGoesOn m first failed a c.cut_after-counts.result (cond e.halted 1 0) v x old past) (sym more)
-    (subst (λ (a : ℕ). LaneGoesOn m first failed (min (n + e.answered) count_end) a (cond e.halted 1 0) v x old past) (sym c.cut_after-counts.ensures)
+    subst (λ (a : ℕ). LaneGoesOn m first failed a c.add.new.self.cut (cond e.halted 1 0) v x old past) (sym c.add.ensures.answered)
+    (subst (λ (a : ℕ). LaneGoesOn m first failed (min (n + e.answered) count_end) a (cond e.halted 1 0) v x old past) (sym c.add.ensures.cut)
     (subst (λ (h : ℕ). LaneGoesOn m first failed (min (n + e.answered) count_end) (cut_by e.cause c.args.counts.now.cut) h v x old past) none
     (lane-more m c.args.at.now first faults (g.L.Lane.faults c.args.lane.now) failed n c.args.counts.now.cut 0 e v (view c.args.pass.now) x old then (g.L.Lane.past c.args.lane.now) past so_far le came c.serve_connection-end.ensures.ends.cause c.serve_connection-end.ensures.ends.served)))
 

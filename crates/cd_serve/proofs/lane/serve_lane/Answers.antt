@@ -2,7 +2,7 @@ use Rattle.std.proofs.Common.{ℕ, Bool, cond, subst, arith}
 use Rattle.cd_gate.specs.Passes.{view}
 use Rattle.cd_serve.specs.Meanings.{Meaning}
 use Rattle.cd_serve.specs.Stepping.{LaneGoesOn}
-use Rattle.cd_serve.proofs.LaneStepping.{lane-new, lane-halted, placed-fresh}
+use Rattle.cd_serve.proofs.LaneStepping.{lane-started, lane-halted, placed-fresh}
 use Rattle.cd_serve.proofs.lane.serve_lane.Goals as goal
 
 pub loop-init : goal.loop-init
@@ -12,7 +12,7 @@ loop-init g c = record {
   free = c.requires.free;
   busy = c.requires.busy;
   later = omega arith;
-  goes = lane-new (record { acts = g.M.ModuleSet.acts; plan = g.M.ModuleSet.plan }) (g.L.Lane.faults c.args.lane.now) (view c.args.pass.now) (g.L.Lane.past c.args.lane.now);
+  goes = lane-started (record { acts = g.M.ModuleSet.acts; plan = g.M.ModuleSet.plan }) (g.L.Lane.faults c.args.lane.now) c.new-counts.result c.new-counts.ensures (view c.args.pass.now) (g.L.Lane.past c.args.lane.now);
 }
 
 pub returns-then-serve_accepted-clause-served : goal.returns-then-serve_accepted-clause-served
@@ -28,7 +28,7 @@ returns-then-serve_accepted-clause-served g c =
     let counts = c.serve_accepted.new.counts in
     let going : LaneGoesOn m first failed counts.answered counts.cut (cond c.serve_accepted.result 1 0) v x old now =
     c.serve_accepted.ensures.goes v old then first (g.L.Lane.faults c.loop.lane) c.loop.invariant.goes c.in-Connection.ensures.cause.later c.in-Connection.ensures.past in
-    lane-halted m first failed counts.answered counts.cut c.end_of.result c.in-Connection.at v x old now c.end_of.ensures (c.serve_accepted.ensures.last then c.in-Connection.ensures.past)
+    lane-halted m first failed counts.answered counts.cut c.end.result c.in-Connection.at v x old now c.end.ensures (c.serve_accepted.ensures.last then c.in-Connection.ensures.past)
     (subst (λ (b : Bool). LaneGoesOn m first failed counts.answered counts.cut (cond b 1 0) v x old now) c.if-serve_accepted.true going)
 
 pub returns-then-serve_accepted-clause-fresh : goal.returns-then-serve_accepted-clause-fresh

@@ -1,6 +1,6 @@
-use Rattle.std.proofs.Common.{◌≡◌, ◌∙◌, ◌+◌, List, ℕ, Bool, true, false, min, refl, subst, arith}
+use Rattle.std.proofs.Common.{◌≡◌, ◌∙◌, ◌+◌, List, ℕ, Bool, true, false, min, subst, arith}
 use Rattle.cd_outside.specs.Counts.{count_end}
-use Rattle.cd_serve.specs.declared.cause.Cause.TheVariants as cause
+use Rattle.cd_session.specs.declared.cause.Cause.TheVariants as cause
 use Rattle.cd_serve.specs.declared.how.How.{How}
 use Rattle.cd_serve.specs.declared.how.How.TheVariants as how
 use Rattle.cd_serve.specs.Meanings.{IsProperPrefix}

@@ -1,0 +1,4 @@
+pub mod Ways
+pub mod Keeping
+pub mod Ends
+pub mod Reading
