@@ -1,10 +1,12 @@
 -- What was read as a file is opened.
-use Rattle.std.proofs.Common.{◌≡◌, inl, inr, ℕ, ◌+◌, ◌<◌, ◌≤◌, true, List, length, sym, ◌∙◌, ap, subst, arith, Option, Some, None, IfSome, Result, Ok, Err, IfOk}
+use Rattle.std.proofs.Common.{◌≡◌, inl, inr, ℕ, zero, suc, ◌+◌, ◌-◌, ◌<◌, ◌≤◌, true, List, [], ◌∷◌, length, refl, sym, ◌∙◌, ap, subst, arith, Option, Some, None, IfSome, Result, Ok, Err, IfOk}
+use Rattle.std.proofs.lemmas.List.{get_or_past}
+use Rattle.cd_tree.specs.Endings.{last_byte}
 use Rattle.cd_tree.specs.Reading.{tree_of}
 use Rattle.cd_tree.specs.declared.tree.Tree.{Tree}
 use Rattle.cd_outside.specs.declared.limits.TheConstants.{MAX_KEPT_BYTES}
 use Rattle.cd_autosave.specs.Places.{start_of}
-use Rattle.cd_autosave.specs.Image.{bytes_at, length_at, saved_at}
+use Rattle.cd_autosave.specs.Image.{byte_at, bytes_at, length_at, saved_at}
 use Rattle.cd_autosave.specs.Disk.{IsRead}
 use Rattle.cd_autosave.specs.Heads.{IsHead}
 use Rattle.cd_autosave.specs.Opening.{IsNoTree, IsRecord, IsInvalid, IsDamagedAt}
@@ -27,6 +29,17 @@ err_is same = cc same
 
 -- ---- a text
 
+pub last_is : (before : ℕ) (xs : List ℕ) (n : ℕ) → length xs ≡ suc n → last_byte before xs ≡ byte_at xs n
+last_is before [] n long = absurd (omega (arith, long))
+last_is before (x ∷ []) zero long = refl
+last_is before (x ∷ []) (suc n) long = absurd (omega (arith, long))
+last_is before (x ∷ y ∷ ys) zero long = absurd (omega (arith, long))
+last_is before (x ∷ y ∷ ys) (suc n) long = last_is x (y ∷ ys) n (omega (arith, long))
+
+pub empty_last : (xs : List ℕ) → length xs ≡ 0 → last_byte 0 xs ≡ 0
+empty_last [] none = refl
+empty_last (x ∷ xs) none = absurd (omega (arith, none))
+
 read_is : (image into : List ℕ) (at count n : ℕ) → length into ≡ n → IsRead at into count image → bytes_at image at n ≡ into
 read_is image into at count n long read = ap (λ (k : ℕ). bytes_at image at k) (sym long) ∙ bytes_are image into at (λ i low. sym (read.each i low))
 
@@ -40,8 +53,14 @@ module _ (seen : Option (List ℕ)) (into : List ℕ) (at count n : ℕ) (long :
   tree_told (Err e) told = tt
   tree_told (Ok tree) told = if_some _ _ seen reads (tree_here tree told.0 told.1 told.2)
 
-  pub invalid_told : IsNoTree into → IfSome seen (λ image. IsNoTree (bytes_at image at n))
-  invalid_told no_tree = if_some _ _ seen reads (λ image read. λ tree is. no_tree tree (sym (ap tree_of (read_is image into at count n long read)) ∙ is))
+  -- a text that reaches past the end of the file ends in a byte 0
+  zero_last : (image : List ℕ) → IsRead at into count image → count < length into → last_byte 0 into ≡ 0
+  zero_last image read short =
+      let there = read.short short in
+      last_is 0 into (length into - 1) (omega (arith, short)) ∙ read.each (length into - 1) (omega (arith, short)) ∙ get_or_past image (at + (length into - 1)) 0 (omega (arith, there, short))
+
+  pub invalid_told : ((count < length into → last_byte 0 into ≡ 0) → IsNoTree into) → IfSome seen (λ image. IsNoTree (bytes_at image at n))
+  invalid_told why = if_some _ _ seen reads (λ image read. λ tree is. why (zero_last image read) tree (sym (ap tree_of (read_is image into at count n long read)) ∙ is))
 
 -- ---- a record
 

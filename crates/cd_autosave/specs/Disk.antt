@@ -12,7 +12,7 @@ pub record Torn (at n : ℕ) (old new : List ℕ) : Type 0 where
   pub below : (i : ℕ) → i < length old → i < at → byte_at new i ≡ byte_at old i
   pub above : (i : ℕ) → i < length old → at + n ≤ i → byte_at new i ≡ byte_at old i
 
--- after a whole write: the piece recovered at this place, with zeros between the old end and it
+-- after a whole write: the piece is at this place, with zeros between the old end and it
 pub record Written (at : ℕ) (piece old new : List ℕ) : Type 0 where
   pub long : length new ≡ max (length old) (at + length piece)
   pub piece_is : (i : ℕ) → i < length piece → byte_at new (at + i) ≡ byte_at piece i

@@ -44,7 +44,7 @@ newer None b = b
 newer (Some a) None = Some a
 newer (Some a) (Some b) = if nat_lt a.number b.number then Some b else Some a
 
--- what the file recovered for
+-- what is recovered from the file
 abbrev pub recovered : List ℕ → Option Saved
 recovered image = newer (slot_at image 0) (slot_at image SECOND_START)
 
@@ -53,7 +53,7 @@ abbrev pub rank : Option Saved → ℕ
 rank None = 0
 rank (Some saved) = suc saved.number
 
--- what recovered at the gate of a slot
+-- what is at the gate of a slot
 abbrev pub gate_at : List ℕ → ℕ → Gate
 gate_at image start = if nat_lt start (length image) then (if byte_at image start == 1 then One else Other) else Missing
 

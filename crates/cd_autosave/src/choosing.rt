@@ -1,5 +1,6 @@
 // Which slot is kept as the saver is opened.
 ghost use Rattle.std.specs.Prelude.{◌≡◌, ◌≤◌, List, ℕ, length, IfSome, option_map};
+ghost use Rattle.cd_tree.specs.Tree.{IsSound};
 ghost use Rattle.cd_autosave.specs.declared.slot.Slot.TheVariants as slot;
 ghost use Rattle.cd_autosave.specs.Disk.{IsDurable};
 ghost use Rattle.cd_autosave.specs.Opening.{IsFound, IsOpened, count_or, gate_for, kept_of, record_of, slots_over};
@@ -73,7 +74,8 @@ fn number_in(held: &Option<Record>) -> Option<u64>
 }
 
 fn tree_in(held: Option<Record>) -> Option<Tree>
-    ensures { result ≡ option_map (λ (r : _). r.tree) held }
+    ensures tree { result ≡ option_map (λ (r : _). r.tree) held }
+    ensures sound { IfSome result IsSound }
 {
     match held {
         Some(Record { number: _, tree }) => Some(tree),
@@ -94,6 +96,7 @@ pub fn arrange<D: Disk>(disk: D, both: FoundSlots) -> Arranged<D>
     requires second { IfSome (D.seen disk) (λ image. IsFound slot.Second image both.second) }
     ensures disk { result.slots.disk ≡ disk }
     ensures kept { IsKept D.seen D.may_leave result.slots }
+    ensures sound { IfSome result.tree IsSound }
     ensures opened { IfSome (D.seen disk) (λ image. IsOpened (held_of D.seen result.slots) result.slots.found result.tree image) }
 {
     let FoundSlots { first, second } = both;

@@ -1,4 +1,5 @@
 ghost use Rattle.std.specs.Prelude.{◌≤◌};
+ghost use Rattle.cd_tree.specs.Tree.{IsSound};
 ghost use Rattle.cd_autosave.specs.declared.limits.TheConstants.{MAX_NUMBER};
 
 use crate::Gate;
@@ -10,6 +11,7 @@ pub struct Record {
     pub number: u64,
     pub tree: Tree,
     pub ghost small: { number ≤ MAX_NUMBER },
+    pub ghost sound: { IsSound tree },
 }
 
 /// What is found at a slot.

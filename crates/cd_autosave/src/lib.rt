@@ -2,7 +2,7 @@
 //! saved.
 //!
 //! The file has two slots. A save takes the one that isn't held: it closes that slot's gate, writes the number, the length and
-//! the text, opens the gate, and syncs after each of these. So what a crash tears is never read, and what was held stays until
+//! the text, opens the gate, and syncs after each of these. So what a crash tears never counts, and what was held stays until
 //! the new record counts.
 //!
 //! ```text

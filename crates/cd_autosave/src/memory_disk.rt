@@ -90,7 +90,7 @@ fn with_piece(alloc: Global, bytes: &[u8], at: usize, piece: &[u8]) -> Result<Oc
     Ok(Octets::from_vec(made))
 }
 
-// Copies what recovered at a place, as far as there is room.
+// Copies what is at a place, as far as there is room.
 fn copy_at(bytes: &[u8], at: u64, into: &mut [u8]) -> Taken
     requires { 0 < length into.old }
     ensures bound { IsTakenWithin result (length into.new) }

@@ -1,6 +1,8 @@
 ghost use Rattle.std.specs.Prelude.{◌≡◌, ◌≤◌, ◌<◌, ◌+◌, ◌^◌, ◌⊎◌, true, List, ℕ, length, Ok, Err, IfOk, IfSome};
 ghost use Rattle.cd_outside.specs.Counts.{Rises};
+ghost use Rattle.cd_tree.specs.Endings.{last_byte};
 ghost use Rattle.cd_tree.specs.Reading.{tree_of};
+ghost use Rattle.cd_tree.specs.Tree.{IsSound};
 ghost use Rattle.cd_autosave.specs.declared.save_fault.SaveFault.TheVariants as fault;
 ghost use Rattle.cd_autosave.specs.declared.slot.Slot.TheVariants as slots;
 ghost use Rattle.cd_autosave.specs.Places.{start_of};
@@ -15,22 +17,26 @@ use crate::limits::{HEAD_BYTES, MAX_NUMBER};
 use crate::reading::read_whole;
 use crate::{Disk, SaveFault, Slot};
 use cd_outside::{Given, MAX_KEPT_BYTES};
-use cd_tree::{Tree, TreeFault, read};
+use cd_text::NoMemory;
+use cd_tree::{Tree, TreeFault, no_tree_ends_in_zero, read};
 use std::alloc::Global;
 
-// The tree of a text, of which the file had so many bytes; the others are 0.
-//
-// A text of which the file has not all ends in a byte 0, and the empty one is empty. Neither is a tree, so reading it fails. That
-// is no contract of `read`: if it did not fail, the answer here would be out of memory, which is never wrong to say.
+// The tree of a text, of which the file had so many bytes. Those that it had not are 0, so a text that ends in one is no tree.
 fn tree_in(alloc: Global, count: usize, text: &[u8]) -> Result<Tree, SaveFault>
     ensures tree { IfOk result (λ tree. (0 < count) × (length text.now ≤ count) × (tree_of text.now ≡ Ok tree)) }
-    ensures damaged { result ≡ Err fault.Damaged → IsNoTree text.now }
+    ensures sound { IfOk result IsSound }
+    ensures damaged { result ≡ Err fault.Damaged → (count < length text.now → last_byte 0 text.now ≡ 0) → IsNoTree text.now }
     ensures cause { result ≡ Err fault.DiskFault → ⊥ }
 {
-    let whole = 0 < count && text.len() <= count;
+    no_tree_ends_in_zero(text);
+    if text.is_empty() {
+        return Err(SaveFault::Damaged);
+    }
+    if count < text.len() {
+        return Err(SaveFault::Damaged);
+    }
     match read(alloc, text) {
-        Ok(tree) if whole => Ok(tree),
-        Ok(_) => Err(SaveFault::NoMemory),
+        Ok(tree) => Ok(tree),
         Err(TreeFault::NoMemory) => Err(SaveFault::NoMemory),
         Err(_) => Err(SaveFault::Damaged),
     }
@@ -46,6 +52,7 @@ fn read_tree<D: Disk>(
     requires { at + length room.old < 2 ^ 63 }
     ensures unchanged { IsUnchanged D.seen D.may_leave D.moment D.left_since disk.old disk.new }
     ensures long { length room.new ≡ length room.old }
+    ensures sound { IfOk result IsSound }
     ensures tree { IfOk result (λ tree. IfSome (D.seen disk.old) (λ image. (at + length room.old ≤ length image) × (tree_of (bytes_at image at (length room.old)) ≡ Ok tree))) }
     ensures damaged { result ≡ Err fault.Damaged → IfSome (D.seen disk.old) (λ image. IsNoTree (bytes_at image at (length room.old))) }
     ensures cause { Rises (D.faults disk.old) (D.faults disk.new) (result ≡ Err fault.DiskFault) }
@@ -56,19 +63,53 @@ fn read_tree<D: Disk>(
     }
 }
 
-// Reads what an open slot holds after its head.
-fn read_record<D: Disk>(
+// So many bytes.
+fn bytes_for(alloc: Global, count: usize) -> Result<Vec<u8>, NoMemory>
+    ensures { IfOk result (λ room. length room.items ≡ count) }
+{
+    let mut room = Vec::with_capacity(alloc, count)?;
+    room.resize(count, 0)?;
+    Ok(room)
+}
+
+// Reads the text of an open slot, as long as the room.
+fn read_text<D: Disk>(
     alloc: Global,
     disk: &mut D,
     slot: Slot,
     head: Head,
     room: &mut [u8],
 ) -> Result<Record, SaveFault>
-    requires room { MAX_KEPT_BYTES ≤ length room.old }
+    requires long { length room.old ≡ head.size }
+    requires short { head.size ≤ MAX_KEPT_BYTES }
+    requires small { head.number ≤ MAX_NUMBER }
     requires head { IfSome (D.seen disk.old) (λ image. IsHead (start_of slot) image head) }
     requires opens { head.open_slot ≡ true }
     ensures unchanged { IsUnchanged D.seen D.may_leave D.moment D.left_since disk.old disk.new }
-    ensures long { length room.new ≡ length room.old }
+    ensures record { IfOk result (λ found. IfSome (D.seen disk.old) (λ image. IsRecord slot image (saved_at image (start_of slot)) found)) }
+    ensures damaged { result ≡ Err fault.Damaged → IfSome (D.seen disk.old) (λ image. IsInvalid (saved_at image (start_of slot))) }
+    ensures cause { Rises (D.faults disk.old) (D.faults disk.new) (result ≡ Err fault.DiskFault) }
+{
+    let at = slot.start() + HEAD_BYTES as u64;
+    match read_tree(alloc, disk, at, room) {
+        Err(fault) => Err(fault),
+        Ok(tree) => Ok(Record {
+            number: head.number,
+            tree,
+        }),
+    }
+}
+
+// Reads what an open slot holds after its head.
+fn read_record<D: Disk>(
+    alloc: Global,
+    disk: &mut D,
+    slot: Slot,
+    head: Head,
+) -> Result<Record, SaveFault>
+    requires head { IfSome (D.seen disk.old) (λ image. IsHead (start_of slot) image head) }
+    requires opens { head.open_slot ≡ true }
+    ensures unchanged { IsUnchanged D.seen D.may_leave D.moment D.left_since disk.old disk.new }
     ensures record { IfOk result (λ found. IfSome (D.seen disk.old) (λ image. IsRecord slot image (saved_at image (start_of slot)) found)) }
     ensures damaged { result ≡ Err fault.Damaged → IfSome (D.seen disk.old) (λ image. IsInvalid (saved_at image (start_of slot))) }
     ensures cause { Rises (D.faults disk.old) (D.faults disk.new) (result ≡ Err fault.DiskFault) }
@@ -79,26 +120,15 @@ fn read_record<D: Disk>(
     if head.size as usize > MAX_KEPT_BYTES {
         return Err(SaveFault::Damaged);
     }
-    let at = slot.start() + HEAD_BYTES as u64;
-    match read_tree(alloc, disk, at, &mut room[..head.size as usize]) {
-        Err(fault) => Err(fault),
-        Ok(tree) => Ok(Record {
-            number: head.number,
-            tree,
-        }),
+    match bytes_for(alloc, head.size as usize) {
+        Err(_) => Err(SaveFault::NoMemory),
+        Ok(mut room) => read_text(alloc, disk, slot, head, room.as_mut_slice()),
     }
 }
 
 // Reads what a slot holds.
-fn look_at_slot<D: Disk>(
-    alloc: Global,
-    disk: &mut D,
-    slot: Slot,
-    room: &mut [u8],
-) -> Result<Found, SaveFault>
-    requires { MAX_KEPT_BYTES ≤ length room.old }
+fn look_at_slot<D: Disk>(alloc: Global, disk: &mut D, slot: Slot) -> Result<Found, SaveFault>
     ensures unchanged { IsUnchanged D.seen D.may_leave D.moment D.left_since disk.old disk.new }
-    ensures long { length room.new ≡ length room.old }
     ensures found { IfOk result (λ found. IfSome (D.seen disk.old) (λ image. IsFound slot image found)) }
     ensures damaged { result ≡ Err fault.Damaged → IfSome (D.seen disk.old) (λ image. IsDamagedAt slot image) }
     ensures cause { Rises (D.faults disk.old) (D.faults disk.new) (result ≡ Err fault.DiskFault) }
@@ -108,7 +138,7 @@ fn look_at_slot<D: Disk>(
         Some(head) => {
             let gate = head.gate;
             if head.open_slot {
-                match read_record(alloc, disk, slot, head, room) {
+                match read_record(alloc, disk, slot, head) {
                     Err(fault) => Err(fault),
                     Ok(record) => Ok(Found {
                         gate,
@@ -123,12 +153,7 @@ fn look_at_slot<D: Disk>(
 }
 
 // Syncs, and reads what both slots hold.
-pub fn look_at_both<D: Disk>(
-    alloc: Global,
-    disk: &mut D,
-    room: &mut [u8],
-) -> Result<FoundSlots, SaveFault>
-    requires { MAX_KEPT_BYTES ≤ length room.old }
+pub fn look_at_both<D: Disk>(alloc: Global, disk: &mut D) -> Result<FoundSlots, SaveFault>
     ensures unchanged { IsUnchanged D.seen D.may_leave D.moment D.left_since disk.old disk.new }
     ensures durable { IfOk result (λ both. IsDurable (D.seen disk.new) (D.may_leave disk.new)) }
     ensures first { IfOk result (λ both. IfSome (D.seen disk.old) (λ image. IsFound slots.First image both.first)) }
@@ -138,26 +163,21 @@ pub fn look_at_both<D: Disk>(
 {
     match disk.sync() {
         Given::Failed => Err(SaveFault::DiskFault),
-        Given::All => look_at_all(alloc, disk, room),
+        Given::All => look_at_all(alloc, disk),
     }
 }
 
 // Reads what both slots hold.
-fn look_at_all<D: Disk>(
-    alloc: Global,
-    disk: &mut D,
-    room: &mut [u8],
-) -> Result<FoundSlots, SaveFault>
-    requires { MAX_KEPT_BYTES ≤ length room.old }
+fn look_at_all<D: Disk>(alloc: Global, disk: &mut D) -> Result<FoundSlots, SaveFault>
     ensures unchanged { IsUnchanged D.seen D.may_leave D.moment D.left_since disk.old disk.new }
     ensures first { IfOk result (λ both. IfSome (D.seen disk.old) (λ image. IsFound slots.First image both.first)) }
     ensures second { IfOk result (λ both. IfSome (D.seen disk.old) (λ image. IsFound slots.Second image both.second)) }
     ensures damaged { result ≡ Err fault.Damaged → IfSome (D.seen disk.old) IsDamaged }
     ensures cause { Rises (D.faults disk.old) (D.faults disk.new) (result ≡ Err fault.DiskFault) }
 {
-    match look_at_slot(alloc, disk, Slot::First, room) {
+    match look_at_slot(alloc, disk, Slot::First) {
         Err(fault) => Err(fault),
-        Ok(first) => look_at_other(alloc, disk, first, room),
+        Ok(first) => look_at_other(alloc, disk, first),
     }
 }
 
@@ -166,16 +186,14 @@ fn look_at_other<D: Disk>(
     alloc: Global,
     disk: &mut D,
     first: Found,
-    room: &mut [u8],
 ) -> Result<FoundSlots, SaveFault>
-    requires { MAX_KEPT_BYTES ≤ length room.old }
     ensures unchanged { IsUnchanged D.seen D.may_leave D.moment D.left_since disk.old disk.new }
     ensures first { IfOk result (λ both. both.first ≡ first) }
     ensures second { IfOk result (λ both. IfSome (D.seen disk.old) (λ image. IsFound slots.Second image both.second)) }
     ensures damaged { result ≡ Err fault.Damaged → IfSome (D.seen disk.old) (λ image. IsDamagedAt slots.Second image) }
     ensures cause { Rises (D.faults disk.old) (D.faults disk.new) (result ≡ Err fault.DiskFault) }
 {
-    match look_at_slot(alloc, disk, Slot::Second, room) {
+    match look_at_slot(alloc, disk, Slot::Second) {
         Err(fault) => Err(fault),
         Ok(second) => Ok(FoundSlots { first, second }),
     }

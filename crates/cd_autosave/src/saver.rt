@@ -3,6 +3,8 @@ ghost use Rattle.cd_autosave.specs.declared.slot.Slot.TheVariants as slot;
 ghost use Rattle.cd_outside.specs.declared.given.Given.TheVariants as given;
 ghost use Rattle.cd_outside.specs.Counts.{Rises};
 ghost use Rattle.cd_outside.specs.declared.limits.TheConstants.{MAX_KEPT_BYTES};
+ghost use Rattle.std.specs.Vec.{vec_capacity};
+ghost use Rattle.cd_tree.specs.Tree.{IsSound};
 ghost use Rattle.cd_autosave.specs.declared.limits.TheConstants.{MAX_NUMBER};
 ghost use Rattle.cd_autosave.specs.Disk.{IsUnchanged, IsDurable};
 ghost use Rattle.cd_autosave.specs.Opening.{IsDamaged, IsFound, IsOpened};
@@ -27,16 +29,14 @@ pub struct Saver<D: Disk> {
     rest: Vec<u8>,
     ghost kept: { ∥ IsKept D.seen D.may_leave slots ∥₁ },
     ghost bound: { slots.found ≤ MAX_NUMBER },
-    ghost room: { length rest.items ≡ 12 + MAX_KEPT_BYTES },
+    ghost room: { 12 + MAX_KEPT_BYTES ≤ vec_capacity rest },
 }
 
-// Room for what a slot holds after its gate.
+// Room for what a slot holds after its gate. It is taken here, so that a save takes none, and is used as far as texts are long.
 fn with_room(alloc: Global) -> Result<Vec<u8>, NoMemory>
-    ensures { IfOk result (λ room. length room.items ≡ 12 + MAX_KEPT_BYTES) }
+    ensures { IfOk result (λ room. 12 + MAX_KEPT_BYTES ≤ vec_capacity room) }
 {
-    let mut room = Vec::new(alloc);
-    room.resize(12 + MAX_KEPT_BYTES, 0)?;
-    Ok(room)
+    Ok(Vec::with_capacity(alloc, 12 + MAX_KEPT_BYTES)?)
 }
 
 // The saver of a disk of which this was found, and the tree that was saved last.
@@ -44,8 +44,9 @@ fn opened<D: Disk>(disk: D, both: FoundSlots, room: Vec<u8>) -> (Saver<D>, Optio
     requires durable { IsDurable (D.seen disk) (D.may_leave disk) }
     requires first { IfSome (D.seen disk) (λ image. IsFound slot.First image both.first) }
     requires second { IfSome (D.seen disk) (λ image. IsFound slot.Second image both.second) }
-    requires room { length room.items ≡ 12 + MAX_KEPT_BYTES }
+    requires room { 12 + MAX_KEPT_BYTES ≤ vec_capacity room }
     ensures disk { result.0.slots.disk ≡ disk }
+    ensures sound { IfSome result.1 IsSound }
     ensures opened { IfSome (D.seen disk) (λ image. IsOpened (held_of D.seen result.0.slots) result.0.slots.found result.1 image) }
 {
     let Arranged { slots, tree } = arrange(disk, both);
@@ -62,16 +63,17 @@ impl<D: Disk> Saver<D> {
     /// text is no tree; `DiskFault` where a call on the disk failed; `NoMemory` out of memory.
     pub fn open(alloc: Global, disk: D) -> Result<(Saver<D>, Option<Tree>), (D, SaveFault)>
         ensures unchanged { MatchResult result (λ r. IsUnchanged D.seen D.may_leave D.moment D.left_since disk r.0.slots.disk) (λ e. IsUnchanged D.seen D.may_leave D.moment D.left_since disk e.0) }
+        ensures sound { IfOk result (λ r. IfSome r.1 IsSound) }
         ensures durable { IfOk result (λ r. IsDurable (D.seen r.0.slots.disk) (D.may_leave r.0.slots.disk)) }
         ensures opened { IfOk result (λ r. IfSome (D.seen disk) (λ image. IsOpened (held_of D.seen r.0.slots) r.0.slots.found r.1 image)) }
         ensures damaged { IfErr result (λ e. e.1 ≡ SaveFault.Damaged → IfSome (D.seen disk) IsDamaged) }
         ensures cause { MatchResult result (λ r. D.faults disk ≤ D.faults r.0.slots.disk) (λ e. Rises (D.faults disk) (D.faults e.0) (e.1 ≡ SaveFault.DiskFault)) }
     {
         let mut disk = disk;
-        let Ok(mut room) = with_room(alloc) else {
+        let Ok(room) = with_room(alloc) else {
             return Err((disk, SaveFault::NoMemory));
         };
-        match look_at_both(alloc, &mut disk, room.as_mut_slice()) {
+        match look_at_both(alloc, &mut disk) {
             Err(fault) => Err((disk, fault)),
             Ok(both) => Ok(opened(disk, both, room)),
         }
@@ -80,7 +82,7 @@ impl<D: Disk> Saver<D> {
     // Over slots of which all this is known, with room for the rest of a slot.
     pub(crate) fn over(slots: Slots<D>, rest: Vec<u8>) -> Saver<D>
         requires kept { IsKept D.seen D.may_leave slots }
-        requires room { length rest.items ≡ 12 + MAX_KEPT_BYTES }
+        requires room { 12 + MAX_KEPT_BYTES ≤ vec_capacity rest }
         ensures { result.slots ≡ slots }
     {
         Saver { slots, rest }
@@ -98,8 +100,8 @@ impl<D: Disk> Saver<D> {
         ensures cause { Rises (D.faults self.old.slots.disk) (D.faults self.new.slots.disk) (result ≡ given.Failed) }
     {
         let number = self.slots.found + u64::from(serial);
-        put_rest(self.rest.as_mut_slice(), number, text);
-        self.slots.save(number, text, &self.rest[..12 + text.len()])
+        put_rest(&mut self.rest, number, text);
+        self.slots.save(number, text, self.rest.as_slice())
     }
 
     /// The disk.

@@ -31,4 +31,4 @@ returns-clause-opened g c =
     let kept_is = c.gate_of_slot-2.ensures ∙ ap (λ k. gate_for k first.gate second.gate) c.choose-slot.ensures.slot in
     arranged_opened g.D.Disk.seen g.D.Disk.may_leave c.args.disk first second c.number_in-number.result held_r c.requires.first c.requires.second _ _
     (slots_equal c.args.disk (kept_of first.held second.held) c.number_in-number.result first.gate second.gate _ _ _ _ found_is next_is gate_is kept_is)
-    (c.tree_in.ensures ∙ ap (option_map (λ (f : Record). f.tree)) c.choose-slot.ensures.held)
+    (c.tree_in.ensures.tree ∙ ap (option_map (λ (f : Record). f.tree)) c.choose-slot.ensures.held)
