@@ -171,7 +171,8 @@ fn gives<R: Wait + Files<File = File> + AllocGlobal>(
     lane.log(&Key::Writer(name), &line) == Given::All
 }
 
-fn has_text<R: Files<File = File> + AllocGlobal>(rt: &R, path: &str, wanted: &str) -> bool {
+/// Whether a file has this text.
+pub fn has_text<R: Files<File = File> + AllocGlobal>(rt: &R, path: &str, wanted: &str) -> bool {
     match fs::read_to_string(rt, path) {
         Ok(text) => text.as_str() == wanted,
         Err(_) => false,

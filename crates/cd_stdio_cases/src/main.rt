@@ -1,14 +1,17 @@
 //! Devices that signals interrupt, that fail in the middle and that fail when they are flushed; messages, which wait for their writer;
-//! and log writers over standard streams and a real file.
+//! log writers over standard streams and a real file; and disks over files that do little, that are full, and real ones.
 //!
 //! device.rt has the devices. failing.rt has what the forms of `cd_stdio` make of them, telling.rt what becomes of messages, and
-//! appending.rt what log writers do with their lines. Each scene says whether all of it came out as it has to. Its
+//! appending.rt what log writers do with their lines. slow_file.rt has a file that does little at a time, and saving.rt what disks
+//! make of it and of real files. Each scene says whether all of it came out as it has to. Its
 //! name is printed, with `differs` where it did not. Lines that begin with two spaces are what the scenes themselves have written.
 #![tactic(auto)]
 
 mod appending;
 mod device;
 mod failing;
+mod saving;
+mod slow_file;
 mod telling;
 
 use appending::{
@@ -16,10 +19,17 @@ use appending::{
     lines_go_to_the_end_of_their_file, lines_of_two_threads_are_whole,
     standard_streams_are_writers,
 };
+use cd_disk::{AUTOSAVE_FILE, AutosaveFile, FileDisk};
 use cd_stdio::{StreamLane, Writers};
 use failing::{
     a_configuration_fails_in_the_middle, a_connection_fails_in_the_middle,
     an_output_fails_in_the_middle, an_output_fails_when_it_is_flushed,
+};
+use saving::{
+    a_disk_goes_on_after_a_short_write, a_disk_leaves_messages, a_failed_sync_ends_a_disk,
+    a_file_has_what_was_saved, a_file_is_made_by_the_first_write, a_file_is_open_once,
+    a_file_that_has_come_stays, a_file_that_was_moved_is_missed, a_full_disk_fails,
+    what_is_no_saved_file_stays,
 };
 use std::fs::{File, Files};
 use std::io;
@@ -33,13 +43,14 @@ use telling::{
 
 fn main(rt: HostRuntime) -> ExitCode {
     crosses(&StreamLane::new(&rt, rt.alloc(), io::empty(), io::empty(), rt.stderr()));
+    crosses(&FileDisk::new(AutosaveFile::new(&rt, AUTOSAVE_FILE)));
     match all_scenes(&rt, rt.stdout(), rt.stderr()) {
         Ok(()) => ExitCode::SUCCESS,
         Err(_) => ExitCode::from(2),
     }
 }
 
-// A run serves each lane in a thread of its own.
+// A run serves each lane in a thread of its own, and lanes share a disk.
 fn crosses<L: Send>(_lane: &L) {}
 
 fn all_scenes<R: Threads + Wait + Sync + Print + Files<File = File> + AllocGlobal>(
@@ -49,7 +60,9 @@ fn all_scenes<R: Threads + Wait + Sync + Print + Files<File = File> + AllocGloba
 ) -> io::Result<()> {
     tell_devices(rt)?;
     tell_messages(rt, output)?;
-    tell_writers(rt, output, error)
+    tell_writers(rt, output, error)?;
+    tell_disks(rt, output)?;
+    tell_files(rt)
 }
 
 fn tell_devices<R: Wait + Print + Files<File = File> + AllocGlobal>(rt: &R) -> io::Result<()> {
@@ -93,6 +106,30 @@ fn tell_writers<R: Threads + Wait + Sync + Print + Files<File = File> + AllocGlo
     tell(rt, "a pipe is no log file", refused)?;
     let logged = a_lane_over_streams_logs(rt, output);
     tell(rt, "a lane over streams logs", logged)
+}
+
+fn tell_disks<R: Wait + Print + AllocGlobal>(rt: &R, output: Stdout) -> io::Result<()> {
+    let short = a_disk_goes_on_after_a_short_write(rt.alloc());
+    tell(rt, "a disk goes on after a short write", short)?;
+    tell(rt, "a full disk fails", a_full_disk_fails(rt.alloc()))?;
+    let ended = a_failed_sync_ends_a_disk(rt.alloc());
+    tell(rt, "a failed sync ends a disk", ended)?;
+    let left = a_disk_leaves_messages(rt, rt.alloc(), output);
+    tell(rt, "a disk leaves messages", left)
+}
+
+fn tell_files<R: Print + Files<File = File> + AllocGlobal>(rt: &R) -> io::Result<()> {
+    let made = a_file_is_made_by_the_first_write(rt);
+    tell(rt, "a file is made by the first write", made)?;
+    let other = what_is_no_saved_file_stays(rt);
+    tell(rt, "what is no saved file stays", other)?;
+    let come = a_file_that_has_come_stays(rt);
+    tell(rt, "a file that has come stays", come)?;
+    tell(rt, "a file is open once", a_file_is_open_once(rt))?;
+    let moved = a_file_that_was_moved_is_missed(rt);
+    tell(rt, "a file that was moved is missed", moved)?;
+    let saved = a_file_has_what_was_saved(rt);
+    tell(rt, "a file has what was saved", saved)
 }
 
 // Prints the name of a scene.

@@ -1,0 +1,2 @@
+pub mod RawFile
+pub mod Untold
