@@ -1,5 +1,5 @@
 -- Completeness, from the tables by status.
-use Rattle.std.proofs.Common.{◌≡◌, ◌⊎◌, ◌+◌, ◌++◌, ◌∙◌, inl, inr, ℕ, true, List, [], ◌∷◌, Option, Some, None, Result, Ok, Err, refl, sym, subst, arith}
+use Rattle.std.proofs.Common.{◌≡◌, ◌⊎◌, ◌+◌, ◌++◌, ◌∙◌, inl, inr, ℕ, true, false, List, [], ◌∷◌, Option, Some, None, Result, Ok, Err, refl, sym, subst, arith}
 use Rattle.cd_outside.specs.declared.past.Connection.{Connection}
 use Rattle.cd_tree.specs.declared.tree.Tree.{Tree}
 use Rattle.cd_legal.specs.declared.entry.Signed.{Signed}
@@ -16,7 +16,7 @@ use Rattle.cd_host.proofs.Unfailing.{have-ended}
 use Rattle.cd_program.specs.declared.command.Command as commands
 use Rattle.cd_program.specs.declared.command.Command.TheVariants as Command
 use Rattle.cd_program.specs.declared.initial.Initial.{Initial}
-use Rattle.cd_program.specs.declared.initial.Initial.TheVariants.{OfFile, Null}
+use Rattle.cd_program.specs.declared.initial.Initial.TheVariants.{OfFile, Null, Saved}
 use Rattle.cd_program.specs.declared.refusal.Refusal.{Refusal}
 use Rattle.cd_program.specs.declared.status.Status.{Status}
 use Rattle.cd_program.specs.declared.status.Status.TheVariants as status
@@ -26,7 +26,7 @@ use Rattle.cd_program.specs.Configuration.{configured}
 use Rattle.cd_program.specs.Seen.{Device, HasFailed, Seen}
 use Rattle.cd_program.specs.Storm.{Storms}
 use Rattle.cd_program.specs.Top.{Begins, HasRun, Loads, Serves, Validates, ExitsWith, WasRefused, EndsAs, code_of, standard}
-use Rattle.cd_program.specs.Words.{is_of_file}
+use Rattle.cd_program.specs.Words.{is_null}
 use Rattle.cd_program.proofs.Loading.{all_loaded, apart}
 
 -- ---- connections
@@ -71,12 +71,13 @@ is_done status.NoMemory e = absurd (omega (arith, e))
 
 module _ {F L : Type 0} (m : Meaning) (initial : Initial) (s : Seen F L) where
   -- a configuration that may begin is not refused
-  begins_so : MayBegin m.plan initial s.source → is_of_file initial ≡ true → WasRefused m.plan s.source s.output → ⊥
-  begins_so may of_file refused = here initial may of_file
+  begins_so : MayBegin m.plan initial s.source → is_null initial ≡ false → WasRefused m.plan initial s.source s.output → ⊥
+  begins_so may other refused = here initial may other refused.refused
     where
-      here : (i : Initial) → MayBegin m.plan i s.source → is_of_file i ≡ true → ⊥
-      here OfFile holds is = not_refused m.plan s.source holds refused.refusal refused.refused
-      here Null holds is = cc
+      here : (i : Initial) → MayBegin m.plan i s.source → is_null i ≡ false → Begins m.plan i s.source (Err refused.refusal) → ⊥
+      here OfFile holds is loads = not_refused m.plan s.source holds refused.refusal loads
+      here Null holds is loads = cc
+      here (Saved t) fine is loads = apart t refused.refusal (sym fine ∙ loads)
 
   done_or_lacking : NothingFailed s → MayBegin m.plan initial s.source → (st : Status) → Serves m initial s st → (code_of st ≡ 0) ⊎ (code_of st ≡ 5)
   done_or_lacking none may status.Done so = inl refl
@@ -98,7 +99,7 @@ module _ {F L : Type 0} (m : Meaning) (initial : Initial) (s : Seen F L) where
         ended = λ nobody. have-ended s.lanes none (run.ran.ended refl nobody);
       }
 
-  completes : NothingFailed s → MayBegin m.plan initial s.source → (code : ℕ) → ExitsWith code (Serves m initial s) → Completes m initial s code
+  pub completes : NothingFailed s → MayBegin m.plan initial s.source → (code : ℕ) → ExitsWith code (Serves m initial s) → Completes m initial s code
   completes none may code e = record {
     done = subst (λ (n : ℕ). (n ≡ 0) ⊎ (n ≡ 5)) (sym e.is) (done_or_lacking none may e.status e.so);
     all = λ zero uncut. completed none.lanes uncut (subst (Serves m initial s) (is_done e.status (sym e.is ∙ zero)) e.so).0;

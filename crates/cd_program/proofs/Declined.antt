@@ -14,7 +14,7 @@ use Rattle.cd_program.specs.Endings.{IsDeclined}
 use Rattle.cd_program.specs.Seen.{Device, HasFailed, Seen, IsUntouched}
 use Rattle.cd_program.specs.Top.{Begins, Loads, NullMayRun, Serves, Validates}
 use Rattle.cd_program.specs.Words.{is_of_file}
-use Rattle.cd_program.proofs.Loading.{refused_of_file}
+use Rattle.cd_program.proofs.Loading.{refused_not_null}
 
 pub validates : (plan : Tree → Result Plan LoadFault) (source output : Device (List ℕ)) (why : Unloaded)
     → ((refusal : Refusal) → why ≡ unloaded.Refused refusal → Loads plan source.told_before source.told_now (Err refusal)) → (why ≡ unloaded.Failed → HasFailed source)
@@ -32,8 +32,8 @@ pub serves : {F L : Type 0} (m : Meaning) (initial : Initial) (s : Seen F L) (wh
     → (st : Status) → IsDeclined why s.output st → Serves m initial s st
 serves m initial s why fine same refused failed status.Done d = absurd d
 serves m initial s why fine same refused failed status.Refused d =
-    let read = refused_of_file m.plan fine initial s.source d.0 (refused d.0 d.1) in
-    (read.0, record { refusal = d.0; refused = read.1; says = d.2 }, same)
+    let begins = refused d.0 d.1 in
+    (refused_not_null m.plan fine initial s.source d.0 begins, record { refusal = d.0; refused = begins; says = d.2 }, same)
 serves m initial s why fine same refused failed status.Unopened d = absurd d
 serves m initial s why fine same refused failed status.Usage d = d
 serves m initial s why fine same refused failed status.ReadFault d = ((failed d.0).0, (failed d.0).1, d.1, same)

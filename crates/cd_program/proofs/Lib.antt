@@ -1,10 +1,11 @@
 mod Said
-mod Statuses
+pub mod Statuses
 mod Numbers
-mod Loading
+pub mod Loading
 mod Unpublished
 mod RunEnds
 mod Declined
 mod Storms
-mod Completing
+pub mod Completing
+mod Sounds
 mod Examples

@@ -1,5 +1,5 @@
 -- What the bytes that a source gave up come to.
-use Rattle.std.proofs.Common.{◌≡◌, ◌<◌, ◌∙◌, ◌++◌, ◌⊎◌, ℕ, true, List, [], length, Option, Some, None, Result, Ok, Err, length-append, inl, inr, refl, rules, ap, sym, arith}
+use Rattle.std.proofs.Common.{◌≡◌, ◌<◌, ◌∙◌, ◌++◌, ◌⊎◌, ℕ, true, false, List, [], length, Option, Some, None, Result, Ok, Err, length-append, inl, inr, refl, rules, ap, sym, arith}
 use Rattle.std.specs.Prelude.{nat_lt}
 use Rattle.std.specs.Result.{result_map_both}
 use Rattle.std.proofs.lemmas.Bool.Decides.{nat_tests}
@@ -15,11 +15,11 @@ use Rattle.cd_standard.specs.Acting.{plan_of_tree}
 use Rattle.cd_standard.specs.Loading.{loaded, nothing_said, planned}
 use Rattle.cd_standard.specs.Plans.{plan_of}
 use Rattle.cd_program.specs.declared.initial.Initial.{Initial}
-use Rattle.cd_program.specs.declared.initial.Initial.TheVariants.{OfFile, Null}
+use Rattle.cd_program.specs.declared.initial.Initial.TheVariants.{OfFile, Null, Saved}
 use Rattle.cd_program.specs.Configuration.{configured, if_planned}
 use Rattle.cd_program.specs.Seen.{Device}
 use Rattle.cd_program.specs.Top.{Begins, Loads, NullMayRun}
-use Rattle.cd_program.specs.Words.{is_of_file}
+use Rattle.cd_program.specs.Words.{is_null}
 use Rattle.cd_program.specs.declared.refusal.Refusal.{Refusal}
 use Rattle.cd_program.specs.declared.refusal.Refusal.TheVariants.{NoTree}
 
@@ -54,11 +54,12 @@ all_loaded plan bytes None found loads = let none = loads.gave.given in cc
 pub apart : (t : Tree) (refusal : Refusal) → ◌≡◌ {A = Result Tree Refusal} (Ok t) (Err refusal) → ⊥
 apart t refusal e = cc
 
--- where the tree null may run, what is refused is that of a file
-pub refused_of_file : (plan : Tree → Result Plan LoadFault) → NullMayRun plan
-    → (initial : Initial) (source : Device (List ℕ)) (refusal : Refusal) → Begins plan initial source (Err refusal) → (is_of_file initial ≡ true) × Loads plan source.told_before source.told_now (Err refusal)
-refused_of_file plan fine OfFile source refusal loads = (refl, loads)
-refused_of_file plan fine Null source refusal is = absurd (apart tree.Null refusal (sym fine ∙ is))
+-- where the tree null may run, what is refused is another one
+pub refused_not_null : (plan : Tree → Result Plan LoadFault) → NullMayRun plan
+    → (initial : Initial) (source : Device (List ℕ)) (refusal : Refusal) → Begins plan initial source (Err refusal) → is_null initial ≡ false
+refused_not_null plan fine OfFile source refusal loads = refl
+refused_not_null plan fine Null source refusal is = absurd (apart tree.Null refusal (sym fine ∙ is))
+refused_not_null plan fine (Saved t) source refusal is = refl
 
 loaded_null : loaded tree.Null ≡ Ok (planned nothing_said)
 unfolding loaded

@@ -18,8 +18,8 @@ use Rattle.cd_host.specs.Unfailing.{HaveEnded}
 use Rattle.cd_program.specs.declared.command.Command as commands
 use Rattle.cd_program.specs.declared.command.Command.TheVariants as Command
 use Rattle.cd_program.specs.declared.initial.Initial.{Initial}
-use Rattle.cd_program.specs.declared.initial.Initial.TheVariants.{OfFile, Null}
-use Rattle.cd_program.specs.Configuration.{configured}
+use Rattle.cd_program.specs.declared.initial.Initial.TheVariants.{OfFile, Null, Saved}
+use Rattle.cd_program.specs.Configuration.{configured, if_planned}
 use Rattle.cd_program.specs.Seen.{Device, HasFailed, Seen}
 use Rattle.cd_program.specs.Top.{HasRun, standard}
 
@@ -43,10 +43,11 @@ pub record HoldsConfiguration (plan : Tree → Result Plan LoadFault) (source : 
   pub tree : Tree
   pub fine : configured plan bytes ≡ Ok tree
 
--- so it is where a run begins with a file; the tree null may run
+-- so it is where a run begins with a file; the tree null may run, and one that was saved where a plan of it is found
 abbrev pub MayBegin : (Tree → Result Plan LoadFault) → Initial → Device (List ℕ) → Type 0
 MayBegin plan OfFile source = HoldsConfiguration plan source
 MayBegin plan Null source = Unit {0}
+MayBegin plan (Saved tree) source = if_planned tree (plan tree) ≡ Ok tree
 
 -- ---- what it gives
 

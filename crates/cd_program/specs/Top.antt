@@ -16,7 +16,7 @@ use Rattle.cd_host.specs.Runs.{Ran}
 use Rattle.cd_program.specs.declared.command.Command as commands
 use Rattle.cd_program.specs.declared.command.Command.TheVariants as Command
 use Rattle.cd_program.specs.declared.initial.Initial.{Initial}
-use Rattle.cd_program.specs.declared.initial.Initial.TheVariants.{OfFile, Null}
+use Rattle.cd_program.specs.declared.initial.Initial.TheVariants.{OfFile, Null, Saved}
 use Rattle.cd_program.specs.declared.refusal.Refusal.{Refusal}
 use Rattle.cd_program.specs.declared.status.Status.{Status}
 use Rattle.cd_program.specs.declared.status.Status.TheVariants as status
@@ -25,7 +25,7 @@ use Rattle.cd_program.specs.Configuration.{configured, if_planned, words_of}
 use Rattle.cd_program.specs.Output.{FellShort, Writes, WroteLess, Says, run_text, valid_line, read_fault_line, refused_line, unopened_line}
 use Rattle.cd_program.specs.Seen.{Device, HasFailed, Seen, IsBack, IsUnserved, IsUntouched, observed_in}
 use Rattle.cd_program.specs.Storm.{Storms}
-use Rattle.cd_program.specs.Words.{is_of_file, usage_line}
+use Rattle.cd_program.specs.Words.{is_null, is_of_file, usage_line}
 
 -- the exit status of the program
 abbrev pub code_of : Status → ℕ
@@ -60,16 +60,17 @@ pub record IsValid (plan : Tree → Result Plan LoadFault) (source : Device (Lis
   pub tree : Tree
   pub fine : Loads plan source.told_before source.told_now (Ok tree)
 
--- they are refused, and the line says why
-pub record WasRefused (plan : Tree → Result Plan LoadFault) (source output : Device (List ℕ)) : Type 0 where
-  pub refusal : Refusal
-  pub refused : Loads plan source.told_before source.told_now (Err refusal)
-  pub says : Says (refused_line (words_of refusal)) output
-
--- what a run begins with comes to this: the bytes of its file, or the tree null
+-- what a run begins with comes to this: the bytes of its file, the tree null, or a tree that was saved
 abbrev pub Begins : (Tree → Result Plan LoadFault) → Initial → Device (List ℕ) → Result Tree Refusal → Type 0
 Begins plan OfFile source found = Loads plan source.told_before source.told_now found
 Begins plan Null source found = if_planned tree.Null (plan tree.Null) ≡ found
+Begins plan (Saved tree) source found = if_planned tree (plan tree) ≡ found
+
+-- it is refused, and the line says why
+pub record WasRefused (plan : Tree → Result Plan LoadFault) (initial : Initial) (source output : Device (List ℕ)) : Type 0 where
+  pub refusal : Refusal
+  pub refused : Begins plan initial source (Err refusal)
+  pub says : Says (refused_line (words_of refusal)) output
 
 -- the tree null may run
 abbrev pub NullMayRun : (Tree → Result Plan LoadFault) → Type 0
@@ -113,7 +114,7 @@ module _ (m : Meaning) (initial : Initial) {F L : Type 0} (s : Seen F L) where
   -- ---- the table of `run` and `stdio`
   abbrev pub Serves : Status → Type 0
   Serves status.Done = HasRun Start.published true × Writes (run_text s.answered s.published) (Unit {0}) s.output
-  Serves status.Refused = (is_of_file initial ≡ true) × WasRefused m.plan s.source s.output × IsUntouched s
+  Serves status.Refused = (is_null initial ≡ false) × WasRefused m.plan initial s.source s.output × IsUntouched s
   Serves status.Unopened = FailedToOpen
   Serves status.Usage = ⊥
   Serves status.ReadFault = (is_of_file initial ≡ true) × HasFailed s.source × Says read_fault_line s.output × IsUntouched s
@@ -125,7 +126,7 @@ module _ (m : Meaning) (initial : Initial) {F L : Type 0} (s : Seen F L) where
 -- ---- the table of `validate`
 abbrev pub Validates : (Tree → Result Plan LoadFault) → Device (List ℕ) → Device (List ℕ) → Status → Type 0
 Validates plan source output status.Done = IsValid plan source × Writes valid_line (Unit {0}) output
-Validates plan source output status.Refused = WasRefused plan source output
+Validates plan source output status.Refused = WasRefused plan OfFile source output
 Validates plan source output status.Unopened = ⊥
 Validates plan source output status.Usage = ⊥
 Validates plan source output status.ReadFault = HasFailed source × Says read_fault_line output

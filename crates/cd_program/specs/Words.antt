@@ -2,10 +2,11 @@
 -- The words that the program is called with.
 use Rattle.std.specs.Prelude.{ℕ, ◌&&◌, Bool, true, false, List, [], ◌∷◌, codes, bytes_eq, decimal, ◌^◌, nat_lt, if◌then◌else◌}
 use Rattle.std.specs.Str.Parse.{digits_value}
+use Rattle.cd_tree.specs.Tree.{IsSound}
 use Rattle.cd_program.specs.declared.command.Command.{Command}
 use Rattle.cd_program.specs.declared.command.Command.TheVariants.{Serve, Validate, Storm, Unknown}
 use Rattle.cd_program.specs.declared.initial.Initial.{Initial}
-use Rattle.cd_program.specs.declared.initial.Initial.TheVariants.{OfFile, Null}
+use Rattle.cd_program.specs.declared.initial.Initial.TheVariants.{OfFile, Null, Saved}
 
 -- the decimal of a number below 2^64
 abbrev pub is_number : List ℕ → Bool
@@ -42,6 +43,19 @@ is_run Unknown = false
 abbrev pub is_of_file : Initial → Bool
 is_of_file OfFile = true
 is_of_file Null = false
+is_of_file (Saved tree) = false
+
+-- a run begins with the configuration null
+abbrev pub is_null : Initial → Bool
+is_null OfFile = false
+is_null Null = true
+is_null (Saved tree) = false
+
+-- a tree that was saved and that a run begins with is sound
+abbrev pub IsSoundStart : Initial → Type 0
+IsSoundStart OfFile = Unit {0}
+IsSoundStart Null = Unit {0}
+IsSoundStart (Saved tree) = IsSound tree
 
 -- a file is read
 abbrev pub has_file : Command → Bool
@@ -52,4 +66,4 @@ has_file Unknown = false
 
 -- the line for words that ask for nothing that is known
 abbrev pub usage_line : List ℕ
-usage_line = codes "usage: caddy_run run [--config FILE] | stdio --config FILE | validate --config FILE | storm N\n"
+usage_line = codes "usage: caddy_run run [--config FILE] | stdio --config FILE | validate --config FILE | storm N | run --resume\n"

@@ -5,7 +5,7 @@ use crate::initial::Initial;
 use cd_text::{Text, number_of};
 
 /// What the words of the command line ask for.
-#[derive(Clone, Copy, Debug, PartialEq, Eq)]
+#[derive(Drop)]
 pub enum Command {
     /// `stdio --config FILE`, `run --config FILE` or `run`: to serve the lanes, beginning with this configuration.
     Serve(Initial),

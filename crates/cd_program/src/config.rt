@@ -1,12 +1,13 @@
 ghost use Rattle.std.specs.Prelude.{◌≡◌, ◌≤◌, false, true, IfOk, IsErrOf};
 ghost use Rattle.std.specs.Result.{result_map_both};
 ghost use Rattle.cd_text.specs.Gives.{Gives};
+ghost use Rattle.cd_tree.specs.Tree.{IsSound};
 ghost use Rattle.cd_outside.specs.Counts.{Rose};
 ghost use Rattle.cd_program.specs.Config.{Gave};
 ghost use Rattle.cd_program.specs.Configuration.{configured, if_planned};
 ghost use Rattle.cd_program.specs.Seen.{device};
 ghost use Rattle.cd_program.specs.Top.{Begins, Loads};
-ghost use Rattle.cd_program.specs.Words.{is_of_file};
+ghost use Rattle.cd_program.specs.Words.{IsSoundStart, is_of_file};
 ghost use Rattle.cd_program.specs.declared.refusal.Refusal.{Refusal as Refused};
 
 use crate::initial::Initial;
@@ -98,13 +99,14 @@ pub fn load<M: ModuleSet, S: Source>(alloc: Global, config: &mut S) -> Result<Lo
     }
 }
 
-// Loads the tree null, and reads nothing.
-fn load_null<M: ModuleSet>(alloc: Global) -> Result<Loaded<M>, Unloaded>
-    ensures fine { IfOk result (λ loaded. if_planned Tree.Null (M.plan Tree.Null) ≡ Ok loaded.tree) }
-    ensures refused { (refusal : Refused) → result ≡ Err (Unloaded.Refused refusal) → if_planned Tree.Null (M.plan Tree.Null) ≡ Err refusal }
+// Loads a tree, and reads nothing.
+fn load_tree<M: ModuleSet>(alloc: Global, first: Tree) -> Result<Loaded<M>, Unloaded>
+    requires { IsSound first }
+    ensures fine { IfOk result (λ loaded. if_planned first (M.plan first) ≡ Ok loaded.tree) }
+    ensures refused { (refusal : Refused) → result ≡ Err (Unloaded.Refused refusal) → if_planned first (M.plan first) ≡ Err refusal }
     ensures read { ¬ (result ≡ Err Unloaded.Failed) }
 {
-    match M::load(alloc, Tree::Null) {
+    match M::load(alloc, first) {
         Ok(loaded) => Ok(loaded),
         Err(LoadFault::Refused(fault)) => Err(Unloaded::Refused(Refusal::Faulty(fault))),
         Err(LoadFault::NoMemory) => Err(Unloaded::NoMemory),
@@ -117,6 +119,7 @@ pub fn load_initial<M: ModuleSet, S: Source>(
     initial: Initial,
     config: &mut S,
 ) -> Result<Loaded<M>, Unloaded>
+    requires { IsSoundStart initial }
     ensures fine { IfOk result (λ loaded. Begins M.plan initial (device S.left S.faults config.old config.new) (Ok loaded.tree)) }
     ensures refused { (refusal : Refused) → result ≡ Err (Unloaded.Refused refusal) → Begins M.plan initial (device S.left S.faults config.old config.new) (Err refusal) }
     ensures failed { result ≡ Err Unloaded.Failed → (is_of_file initial ≡ true) × Rose (S.faults config.old) (S.faults config.new) }
@@ -124,6 +127,7 @@ pub fn load_initial<M: ModuleSet, S: Source>(
 {
     match initial {
         Initial::OfFile => load(alloc, config),
-        Initial::Null => load_null(alloc),
+        Initial::Null => load_tree(alloc, Tree::Null),
+        Initial::Saved(tree) => load_tree(alloc, tree),
     }
 }

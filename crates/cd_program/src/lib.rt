@@ -28,6 +28,10 @@ mod top;
 mod validating;
 
 pub use config::CONFIG_READ_BYTES;
-pub use ended::Ended;
+pub use ended::{Ended, unbegun};
+pub use initial::Initial;
 pub use laws::{a_storm_tells_of_each_lane, all_bytes_are_loaded, limits_in_numbers};
+pub use output::say_line;
+pub use starting::run_all;
+pub use status::Status;
 pub use top::caddy_main;

@@ -4,7 +4,7 @@ ghost use Rattle.cd_host.specs.Hosting.{serving_line};
 ghost use Rattle.cd_program.specs.Output.{FellShort};
 ghost use Rattle.cd_program.specs.Seen.{IsUnserved, seen};
 ghost use Rattle.cd_program.specs.Top.{ExitsWith, NullMayRun, Serves};
-ghost use Rattle.cd_program.specs.Words.{is_of_file};
+ghost use Rattle.cd_program.specs.Words.{IsSoundStart, is_of_file};
 
 use crate::concluding::conclude;
 use crate::config::load_initial;
@@ -41,6 +41,7 @@ where
     requires some { 1 ≤ length lanes }
     requires few { length lanes ≤ MAX_LANES }
     requires idle { All (λ lane. L.busy lane ≡ false) lanes }
+    requires sound { IsSoundStart initial }
     ensures idle { All (λ lane. L.busy lane ≡ false) result.lanes }
     ensures count { length result.lanes ≡ length lanes }
     ensures ends { NullMayRun M.plan → ExitsWith result.status (Serves (record { acts = M.acts; plan = M.plan }) initial

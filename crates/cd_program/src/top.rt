@@ -83,7 +83,7 @@ pub fn caddy_main<R: Threads + Wait + Sync, S: Source, O: Sink, F: Fixtures + Se
         Command::Unknown => {
             let _ = say_line(
                 out,
-                "usage: caddy_run run [--config FILE] | stdio --config FILE | validate --config FILE | storm N\n",
+                "usage: caddy_run run [--config FILE] | stdio --config FILE | validate --config FILE | storm N | run --resume\n",
             );
             unbegun(Status::Usage, fixtures, lanes)
         }

@@ -1,4 +1,4 @@
-use Rattle.std.proofs.Common.{◌∙◌, refl, subst}
+use Rattle.std.proofs.Common.{◌∙◌, refl, subst, sym}
 use denote.Exit.{no}
 use denote.Param.Send.{arg_send, arg_sync, param_send, param_sync}
 use Rattle.cd_standard.specs.contracts.compiled.Compiled.{the_row}
@@ -8,6 +8,7 @@ use Rattle.cd_program.specs.Seen.{seen}
 use Rattle.cd_program.specs.Top.{EndsAs}
 use Rattle.cd_program.proofs.Completing.{completes_as}
 use Rattle.cd_program.proofs.Loading.{null_may_run}
+use Rattle.cd_program.proofs.Sounds.{IsSoundCommand, command_sound}
 use Rattle.cd_program.proofs.Statuses.{known, never_2}
 use Rattle.cd_program.proofs.top.caddy_main.Goals as goal
 
@@ -31,6 +32,9 @@ pub run_storm-requires-sync-M-Compiled : goal.run_storm-requires-sync-M-Compiled
 run_storm-requires-sync-M-Compiled g c κs within = param_sync 3 _ (arg_sync _ no the_row configuration_sync)
 
 -- ---- run and stdio
+
+pub run_all-requires-clause-sound : goal.run_all-requires-clause-sound
+run_all-requires-clause-sound g c κs within = subst IsSoundCommand (sym c.in-Serve.ensures) (command_sound c.args.words.now)
 
 pub returns-in-Serve-clause-known : goal.returns-in-Serve-clause-known
 returns-in-Serve-clause-known g c = known _ _ (c.run_all.ensures.ends null_may_run)

@@ -1,0 +1,3 @@
+mod Sharing
+mod Held
+mod Over
