@@ -14,7 +14,7 @@ sys.dont_write_bytecode = True
 from building import PROGRAM, PROVED, UNPROVED, build, build_unproved, have  # noqa: E402
 from sources import TOP, NotBuilt, Sources, say, write  # noqa: E402
 
-UNIT = os.path.join(TOP, "contrib", "caddy_run.service")
+UNITS = [os.path.join(TOP, "contrib", it) for it in ("caddy_run.service", "caddy_run-resume.service")]
 EXAMPLE = os.path.join(TOP, "examples", "site.json")
 
 
@@ -72,17 +72,18 @@ def version():
 
 
 def install(prefix):
-    """Puts the proved program, the unit and an example in place. A configuration that is there stays."""
+    """Puts the proved program, the units and an example in place. A configuration that is there stays."""
     have(PROGRAM, build)
     program = os.path.join(prefix or "/usr/local", "bin", "caddy_run")
-    unit = os.path.join(prefix, "lib", "systemd", "system", "caddy_run.service") if prefix else "/etc/systemd/system/caddy_run.service"
+    units = os.path.join(prefix, "lib", "systemd", "system") if prefix else "/etc/systemd/system"
     example = os.path.join(prefix, "etc", "caddy_run", "site.json") if prefix else "/etc/caddy_run/site.json"
     record = os.path.join(prefix or "/usr/local", "share", "caddy_run", "PROVED")
-    with open(UNIT, encoding="utf-8") as file:
-        text = file.read().replace("/usr/local/bin/caddy_run", program).replace("/etc/caddy_run/site.json", example)
     with open(PROGRAM, "rb") as file:
         place(program, file.read(), 0o755)
-    place(unit, text.encode(), 0o644)
+    for unit in UNITS:
+        with open(unit, encoding="utf-8") as file:
+            text = file.read().replace("/usr/local/bin/caddy_run", program).replace("/etc/caddy_run/site.json", example)
+        place(os.path.join(units, os.path.basename(unit)), text.encode(), 0o644)
     with open(PROVED, "rb") as file:
         place(record, file.read(), 0o644)
     if os.path.exists(example):

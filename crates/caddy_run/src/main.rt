@@ -1,6 +1,7 @@
-//! The program: it gives `caddy_main` of `cd_program` the real forms of the outside.
+//! The program: it gives `caddy_main` of `cd_program`, or `caddy_saved` of `cd_saved`, the real forms of the outside.
 //!
-//! `run` serves the lanes of a reactor, over TCP, by the forms of `cd_tcp`. `stdio` serves standard input and output, by those of
+//! `run` serves the lanes of a reactor, over TCP, by the forms of `cd_tcp`, and saves in a file of the current folder, by those of
+//! `cd_disk`. `stdio` serves standard input and output, by those of
 //! `cd_stdio`; words that serve nothing get the same lane, and it comes back untouched. lanes.rt says how many lanes there are,
 //! words.rt reads the words and finds the file of the configuration, serving.rt calls `caddy_main`, and ending.rt says on standard
 //! error what has failed. No contract speaks of what a stream, a socket or a file holds: what the program does with them is proved
@@ -12,11 +13,12 @@ mod lanes;
 mod serving;
 mod words;
 
+use cd_disk::{AUTOSAVE_FILE, AutosaveFile, FileDisk, ReportingDisk};
 use cd_stdio::{AfterMessages, Announced, Console, Messages, StreamLane, Watched};
 use cd_tcp::{Reactor, TcpFixtures};
 use ending::{tell_cause, tell_cut};
 use lanes::tcp_lanes;
-use serving::{over_lanes, over_streams};
+use serving::{over_disk, over_streams};
 use std::process::ExitCode;
 use words::{begins_with, config_source, words_of};
 
@@ -41,7 +43,9 @@ fn main(rt: HostRuntime) -> ExitCode {
         let fixtures = TcpFixtures::new(&rt, alloc, &reactor);
         let fixtures = Announced::new(&rt, alloc, fixtures, &messages);
         let out = AfterMessages::new(&rt, Console::new(rt.stdout()), &messages);
-        let served = over_lanes(&rt, alloc, words, &mut config, out, fixtures, lanes);
+        let file = FileDisk::new(AutosaveFile::new(&rt, AUTOSAVE_FILE));
+        let disk = ReportingDisk::new(&rt, alloc, file, AUTOSAVE_FILE, &messages);
+        let served = over_disk(&rt, alloc, words, &mut config, out, fixtures, lanes, disk);
         let cut = served.cut.saturating_add(reactor.cut(&rt));
         tell_cut(&rt, alloc, &messages, cut);
         tell_cause(alloc, &mut rt.stderr(), words, &config);
