@@ -151,6 +151,35 @@ fn choose(
     Ok(otherwise)
 }
 
+// Goes on from a place over routes, one after another, to the first place that is none. While no route is entered only the
+// number changes.
+#[tactic(auto, using(crate::proofs::Goings::route_goes, crate::proofs::Goings::route_steps))]
+fn over_routes(
+    alloc: Global,
+    places: &[Place],
+    start: usize,
+    scene: &mut Scene<'_>,
+) -> Result<usize, NoMemory>
+    ensures meaning { IfOk result (λ next. (back : Rest) → at places.now next back scene.new ≡ at places.now start back scene.old) }
+    ensures less { IfOk result (λ next. (back : ℕ) → steps_at places.now next back ≤ steps_at places.now start back) }
+{
+    let mut n = start;
+    while let Some(
+        Place::Route {
+            matching,
+            group,
+            inside,
+            otherwise,
+        },
+    ) = place_at(places, n)
+    {
+        let inside = earlier(*inside, n);
+        let otherwise = earlier(*otherwise, n);
+        n = choose(alloc, matching, group, inside, otherwise, scene)?;
+    }
+    Ok(n)
+}
+
 // The errors of a subroute wait for a failure, with the returns as they are.
 fn wait(
     alloc: Global,
@@ -214,7 +243,8 @@ pub(crate) fn advance<'r>(
         ) => {
             let inside = earlier(*inside, n);
             let otherwise = earlier(*otherwise, n);
-            let next = choose(alloc, matching, group, inside, otherwise, scene)?;
+            let chosen = choose(alloc, matching, group, inside, otherwise, scene)?;
+            let next = over_routes(alloc, places, chosen, scene)?;
             Ok(Progress::Goes(next))
         }
         Some(Place::Try(first, errors)) => {

@@ -1,4 +1,4 @@
-use Rattle.std.proofs.Common.{ap, arith}
+use Rattle.std.proofs.Common.{ap, ◌∙◌, arith}
 use Rattle.cd_chain.specs.declared.place.ErrorRoutes.{ErrorRoutes}
 use Rattle.cd_chain.specs.Places.{returning}
 use Rattle.cd_chain.specs.Steps.{returning_steps}
@@ -23,10 +23,11 @@ pub returns-in_ok-next-in-Some-Route-clause-meaning :
 returns-in_ok-next-in-Some-Route-clause-meaning c =
     let ps = c.args.places.now in
     ap (unwound ps c.args.frames.now)
-    (route_goes ps c.args.n _ _ c.earlier-inside.result c.earlier-otherwise.result c.in_ok-next-in-Some-Route.next _ _ c.in-Some-Route.field-0.now
+    (c.in_ok-next-in-Some-Route.ensures.meaning (returning ps c.args.returns.now)
+    ∙ route_goes ps c.args.n _ _ c.earlier-inside.result c.earlier-otherwise.result c.in_ok-chosen-in-Some-Route.chosen _ _ c.in-Some-Route.field-0.now
     (returning ps c.args.returns.now) c.args.scene.now c.choose.new.scene c.in-Some-Route.field-0-is c.in-Some-Route.ensures.meaning.2
     (c.earlier-inside.ensures.meaning ps c.in-Some-Route.ensures.meaning.1) (c.earlier-otherwise.ensures.meaning ps c.in-Some-Route.ensures.meaning.1)
-    (c.in_ok-next-in-Some-Route.ensures.meaning ps (returning ps c.args.returns.now)))
+    (c.in_ok-chosen-in-Some-Route.ensures.meaning ps (returning ps c.args.returns.now)))
 
 pub returns-in_ok-next-in-Some-Route-clause-less :
     goal.returns-in_ok-next-in-Some-Route-clause-less
@@ -35,7 +36,8 @@ returns-in_ok-next-in-Some-Route-clause-less c =
     let b = returning_steps ps c.args.returns.now in
     omega (
       arith,
-      c.in_ok-next-in-Some-Route.ensures.less ps b,
+      c.in_ok-next-in-Some-Route.ensures.less b,
+      c.in_ok-chosen-in-Some-Route.ensures.less ps b,
       route_steps ps c.args.n _ _ c.earlier-inside.result c.earlier-otherwise.result b _ _ c.in-Some-Route.field-0.now
           c.in-Some-Route.field-0-is c.in-Some-Route.ensures.steps
           (c.earlier-inside.ensures.steps ps c.in-Some-Route.ensures.meaning.1) (c.earlier-otherwise.ensures.steps ps c.in-Some-Route.ensures.meaning.1),
