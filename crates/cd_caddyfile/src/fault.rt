@@ -20,7 +20,7 @@ pub enum CaddyfileKind {
     BadAddress,
     /// A site before has the same address.
     RepeatedSite,
-    /// The first word of a line is the name of no directive.
+    /// The first word of a line is the name of no directive, or a block has no word before it.
     UnknownDirective,
     /// A directive, or a matcher, does not take these arguments.
     BadArguments,
