@@ -3,6 +3,7 @@ use Rattle.std.proofs.Common.{◌≡◌, ℕ, Bool, true, false, List, ◌++◌,
 use Rattle.cd_outside.specs.declared.address.Address.{Address}
 use Rattle.cd_outside.specs.declared.taken.Taken.TheVariants as taken
 use Rattle.cd_wire.specs.declared.request.Request.{Request}
+use Rattle.cd_session.specs.Ways.{IsProperPrefix}
 use Rattle.cd_peers.specs.declared.dialled.Dialled.{Dialled}
 use Rattle.cd_peers.specs.Peers.{unused, after_put, after_read}
 use Rattle.cd_proxy.specs.declared.exchanges.Outcome.{Outcome}
@@ -12,7 +13,7 @@ use Rattle.cd_proxy.specs.Responses.{IsReading}
 use Rattle.cd_wire.specs.Render.{is_head}
 use Rattle.cd_proxy.specs.Forward.{forward}
 use Rattle.cd_proxy.specs.Intake.{ResponseInput}
-use Rattle.cd_proxy.specs.Exchanges.{IsAnswered, IsCutOff, IsExchange, Tells, Settles, Received, Goes, with_read, Conversed, Exchanged}
+use Rattle.cd_proxy.specs.Exchanges.{IsAnswered, IsExchange, Tells, Settles, Received, Goes, with_read, Conversed, Exchanged}
 use Rattle.cd_proxy.proofs.Telling.{tells_taken, tells_ended, tells_put, tells_none, same_past}
 
 -- ---- reading
@@ -72,7 +73,7 @@ goes_unread old into head d first before now told is more =
 
 -- a part was put, and then nothing more is done
 pub cut_short : (bytes part : List ℕ) (head : Bool) (to : Address) (first before now : Option (List Dialled))
-    → Tells (unused to) first before → IsCutOff part bytes → now ≡ option_map (after_put part) before
+    → Tells (unused to) first before → IsProperPrefix part bytes → now ≡ option_map (after_put part) before
     → Conversed head bytes to first now outcome.Failed
 cut_short bytes part head to first before now told part_is is = record {
   one = record (unused to) { put = part };

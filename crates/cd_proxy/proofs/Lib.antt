@@ -1,3 +1,4 @@
+mod Examples
 pub mod ExchangeLemmas
 pub mod EmptyLemmas
 pub mod Telling

@@ -1,14 +1,16 @@
 -- What peers tell, call by call.
 use Rattle.std.proofs.Common.{◌≡◌, ℕ, true, false, List, [], ◌∷◌, ◌++◌, refl, sym, ap, ◌∙◌, Option, Some, None, option_map}
-use Rattle.cd_outside.specs.Past.{with_last}
-use Rattle.cd_peers.specs.declared.dialled.Dialled.{Dialled}
-use Rattle.std.proofs.lemmas.List.{append-nil}
 use Rattle.cd_outside.specs.declared.past.Past.{Past}
-use Rattle.cd_outside.specs.declared.past.Connection.{Connection}
-use Rattle.cd_outside.specs.Past.{after_put as after_sent}
+use Rattle.cd_outside.specs.Past.{with_last}
+use Rattle.cd_wire.specs.declared.answer.Answer.{Answer}
+use Rattle.cd_wire.specs.declared.request.Request.{Request}
+use Rattle.cd_session.proofs.Changes.{nothing-put}
+use Rattle.cd_peers.specs.declared.dialled.Dialled.{Dialled}
 use Rattle.cd_peers.specs.Peers.{after_put}
 use Rattle.cd_peers.proofs.LastOne.{put_nothing}
+use Rattle.cd_proxy.specs.declared.answering.How.TheVariants as how
 use Rattle.cd_proxy.specs.Exchanges.{Tells, with_one, with_read}
+use Rattle.cd_proxy.specs.Replies.{IsSent}
 
 -- the last exchange is changed
 last_changed : (f : Dialled → Dialled) (past : List Dialled) (d : Dialled) → with_last f (past ++ d ∷ []) ≡ past ++ f d ∷ []
@@ -61,16 +63,6 @@ pub nothing_put : (past : Option (List Dialled)) → past ≡ option_map (after_
 nothing_put None = refl
 nothing_put (Some past) = ap Some (sym (put_nothing past))
 
-with_last_same : (f : Connection → Connection) (xs : List Connection) → ((x : Connection) → f x ≡ x) → with_last f xs ≡ xs
-with_last_same f [] same = refl
-with_last_same f (x ∷ []) same = ap (λ z. z ∷ []) (same x)
-with_last_same f (x ∷ y ∷ ys) same = ap (λ zs. x ∷ zs) (with_last_same f (y ∷ ys) same)
-
-nothing_written : (past : Past) → after_sent [] past ≡ past
-nothing_written past =
-    ap (λ (all : List Connection). record past { connections = all })
-    (with_last_same _ past.connections (λ one. ap (λ (put : List ℕ). record one { put = put }) (append-nil one.put)))
-
-pub nothing_sent : (past : Option Past) → past ≡ option_map (after_sent []) past
-nothing_sent None = refl
-nothing_sent (Some past) = ap Some (sym (nothing_written past))
+-- where memory is lacking nothing is sent
+pub sent_nothing : (q : Request) (r : Answer) (told : Option Past) → IsSent how.NoMemory q r told told
+sent_nothing q r told = record { put = []; sends = refl; past = nothing-put told }

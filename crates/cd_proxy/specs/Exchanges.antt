@@ -1,7 +1,8 @@
 -- One exchange with an upstream: what was put, what was read, and what came of it.
-use Rattle.std.specs.Prelude.{⊤, ◌≡◌, ℕ, ◌<◌, ◌⊎◌, Bool, false, List, [], ◌∷◌, ◌++◌, length, take, Option, Some, None, option_map}
+use Rattle.std.specs.Prelude.{⊤, ◌≡◌, ℕ, ◌⊎◌, Bool, false, List, [], ◌∷◌, ◌++◌, Option, Some, None, option_map}
 use Rattle.cd_outside.specs.declared.address.Address.{Address}
 use Rattle.cd_wire.specs.declared.request.Request.{Request}
+use Rattle.cd_session.specs.Ways.{IsProperPrefix}
 use Rattle.cd_peers.specs.declared.dialled.Dialled.{Dialled}
 use Rattle.cd_proxy.specs.declared.exchanges.Outcome.{Outcome}
 use Rattle.cd_proxy.specs.declared.exchanges.Outcome.TheVariants as outcome
@@ -9,10 +10,6 @@ use Rattle.cd_proxy.specs.declared.reading.Reading.TheVariants as reading
 use Rattle.cd_proxy.specs.Responses.{IsReading}
 use Rattle.cd_wire.specs.Render.{is_head}
 use Rattle.cd_proxy.specs.Forward.{forward}
-
--- less than all of the whole, from its beginning
-abbrev pub IsCutOff : List ℕ → List ℕ → Type 0
-IsCutOff part whole = (count : ℕ) × (count < length whole) × (part ≡ take count whole)
 
 -- what the bytes that were read, and their end, come to
 abbrev pub IsAnswered : Bool → Outcome → Dialled → Type 0
@@ -24,7 +21,7 @@ IsAnswered head outcome.NoMemory d = ⊤
 -- where a call failed, only a part of the bytes may have been put, and then nothing was read
 pub record IsCutShort (bytes : List ℕ) (came : Outcome) (d : Dialled) : Type 0 where
   pub failed : came ≡ outcome.Failed
-  pub part : IsCutOff d.put bytes
+  pub part : IsProperPrefix d.put bytes
   pub taken : d.taken ≡ []
   pub ended : d.ended ≡ false
 

@@ -6,5 +6,5 @@ pub mod Reading
 pub mod Taking
 pub mod Intake
 pub mod Exchanges
-pub mod Relayed
-pub mod Replying
+pub mod Answers
+pub mod Replies

@@ -1,17 +1,15 @@
 //! What a client is answered, by what came of the exchange.
-ghost use Rattle.std.specs.Prelude.{◌≡◌, ◌≤◌, true, IfOk, List as Bytes, ℕ, option_map};
+ghost use Rattle.std.specs.Prelude.{◌≡◌, ◌≤◌, true, IfOk};
 ghost use Rattle.cd_outside.specs.Counts.{Rose};
-ghost use Rattle.cd_outside.specs.Given.{IsGivenOf};
-ghost use Rattle.cd_outside.specs.Past.{after_put};
-ghost use Rattle.cd_outside.specs.declared.given.Given.TheVariants as given;
 ghost use Rattle.cd_proxy.specs.declared.answering.How.TheVariants as how;
 ghost use Rattle.cd_proxy.specs.declared.exchanges.Outcome.TheVariants as outcome;
-ghost use Rattle.cd_proxy.specs.Relayed.{bad_gateway, answer_of};
-ghost use Rattle.cd_proxy.specs.Replying.{IsSent};
+ghost use Rattle.cd_proxy.specs.Answers.{bad_gateway, answer_of};
+ghost use Rattle.cd_proxy.specs.Replies.{IsSent};
 
 use crate::exchanges::Outcome;
 use crate::passed_response::PassedResponse;
 use cd_outside::{Given, Lane};
+use cd_session::put;
 use cd_text::{List, NoMemory};
 use cd_wire::{Answer, Field, Lent, Request, render};
 use std::alloc::Global;
@@ -42,20 +40,6 @@ fn bad_gateway(alloc: Global) -> Result<Answer<'static>, NoMemory>
         body: Lent::shared(b""),
         close: false,
     })
-}
-
-// Puts these bytes, which may be none.
-fn put<L: Lane>(lane: &mut L, bytes: &[u8]) -> Given
-    requires { L.busy lane.old ≡ true }
-    ensures busy { L.busy lane.new ≡ true }
-    ensures past { (part : Bytes ℕ) × IsGivenOf result part bytes.now × (L.past lane.new ≡ option_map (after_put part) (L.past lane.old)) }
-    ensures later { L.faults lane.old ≤ L.faults lane.new }
-    ensures failed { result ≡ given.Failed → Rose (L.faults lane.old) (L.faults lane.new) }
-{
-    if bytes.is_empty() {
-        return Given::All;
-    }
-    lane.write(bytes)
 }
 
 fn send<L: Lane>(alloc: Global, lane: &mut L, request: &Request, answer: &Answer<'_>) -> How

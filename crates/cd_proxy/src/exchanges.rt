@@ -144,8 +144,7 @@ fn converse<R: Wait, P: Peers>(
 /// Has one exchange with the upstream at this address for the request. None may be there, and none is left.
 ///
 /// It is `Failed` only where the faults of the peers rose in this call, and where the upstream was dialled it was put the bytes of
-/// `forward`, or a part of them. It waits as long as the peers do, and for an upstream that goes on sending heads and bytes that
-/// come to no response it goes on until the limits of a response are reached.
+/// `forward`, or a part of them. It waits as long as the peers do.
 pub fn exchange<R: Wait, P: Peers>(
     rt: &R,
     alloc: Global,

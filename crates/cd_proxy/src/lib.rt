@@ -7,11 +7,12 @@
 //!
 //! `exchange` has one exchange with an upstream: what the peers tell of it and what came of it is `Exchanged`
 //! (specs/Exchanges.antt). `relay` serves one request: an upstream is picked, the exchange is had, and the client is answered by what
-//! came of it, or with 502 (specs/Relayed.antt, specs/Replying.antt). A failure of the peers is counted by them.
+//! came of it, or with 502 (specs/Answers.antt, specs/Replies.antt). A failure of the peers is counted by them. An upstream is good
+//! where its response is passed on, and else it is down from then on.
 //!
 //! The lock round the balancer says nothing of what is in it. So it is proved that the upstream which is dialled is one of the list,
 //! and not that it is the one that was picked. The loops over the requests of a connection and the connections of a lane are left to
-//! the crates above: `Relayed` is stated for them, and no function has it yet.
+//! the crates above.
 #![tactic(auto)]
 
 mod answering;

@@ -2,8 +2,10 @@
 ghost use Rattle.std.specs.Prelude.{◌≡◌, ◌≤◌, ◌<◌, true, false, length, slice_get, Some, Contains};
 ghost use Rattle.cd_outside.specs.Counts.{Rose};
 ghost use Rattle.cd_peers.specs.declared.limits.TheConstants.{MAX_PLACES};
+ghost use Rattle.cd_peers.specs.Balance.{ended};
 ghost use Rattle.cd_proxy.specs.declared.answering.How.TheVariants as how;
-ghost use Rattle.cd_proxy.specs.Replying.{RequestRelayed};
+ghost use Rattle.cd_proxy.specs.Answers.{is_good};
+ghost use Rattle.cd_proxy.specs.Replies.{RequestRelayed};
 
 use crate::answering::{How, reply};
 use crate::exchanges::{Outcome, exchange};
@@ -39,17 +41,28 @@ fn pick_upstream<'a, R: Wait>(
     at_or_first(upstreams, number)
 }
 
-// Ends the exchange at the place: it was good where its response is passed on.
-fn settle<R: Wait>(rt: &R, balancer: &Mutex<Balancer>, place: u32, came: &Outcome)
+fn is_good(came: &Outcome) -> bool
+    ensures { result ≡ is_good came.now }
+{
+    match came {
+        Outcome::Passed(_) => true,
+        Outcome::Bad | Outcome::Failed | Outcome::NoMemory => false,
+    }
+}
+
+// Ends the exchange at the place, of which this came. Its upstream is down from then on where that was not good.
+fn settle(balancer: &mut Balancer, place: u32, came: &Outcome)
+    requires { place < MAX_PLACES }
+    ensures { balancer.new.state ≡ ended place (is_good came.now) balancer.old.state }
+{
+    balancer.end(place, is_good(came));
+}
+
+fn settle_in<R: Wait>(rt: &R, balancer: &Mutex<Balancer>, place: u32, came: &Outcome)
     requires { place < MAX_PLACES }
 {
-    let good = match came {
-        Outcome::Passed(_) => true,
-        Outcome::Bad => false,
-        Outcome::Failed => false,
-        Outcome::NoMemory => false,
-    };
-    balancer.lock(rt).end(place, good);
+    let mut held = balancer.lock(rt);
+    settle(&mut held, place, came);
 }
 
 /// Has an exchange for the request with one of the upstreams, and answers the client. The lane has the connection of the client,
@@ -76,6 +89,6 @@ pub fn relay<R: Wait, L: Lane, P: Peers>(
 {
     let to = pick_upstream(rt, balancer, upstreams, place);
     let came = exchange(rt, alloc, peers, request, to);
-    settle(rt, balancer, place, &came);
+    settle_in(rt, balancer, place, &came);
     reply(alloc, lane, request, &came)
 }
