@@ -30,7 +30,7 @@ all_bare : (s : State) (n : ℕ) → all_apps_stopped (bare s) n ≡ all_apps_st
 all_bare s zero = refl
 all_bare s (suc n) = ap (λ (b : Bool). Rattle.cd_legal.specs.State.apps_stopped s n && b) (all_bare s n)
 
-left_bare : (s : State) → nothing_left (bare s) ≡ nothing_left s
+pub left_bare : (s : State) → nothing_left (bare s) ≡ nothing_left s
 left_bare s = ap (λ (b : Bool). b && list_all (nothing_left_of s.retired) s.drafts) (all_bare s s.serial)
 
 pub left_same : (log more : List Signed) → core_at more ≡ core_at log → nothing_left (state_at more) ≡ nothing_left (state_at log)

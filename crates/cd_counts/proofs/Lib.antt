@@ -19,6 +19,7 @@ pub mod Telling
 pub mod Known
 pub mod Drafts
 pub mod Fates
+pub mod Readied
 pub mod Starting
 pub mod Halted
 pub mod RequestSteps

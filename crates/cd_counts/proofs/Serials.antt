@@ -87,11 +87,11 @@ module _ {T : Type 0} (stands : T → T → List Signed → Type 0) (opening : T
   abbrev ready_balances : List ℕ
   ready_balances = set m.balances (1 + (s.serial + 1) % MAX_UNRETIRED) FULL_BALANCE
 
-  reset_here : s.halted ≡ false → ((k : ℕ) → k + MAX_UNRETIRED ≡ s.serial + 1 → has_number k s.retired ≡ true) → IsKept stands opening log (reset m id v s.serial)
-  reset_here on reused =
+  reset_here : s.halted ≡ false → r.unsettled ≡ None → ((k : ℕ) → k + MAX_UNRETIRED ≡ s.serial + 1 → has_number k s.retired ≡ true) → IsKept stands opening log (reset m id v s.serial)
+  reset_here on alone reused =
       let ready_now : is_ready s (s.serial + 1) ≡ true = both (not s.halted) _ (not-false s.halted on) (eq-eqb (s.serial + 1) (s.serial + 1) refl) in
       next stands opening log m r id v w_ready at live refl refl log r.unsettled (s.serial + 1) m.packed m.turn m.counted ready_balances m.board
-      r.history r.counted (ordered_reset s r.unsettled r.edge r.order on reused) (counts_reset m.packed m.balances s r.unsettled r.edge (begins_in log) r.order r.counts on)
+      r.history r.counted (ordered_reset s r.unsettled r.edge r.order on alone reused) (counts_reset m.packed m.balances s r.unsettled r.edge (begins_in log) r.order r.counts on)
       (crowd_same stands opening log m r id v at live w_ready live refl refl (begins_in log s.serial) (self (begins_in log s.serial)))
       record {
         opened = fit.opened;
@@ -114,7 +114,7 @@ module _ {T : Type 0} (stands : T → T → List Signed → Type 0) (opening : T
   -- the balance of the serial after n, which is current, is made ready
   pub step_reset : (n : ℕ) → n ≡ (state_at v.seen).serial → (state_at v.seen).halted ≡ false → v.unsettled ≡ None → ((k : ℕ) → k + MAX_UNRETIRED ≡ n + 1 → has_number k (state_at v.seen).retired ≡ true) → IsKept stands opening log (reset m id v n)
   step_reset n is on quiet free = subst (λ (z : ℕ). IsKept stands opening log (reset m id v z)) (sym (is ∙ seen_serial))
-      (reset_here (sym seen_halted ∙ on) (λ k e. sym (seen_retired k) ∙ free k (e ∙ ap (λ (z : ℕ). z + 1) (sym (is ∙ seen_serial)))))
+      (reset_here (sym seen_halted ∙ on) (unsettled_by quiet) (λ k e. sym (seen_retired k) ∙ free k (e ∙ ap (λ (z : ℕ). z + 1) (sym (is ∙ seen_serial)))))
 
   -- ---- publish and halt
 
@@ -165,7 +165,7 @@ module _ {T : Type 0} (stands : T → T → List Signed → Type 0) (opening : T
 
     order_now : Ordered (after s e) (Some s.serial) r.edge
     order_now = ordered_superseded s r.unsettled r.edge r.order (after s e) (unsettled_by quiet) u.serial (λ k h. ap (has_number k) u.retired ∙ h) (ap (has_number s.serial) u.retired ∙ current_unretired)
-        (λ k low h. apps_stay s k e (legal-agree (entries log) r.history.is_legal) u.allows low h) u.low u.high u.room
+        (λ k low h. apps_stay s k e (legal-agree (entries log) r.history.is_legal) u.allows low h) u.low u.high u.room u.unready
 
     counts_now : Counts ((s.serial + 1) * SERIAL_STEP) m.balances (after s e) (Some s.serial) r.edge (begins_in log')
     counts_now = counts_superseded m.packed m.balances s r.unsettled r.edge (begins_in log) r.order r.counts (after s e) (begins_in log') begins_same (unsettled_by quiet) u.serial u.tickets

@@ -31,6 +31,7 @@ first_order = record {
   high = omega arith;
   reused = λ n le. absurd (omega arith);
   room = omega arith;
+  ready_alone = λ _. refl;
 }
 
 -- each balance is full, and nothing has begun

@@ -1,5 +1,5 @@
 -- What the words count.
-use Rattle.std.specs.Prelude.{◌≡◌, ℕ, ◌+◌, ◌*◌, ◌%◌, ◌<◌, ◌≤◌, ◌==◌, ◌&&◌, not, cond, Bool, true, false, List, [], ◌∷◌, length, slice_index, Option, Some}
+use Rattle.std.specs.Prelude.{◌≡◌, ℕ, ◌+◌, ◌*◌, ◌%◌, ◌<◌, ◌≤◌, ◌==◌, ◌&&◌, not, cond, Bool, true, false, List, [], ◌∷◌, length, slice_index, Option, Some, None}
 use mathlib.Core.Option.{some}
 use lib.ListN.{get_elem?}
 use Rattle.cd_legal.specs.declared.entry.Entry.{Entry}
@@ -75,6 +75,8 @@ pub record Ordered (s : State) (unsettled : Option ℕ) (edge : ℕ) : Type 0 wh
   pub reused : (n : ℕ) → n + MAX_UNRETIRED ≤ edge → has_number n s.retired ≡ true
   -- there is room for the serial of a halt
   pub room : s.serial ≤ LAST_SERIAL + cond s.halted 1 0
+  -- while the balance of the coming serial is ready nothing is unsettled
+  pub ready_alone : is_ready s edge ≡ true → unsettled ≡ None
 
 -- ---- views
 

@@ -37,9 +37,10 @@ module _ {T : Type 0} where
   pub record AreFree (passes : List (Pass T)) : Type 0 where
     pub each : (i : ℕ) (p : Pass T) → get_elem? passes i ≡ some p → IsFree p
 
-  -- the passes have seen nothing and made nothing
+  -- the passes have seen nothing and made nothing, and none of them has looked for room for a request
   pub record AreNew (passes : List (Pass T)) : Type 0 where
     pub each : (i : ℕ) (p : Pass T) → get_elem? passes i ≡ some p → ((view p).seen ≡ []) × ((view p).mine ≡ []) × IsFree p
+    pub unchecked : (i : ℕ) (p : Pass T) → get_elem? passes i ≡ some p → (view p).checked ≡ false
 
   -- what is known of a board when its passes have come together
   pub record Closes (stands : T → T → List Signed → Type 0) (o : T) (passes : List (Pass T)) (b : T) : Type 0 where

@@ -217,6 +217,17 @@ pub fn tickets_are_in_views<T: Stands>()
         get_elem? rule.numbers.root.joined i ≡ some gone → ticket_of gone.number (state_at log).tickets ≡ None }
 {}
 
+/// By the rule a view that says that the coming serial is ready has the turn, while the host runs and nothing is unsettled. The balance
+/// of that serial is then full, and the serial that last used it, if there is one, is retired.
+pub fn a_ready_serial_stands_alone<T: Stands>()
+    ensures alone { (o : T) (log : List Signed) (m : Moment T) (seat : ℕ) (v : View T) (rule : IsKept T.stands o log m) →
+        get_elem? m.views seat ≡ some v → IsTrue v.ready → (v.turn ≡ true) × (rule.unsettled ≡ None) × ((state_at log).halted ≡ false) }
+    ensures full { (o : T) (log : List Signed) (m : Moment T) (seat : ℕ) (v : View T) → IsKept T.stands o log m →
+        get_elem? m.views seat ≡ some v → IsTrue v.ready → slice_index m.balances (1 + ((state_at log).serial + 1) % MAX_UNRETIRED) ≡ FULL_BALANCE }
+    ensures reused { (o : T) (log : List Signed) (m : Moment T) (seat n : ℕ) (v : View T) → IsKept T.stands o log m →
+        get_elem? m.views seat ≡ some v → IsTrue v.ready → n + MAX_UNRETIRED ≡ (state_at log).serial + 1 → IsTrue (has_number n (state_at log).retired) }
+{}
+
 /// By the rule each superseded serial is unsettled, or settled with requests that run under it, or the duty of one pass alone, which
 /// may retire it, or retired. The balance of a retired one is empty, until it is made ready for another serial.
 pub fn superseded_serials_have_their_fate<T: Stands>()

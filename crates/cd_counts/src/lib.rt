@@ -37,14 +37,15 @@ pub use knowing::{
     notes_follow_one_another,
 };
 pub use laws::{
-    a_gate_begins_by_the_rule, acquiring_keeps_the_rule, beginning_keeps_the_rule,
-    checking_keeps_the_rule, comparing_keeps_the_rule, copying_keeps_the_rule,
-    finishing_keeps_the_rule, halting_keeps_the_rule, handing_over_keeps_the_rule,
-    joining_keeps_the_rule, live_drafts_are_in_views, missing_keeps_the_rule,
-    moving_the_board_keeps_the_rule, noting_keeps_the_rule, one_pass_has_the_turn,
-    passes_sign_the_history, publishing_keeps_the_rule, releasing_keeps_the_rule,
-    resetting_keeps_the_rule, settling_keeps_the_rule, splitting_keeps_the_rule,
-    superseded_serials_have_their_fate, the_table_has_these_words, tickets_are_in_views,
+    a_gate_begins_by_the_rule, a_ready_serial_stands_alone, acquiring_keeps_the_rule,
+    beginning_keeps_the_rule, checking_keeps_the_rule, comparing_keeps_the_rule,
+    copying_keeps_the_rule, finishing_keeps_the_rule, halting_keeps_the_rule,
+    handing_over_keeps_the_rule, joining_keeps_the_rule, live_drafts_are_in_views,
+    missing_keeps_the_rule, moving_the_board_keeps_the_rule, noting_keeps_the_rule,
+    one_pass_has_the_turn, passes_sign_the_history, publishing_keeps_the_rule,
+    releasing_keeps_the_rule, resetting_keeps_the_rule, settling_keeps_the_rule,
+    splitting_keeps_the_rule, superseded_serials_have_their_fate, the_table_has_these_words,
+    tickets_are_in_views,
 };
 pub use limits::{MAX_LANES, MAX_SEATS, MAX_UNRETIRED, limits_are_these};
 pub use pass::{Pass, Turn};
