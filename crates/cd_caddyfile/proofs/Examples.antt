@@ -125,6 +125,31 @@ the_port_of_https : fault_of (codes ":443 {\n}\n") ≡ Some (fault_at 1 BadAddre
 unfolding words spelled by_last nested outermost followed_by left_open walk line_faults is_utf8 chars encode
 the_port_of_https = refl
 
+the_last_port : fault_of (codes ":65535 {\n}\n") ≡ None
+unfolding words spelled by_last nested outermost followed_by left_open walk line_faults is_utf8 chars encode
+the_last_port = refl
+
+past_the_last_port : fault_of (codes ":65536 {\n}\n") ≡ Some (fault_at 1 BadAddress)
+unfolding words spelled by_last nested outermost followed_by left_open walk line_faults is_utf8 chars encode
+past_the_last_port = refl
+
+no_port_is_zero : fault_of (codes ":0 {\n}\n") ≡ Some (fault_at 1 BadAddress)
+unfolding words spelled by_last nested outermost followed_by left_open walk line_faults is_utf8 chars encode
+no_port_is_zero = refl
+
+a_leading_zero : fault_of (codes ":080 {\n}\n") ≡ Some (fault_at 1 BadAddress)
+unfolding words spelled by_last nested outermost followed_by left_open walk line_faults is_utf8 chars encode
+a_leading_zero = refl
+
+-- what follows `http://` is a host or a port
+no_host : fault_of (codes "http:// {\n}\n") ≡ Some (fault_at 1 BadAddress)
+unfolding words spelled by_last nested outermost followed_by left_open walk line_faults is_utf8 chars encode
+no_host = refl
+
+a_port_after_http : fault_of (codes "http://:81 {\n}\n") ≡ None
+unfolding words spelled by_last nested outermost followed_by left_open walk line_faults is_utf8 chars encode
+a_port_after_http = refl
+
 two_addresses : fault_of (codes ":80 :81 {\n}\n") ≡ Some (fault_at 1 BadAddress)
 unfolding words spelled by_last nested outermost followed_by left_open walk line_faults is_utf8 chars encode
 two_addresses = refl
@@ -184,6 +209,24 @@ a_test_with_a_block = refl
 vars_of_its_own : fault_of (codes ":80 {\nvars handler x\n}\n") ≡ Some (fault_at 2 BadArguments)
 unfolding words spelled by_last nested outermost followed_by left_open walk line_faults is_utf8 chars encode
 vars_of_its_own = refl
+
+-- a matcher before them changes nothing of it
+vars_of_its_own_matched : fault_of (codes ":80 {\nvars * @id x\n}\n") ≡ Some (fault_at 2 BadArguments)
+unfolding words spelled by_last nested outermost followed_by left_open walk line_faults is_utf8 chars encode
+vars_of_its_own_matched = refl
+
+vars_of_another_name : fault_of (codes ":80 {\nvars * id x\n}\n") ≡ None
+unfolding words spelled by_last nested outermost followed_by left_open walk line_faults is_utf8 chars encode
+vars_of_another_name = refl
+
+-- a block with no word before it is of no directive, and outside of all sites it is of no address
+a_block_of_nothing : fault_of (codes ":80 {\n{\n}\n}\n") ≡ Some (fault_at 2 UnknownDirective)
+unfolding words spelled by_last nested outermost followed_by left_open walk line_faults is_utf8 chars encode
+a_block_of_nothing = refl
+
+a_site_of_nothing : fault_of (codes "{\n}\n") ≡ Some (fault_at 1 BadAddress)
+unfolding words spelled by_last nested outermost followed_by left_open walk line_faults is_utf8 chars encode
+a_site_of_nothing = refl
 
 -- ---- trees
 

@@ -2,15 +2,17 @@
 use Rattle.std.proofs.Common.{◌≡◌, ℕ, suc, ◌+◌, ◌<◌, ◌≤◌, ◌==◌, Bool, true, false, cond, not, List, [], ◌∷◌, ◌++◌, length, map, reverse, refl, sym, ap, subst, ◌∙◌, append-nil, add-one, length-drop, arith, Option, Some, None}
 use Rattle.std.specs.List.{slice_split, onto_first, position_or_len, before_first, after_first}
 use Rattle.std.proofs.lemmas.List.Splits.{slice_split_first}
-use Rattle.cd_caddyfile.specs.Blocks.{Nesting, last, end, put_line, nested, outermost, file_lines, left_open}
+use Rattle.cd_caddyfile.specs.Blocks.{Nesting, last, end, preceded_by, nested, outermost, file_lines, left_open}
 use Rattle.cd_caddyfile.specs.Faults as says
 use Rattle.cd_caddyfile.specs.Faults.{sooner, first_fault, fault_of, fault_at, wrongs, sites_said, line_faults, line_faults_of, repeated_sites, repeated_matchers, unknown_matchers}
+use Rattle.cd_caddyfile.specs.FileSites.{tested, matchers_in}
 use Rattle.cd_caddyfile.specs.Going.{Goes, HasRead}
 use Rattle.cd_caddyfile.specs.Left.{opening_lines, left, left_lines}
 use Rattle.cd_caddyfile.specs.Lines.{without_return, lines_of, line_of}
 use Rattle.cd_caddyfile.specs.Walk.{walk}
 use Rattle.cd_caddyfile.specs.declared.fault.CaddyfileFault.{CaddyfileFault}
 use Rattle.cd_caddyfile.specs.declared.fault.CaddyfileKind.TheVariants.{BadBlock}
+use Rattle.cd_caddyfile.specs.declared.named.Matchers.{Matchers}
 use Rattle.cd_caddyfile.specs.declared.reader.OpenBlock.{OpenBlock}
 use Rattle.cd_caddyfile.specs.declared.reader.Reader.{Reader}
 use Rattle.cd_caddyfile.specs.declared.within.Within.{Within}
@@ -51,9 +53,9 @@ text_on total old new n all more line all-is known new-is =
     ∙ sym (ap (λ f. sooner f (first_fault (line_faults (suc n) more))) new-is ∙ sooner-assoc old (first_fault (line_faults_of n line)) (first_fault (line_faults (suc n) more)))))
     ∙ ap (λ k. sooner new (first_fault (line_faults k more))) (sym (add-one n))
 
-pub nested_line : (n : ℕ) (all more : List (List ℕ)) (line : List ℕ) → all ≡ line ∷ more → nested n all ≡ put_line n (line_of line) (nested (n + 1) more)
+pub nested_line : (n : ℕ) (all more : List (List ℕ)) (line : List ℕ) → all ≡ line ∷ more → nested n all ≡ preceded_by n (line_of line) (nested (n + 1) more)
 unfolding nested
-nested_line n all more line all-is = ap (λ l. nested n l) all-is ∙ ap (λ k. put_line n (line_of line) (nested k more)) (sym (add-one n))
+nested_line n all more line all-is = ap (λ l. nested n l) all-is ∙ ap (λ k. preceded_by n (line_of line) (nested k more)) (sym (add-one n))
 
 pub nested_end : (n : ℕ) → nested n [] ≡ last end
 unfolding nested
@@ -70,14 +72,15 @@ start : {A : Type 0} (said : Within → Bool → ℕ → List (List ℕ) → Lis
     left said (reverse bs) nesting ≡ walk said File (outermost nesting)
 start said bs nesting is = ap (λ b. left said (reverse b) nesting) is
 
-pub at_start : (bytes : List ℕ) (r : Reader) → r.notes.fault ≡ None → r.notes.sites ≡ [] → r.notes.defined ≡ [] → r.notes.used ≡ [] → r.blocks ≡ [] →
+pub at_start : (bytes : List ℕ) (r : Reader) → r.notes.fault ≡ None → r.notes.sites ≡ [] → r.notes.defined ≡ [] → r.notes.used ≡ [] → r.notes.tested ≡ [] → r.blocks ≡ [] →
     HasRead bytes r (nested 1 (lines_of bytes))
-at_start bytes r fault-is sites-is defined-is used-is open-is =
+at_start bytes r fault-is sites-is defined-is used-is tested-is open-is =
     let nesting = nested 1 (lines_of bytes) in record {
       fault = sym (ap (λ f. sooner f (first_fault (left wrongs (reverse r.blocks) nesting))) fault-is ∙ ap first_fault (start wrongs r.blocks nesting open-is));
       sites = sym (ap (λ l. l ++ left sites_said (reverse r.blocks) nesting) sites-is ∙ start sites_said r.blocks nesting open-is);
       defined = sym (ap (λ l. l ++ left says.defined (reverse r.blocks) nesting) defined-is ∙ start says.defined r.blocks nesting open-is);
       used = sym (ap (λ l. l ++ left says.used (reverse r.blocks) nesting) used-is ∙ start says.used r.blocks nesting open-is);
+      tested = sym (ap (λ l. l ++ left tested (reverse r.blocks) nesting) tested-is ∙ start tested r.blocks nesting open-is);
       open_lines = sym (ap (λ b. left_lines (reverse b) nesting) open-is);
     }
 
@@ -90,6 +93,7 @@ reads_on bytes r s now before after is read goes =
       sites = known.sites ∙ goes.sites;
       defined = known.defined ∙ goes.defined;
       used = known.used ∙ goes.used;
+      tested = known.tested ∙ goes.tested;
       open_lines = known.open_lines ∙ goes.open_lines;
     }
 
@@ -121,8 +125,18 @@ defined_noted bytes r read = read.defined ∙ (ap (λ l. r.notes.defined ++ l) (
 pub used_noted : (bytes : List ℕ) (r : Reader) → HasRead bytes r (last end) → walk says.used File (file_lines bytes) ≡ r.notes.used
 used_noted bytes r read = read.used ∙ (ap (λ l. r.notes.used ++ l) (nothing_left says.used (reverse r.blocks)) ∙ append-nil r.notes.used)
 
+pub tested_noted : (bytes : List ℕ) (r : Reader) → HasRead bytes r (last end) → walk tested File (file_lines bytes) ≡ r.notes.tested
+tested_noted bytes r read = read.tested ∙ (ap (λ l. r.notes.tested ++ l) (nothing_left tested (reverse r.blocks)) ∙ append-nil r.notes.tested)
+
 pub open_noted : (bytes : List ℕ) (r : Reader) → HasRead bytes r (last end) → left_open (file_lines bytes) ≡ opening_lines (reverse r.blocks)
 open_noted bytes r read = read.open_lines ∙ lines_left (reverse r.blocks)
+
+-- what was noted of matchers is what the file says
+pub same_matchers : (bytes : List ℕ) (m : Matchers) (r : Reader) → HasRead bytes r (last end) → m.defined ≡ r.notes.defined → m.tested ≡ r.notes.tested → m ≡ matchers_in bytes
+same_matchers bytes m r read defined-is tested-is = λ i. record {
+  defined = (defined-is ∙ sym (defined_noted bytes r read)) i;
+  tested = (tested-is ∙ sym (tested_noted bytes r read)) i;
+}
 
 -- the first of six lists
 pub first_of_six : (a b c d e f : List CaddyfileFault) → first_fault (a ++ (b ++ (c ++ (d ++ (e ++ f)))))

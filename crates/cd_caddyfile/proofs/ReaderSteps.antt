@@ -5,6 +5,7 @@ use Rattle.std.proofs.lemmas.List.{reverse-append, get_or-reverse, length-revers
 use Rattle.cd_caddyfile.specs.Blocks.{Nesting, end, up_to, in_front, opened}
 use Rattle.cd_caddyfile.specs.Faults as says
 use Rattle.cd_caddyfile.specs.Faults.{sooner, first_fault, faults_of, wrongs, sites_said}
+use Rattle.cd_caddyfile.specs.FileSites.{tested}
 use Rattle.cd_caddyfile.specs.Going.{Goes}
 use Rattle.cd_caddyfile.specs.Left.{innermost, left, left_lines}
 use Rattle.cd_caddyfile.specs.Walk.{words_in, inside}
@@ -12,6 +13,7 @@ use Rattle.cd_caddyfile.specs.declared.fault.CaddyfileFault.{CaddyfileFault}
 use Rattle.cd_caddyfile.specs.declared.fault.CaddyfileKind.TheVariants.{BadBlock}
 use Rattle.cd_caddyfile.specs.declared.named.Located.{Located}
 use Rattle.cd_caddyfile.specs.declared.named.Named.{Named}
+use Rattle.cd_caddyfile.specs.declared.named.TestLine.{TestLine}
 use Rattle.cd_caddyfile.specs.declared.notes.Notes.{Notes}
 use Rattle.cd_caddyfile.specs.declared.reader.OpenBlock.{OpenBlock}
 use Rattle.cd_caddyfile.specs.declared.within.Within.{Within}
@@ -52,6 +54,7 @@ pub record Noted (old new : Notes) (at : Within) (opens : Bool) (n : ℕ) (ws : 
   pub sites : new.sites ≡ old.sites ++ sites_said at opens n ws
   pub defined : new.defined ≡ old.defined ++ says.defined at opens n ws
   pub used : new.used ≡ old.used ++ says.used at opens n ws
+  pub tested : new.tested ≡ old.tested ++ tested at opens n ws
 
 -- something was said, and the open blocks are others
 pub said_on : (old new : Notes) (bs bs' : List OpenBlock) (at : Within) (opens : Bool) (n : ℕ) (ws : List (List ℕ)) (before after : Nesting) →
@@ -64,15 +67,17 @@ said_on old new bs bs' at opens n ws before after noted step lines = record {
   sites = taken old.sites new.sites (sites_said at opens n ws) _ _ noted.sites (step Located sites_said);
   defined = taken old.defined new.defined (says.defined at opens n ws) _ _ noted.defined (step Named says.defined);
   used = taken old.used new.used (says.used at opens n ws) _ _ noted.used (step Named says.used);
+  tested = taken old.tested new.tested (tested at opens n ws) _ _ noted.tested (step TestLine tested);
   open_lines = lines;
 }
 
 -- the facts of a call that notes a line
 pub all_noted : {A E : Type 0} (r : Result A E) (old new : Notes) (at : Within) (opens : Bool) (n : ℕ) (ws : List (List ℕ)) →
     OnOk r (new.fault ≡ sooner old.fault (first_fault (wrongs at opens n ws))) → OnOk r (new.sites ≡ old.sites ++ sites_said at opens n ws) →
-    OnOk r (new.defined ≡ old.defined ++ says.defined at opens n ws) → OnOk r (new.used ≡ old.used ++ says.used at opens n ws) → OnOk r (Noted old new at opens n ws)
-all_noted (Ok value) old new at opens n ws a b c d = record { fault = a; sites = b; defined = c; used = d }
-all_noted (Err error) old new at opens n ws a b c d = tt
+    OnOk r (new.defined ≡ old.defined ++ says.defined at opens n ws) → OnOk r (new.used ≡ old.used ++ says.used at opens n ws) →
+    OnOk r (new.tested ≡ old.tested ++ tested at opens n ws) → OnOk r (Noted old new at opens n ws)
+all_noted (Ok value) old new at opens n ws a b c d e = record { fault = a; sites = b; defined = c; used = d; tested = e }
+all_noted (Err error) old new at opens n ws a b c d e = tt
 
 pub says_on : (old new : Notes) (bs : List OpenBlock) (at : Within) (n : ℕ) (ws read : List (List ℕ)) (after : Nesting) →
     at ≡ innermost (reverse bs) → read ≡ words_in at ws → Noted old new at false n read →
@@ -107,19 +112,21 @@ closes_on notes bs bs' b n after is = record {
   sites = ap (λ l. notes.sites ++ l) (closed sites_said bs bs' b n after is);
   defined = ap (λ l. notes.defined ++ l) (closed says.defined bs bs' b n after is);
   used = ap (λ l. notes.used ++ l) (closed says.used bs bs' b n after is);
+  tested = ap (λ l. notes.tested ++ l) (closed tested bs bs' b n after is);
   open_lines = ap (λ x. left_lines x (up_to end n after)) (pushed bs' bs b is) ∙ lines-closes b (reverse bs') n after;
 }
 
 pub strays_on : (old new : Notes) (bs bs' : List OpenBlock) (n : ℕ) (after : Nesting) → bs ≡ [] → bs' ≡ [] →
-    new.fault ≡ sooner old.fault (first_fault (faults_of n (Some BadBlock))) → new.sites ≡ old.sites → new.defined ≡ old.defined → new.used ≡ old.used →
+    new.fault ≡ sooner old.fault (first_fault (faults_of n (Some BadBlock))) → new.sites ≡ old.sites → new.defined ≡ old.defined → new.used ≡ old.used → new.tested ≡ old.tested →
     Goes (record { notes = old; blocks = bs }) (record { notes = new; blocks = bs' }) (up_to end n after) after
-strays_on old new bs bs' n after none none' fault-is sites-is defined-is used-is =
+strays_on old new bs bs' n after none none' fault-is sites-is defined-is used-is tested-is =
     said_on old new bs bs' File false n (codes "}" ∷ []) (up_to end n after) after
     (record {
       fault = fault-is;
       sites = sites-is ∙ sym (append-nil old.sites);
       defined = defined-is ∙ sym (append-nil old.defined);
       used = used-is ∙ sym (append-nil old.used);
+      tested = tested-is ∙ sym (append-nil old.tested);
     })
     (λ A said. ap (λ b. left said (reverse b) (up_to end n after)) none
     ∙ (left-stray said n after ∙ ap (λ b. said File false n (codes "}" ∷ []) ++ left said (reverse b) after) (sym none')))

@@ -1,7 +1,7 @@
 -- The first of faults in two lists is the sooner of the first in each.
 use Rattle.std.proofs.Common.{◌≡◌, ℕ, Bool, true, false, ◌&&◌, ◌||◌, ◌==◌, nat_lt, nat_le, if◌then◌else◌, List, [], ◌∷◌, ◌++◌, refl, sym, ap, ◌∙◌, arith, Option, Some, None}
 use Rattle.std.proofs.lemmas.Bool.Decides.{nat_tests}
-use Rattle.cd_caddyfile.specs.Faults.{place, is_sooner, sooner, first_fault}
+use Rattle.cd_caddyfile.specs.Faults.{precedence, is_sooner, sooner, first_fault}
 use Rattle.cd_caddyfile.specs.declared.fault.CaddyfileFault.{CaddyfileFault}
 
 abbrev before : ℕ → ℕ → ℕ → ℕ → Bool
@@ -28,14 +28,14 @@ without_third f g false = refl
 three : (f g h : CaddyfileFault) (b c : Bool) → is_sooner f g ≡ b → is_sooner g h ≡ c →
     sooner (if b then Some f else Some g) (Some h) ≡ sooner (Some f) (if c then Some g else Some h)
 three f g h true true one other =
-    if_true (is_sooner f h) (Some f) (Some h) (before-trans f.line (place f.kind) g.line (place g.kind) h.line (place h.kind) one other)
+    if_true (is_sooner f h) (Some f) (Some h) (before-trans f.line (precedence f.kind) g.line (precedence g.kind) h.line (precedence h.kind) one other)
     ∙ sym (if_true (is_sooner f g) (Some f) (Some g) one)
 three f g h true false one other = refl
 three f g h false true one other =
     if_true (is_sooner g h) (Some g) (Some h) other ∙ sym (if_false (is_sooner f g) (Some f) (Some g) one)
 three f g h false false one other =
     if_false (is_sooner g h) (Some g) (Some h) other
-    ∙ sym (if_false (is_sooner f h) (Some f) (Some h) (after-trans f.line (place f.kind) g.line (place g.kind) h.line (place h.kind) one other))
+    ∙ sym (if_false (is_sooner f h) (Some f) (Some h) (after-trans f.line (precedence f.kind) g.line (precedence g.kind) h.line (precedence h.kind) one other))
 
 pub sooner-assoc : (a b c : Option CaddyfileFault) → sooner (sooner a b) c ≡ sooner a (sooner b c)
 sooner-assoc None b c = refl

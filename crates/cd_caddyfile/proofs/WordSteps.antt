@@ -118,6 +118,10 @@ pub if_ok : {A E : Type 0} (r : Result A E) {P Q : A → Type 0} → ((a : A) �
 if_ok (Ok value) step known = step value known
 if_ok (Err error) step known = tt
 
+pub if_ok2 : {A E : Type 0} (r : Result A E) {P Q R : A → Type 0} → ((a : A) → P a → Q a → R a) → IfOk r P → IfOk r Q → IfOk r R
+if_ok2 (Ok value) step one other = step value one other
+if_ok2 (Err error) step one other = tt
+
 -- ---- the end of a line
 
 pub ended_between : (ws : List Word) (text : List ℕ) (at : Reading) → at ≡ mode.Between → ws ≡ ws ++ still at text []

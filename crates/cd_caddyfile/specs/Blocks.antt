@@ -28,17 +28,17 @@ opened n ws (up_to ls m (last after)) = last (block n ws true ls after)
 opened n ws (up_to ls m (up_to after k more)) = up_to (block n ws true ls after) k more
 
 -- a line without words does nothing, and neither does one with a misplaced brace
-abbrev pub put_line : ℕ → Line → Nesting → Nesting
-put_line n Empty nesting = nesting
-put_line n Closes nesting = up_to end n nesting
-put_line n (Opens ws) nesting = opened n ws nesting
-put_line n (Says ws) nesting = in_front n ws nesting
-put_line n Misplaced nesting = nesting
+abbrev pub preceded_by : ℕ → Line → Nesting → Nesting
+preceded_by n Empty nesting = nesting
+preceded_by n Closes nesting = up_to end n nesting
+preceded_by n (Opens ws) nesting = opened n ws nesting
+preceded_by n (Says ws) nesting = in_front n ws nesting
+preceded_by n Misplaced nesting = nesting
 
 -- the lines from number n on
 unfoldable pub nested : ℕ → List (List ℕ) → Nesting
 nested n [] = last end
-nested n (bytes ∷ more) = put_line n (line_of bytes) (nested (suc n) more)
+nested n (bytes ∷ more) = preceded_by n (line_of bytes) (nested (suc n) more)
 
 -- these lines, and then those
 unfoldable pub followed_by : Lines → Lines → Lines

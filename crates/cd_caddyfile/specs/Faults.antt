@@ -100,7 +100,7 @@ abbrev pub wrong_statement : Bool → List (List ℕ) → Option CaddyfileKind
 wrong_statement opens [] = Some UnknownDirective
 wrong_statement opens (name ∷ args) = wrong_named opens name args
 
--- what is wrong with a line; in a block that may not stand where it does nothing more is
+-- what is wrong with a line; in a block that may not stand where it does no line is wrong
 abbrev pub wrong : Within → Bool → List (List ℕ) → Option CaddyfileKind
 wrong File opens ws = wrong_site opens (is_some (address_of ws))
 wrong (Directives site) opens ws = wrong_statement opens ws
@@ -144,13 +144,13 @@ repeated_sites before (s ∷ ss) =
 
 -- ---- of matchers
 
-abbrev pub named : ℕ → ℕ → List ℕ → Named
-named site n name = record { site = site; line = n; name = name }
+abbrev pub matcher_at : ℕ → ℕ → List ℕ → Named
+matcher_at site n name = record { site = site; line = n; name = name }
 
 -- the name of a matcher that a line defines
 abbrev pub defined_in : ℕ → ℕ → List (List ℕ) → List Named
 defined_in site n [] = []
-defined_in site n (name ∷ args) = if is_matcher name then named site n name ∷ [] else []
+defined_in site n (name ∷ args) = if is_matcher name then matcher_at site n name ∷ [] else []
 
 -- matchers are defined in any block of a site
 abbrev pub defined : Within → Bool → ℕ → List (List ℕ) → List Named
@@ -168,7 +168,7 @@ is_by_name ByName = true
 -- of the arguments the first is the matcher
 abbrev pub used_by_choice : ℕ → ℕ → Choice → List (List ℕ) → List Named
 used_by_choice site n choice [] = []
-used_by_choice site n choice (arg ∷ args) = if is_by_name choice then named site n arg ∷ [] else []
+used_by_choice site n choice (arg ∷ args) = if is_by_name choice then matcher_at site n arg ∷ [] else []
 
 abbrev pub used_by : ℕ → ℕ → Option Directive → List (List ℕ) → List Named
 used_by site n None args = []
@@ -203,21 +203,22 @@ unknown_matchers all (m ∷ ms) =
 
 -- ---- the first
 
-abbrev pub place : CaddyfileKind → ℕ
-place BadText = 1
-place BadBlock = 2
-place BadAddress = 3
-place RepeatedSite = 4
-place UnknownDirective = 5
-place BadArguments = 6
-place UnknownMatcher = 7
-place RepeatedMatcher = 8
-place TooLong = 9
-place TooDeep = 10
-place NoMemory = 11
+-- of the faults of one line the one with the least number counts
+abbrev pub precedence : CaddyfileKind → ℕ
+precedence BadText = 1
+precedence BadBlock = 2
+precedence BadAddress = 3
+precedence RepeatedSite = 4
+precedence UnknownDirective = 5
+precedence BadArguments = 6
+precedence UnknownMatcher = 7
+precedence RepeatedMatcher = 8
+precedence TooLong = 9
+precedence TooDeep = 10
+precedence NoMemory = 11
 
 abbrev pub is_sooner : CaddyfileFault → CaddyfileFault → Bool
-is_sooner f g = nat_lt f.line g.line || (f.line == g.line && nat_le (place f.kind) (place g.kind))
+is_sooner f g = nat_lt f.line g.line || (f.line == g.line && nat_le (precedence f.kind) (precedence g.kind))
 
 -- the sooner of two, where there are two
 abbrev pub sooner : Option CaddyfileFault → Option CaddyfileFault → Option CaddyfileFault

@@ -15,17 +15,15 @@ use Rattle.cd_caddyfile.specs.declared.choice.Choice.{Choice}
 use Rattle.cd_caddyfile.specs.declared.choice.Choice.TheVariants.{Unmatched, Everything, ByPath, ByName}
 use Rattle.cd_caddyfile.specs.declared.directive.Directive.{Directive}
 use Rattle.cd_caddyfile.specs.declared.directive.Directive.TheVariants.{Handle}
+use Rattle.cd_caddyfile.specs.declared.named.Matchers.{Matchers}
 use Rattle.cd_caddyfile.specs.declared.named.Named.{Named}
+use Rattle.cd_caddyfile.specs.declared.named.TestLine.{TestLine}
 use Rattle.cd_caddyfile.specs.declared.within.Within.{Within}
 use Rattle.cd_caddyfile.specs.declared.within.Within.TheVariants as place
 
 -- ---- matchers
 
 -- the words of a test, and the line of its matcher
-pub record TestLine : Type 0 where
-  pub matcher : ℕ
-  pub words : List (List ℕ)
-
 abbrev pub test_line : ℕ → List (List ℕ) → TestLine
 test_line matcher words = record { matcher = matcher; words = words }
 
@@ -60,18 +58,22 @@ tests_if ls (Some n) = tests_at n no_tests ls
 abbrev pub tests_named : List Named → List TestLine → ℕ → List ℕ → Tests
 tests_named ms ls site name = tests_if ls (line_of_matcher site name ms)
 
+-- the matchers of a file
+abbrev pub matchers_in : List ℕ → Matchers
+matchers_in bytes = record { defined = walk defined place.File (file_lines bytes); tested = walk tested place.File (file_lines bytes) }
+
 -- ---- directives
 
--- the tests that a directive's arguments choose, where `named` has those of a name
+-- the tests that a directive's arguments choose, where `tests_of` has those of a name
 abbrev pub tests_chosen : (List ℕ → Tests) → Choice → List (List ℕ) → Option Tests
-tests_chosen named choice [] = None
-tests_chosen named Unmatched (arg ∷ args) = None
-tests_chosen named Everything (arg ∷ args) = None
-tests_chosen named ByPath (arg ∷ args) = Some (record no_tests { path = Some (arg ∷ []) })
-tests_chosen named ByName (arg ∷ args) = Some (named arg)
+tests_chosen tests_of choice [] = None
+tests_chosen tests_of Unmatched (arg ∷ args) = None
+tests_chosen tests_of Everything (arg ∷ args) = None
+tests_chosen tests_of ByPath (arg ∷ args) = Some (record no_tests { path = Some (arg ∷ []) })
+tests_chosen tests_of ByName (arg ∷ args) = Some (tests_of arg)
 
 abbrev pub chosen_by : (List ℕ → Tests) → Directive → List (List ℕ) → Option Tests
-chosen_by named name args = tests_chosen named (choice_of name args) args
+chosen_by tests_of name args = tests_chosen tests_of (choice_of name args) args
 
 -- the place in the order of directives
 abbrev pub rank : Action → ℕ
@@ -100,24 +102,24 @@ put_action m None b = b
 put_action m (Some a) b = put m a b
 
 abbrev pub put_directive : (List ℕ → Tests) → Option Directive → List (List ℕ) → Block → Block
-put_directive named None args b = b
-put_directive named (Some name) args b = put_action (chosen_by named name args) (action_of name (own_args name args)) b
+put_directive tests_of None args b = b
+put_directive tests_of (Some name) args b = put_action (chosen_by tests_of name args) (action_of name (own_args name args)) b
 
 -- a line without a block is a directive, or a matcher, which is no part of the block
-abbrev pub put_line : (List ℕ → Tests) → List (List ℕ) → Block → Block
-put_line named [] b = b
-put_line named (name ∷ args) b = put_directive named (directive_named name) args b
+abbrev pub with_statement : (List ℕ → Tests) → List (List ℕ) → Block → Block
+with_statement tests_of [] b = b
+with_statement tests_of (name ∷ args) b = put_directive tests_of (directive_named name) args b
 
 -- a line with a block is a `handle`, or a matcher
-abbrev pub put_block : (List ℕ → Tests) → List (List ℕ) → Block → Block → Block
-put_block named [] inside b = b
-put_block named (name ∷ args) inside b = if bytes_eq name (codes "handle") then put_handle (chosen_by named Handle args) inside b else b
+abbrev pub with_block : (List ℕ → Tests) → List (List ℕ) → Block → Block → Block
+with_block tests_of [] inside b = b
+with_block tests_of (name ∷ args) inside b = if bytes_eq name (codes "handle") then put_handle (chosen_by tests_of Handle args) inside b else b
 
 -- the directives of a block in their order
 unfoldable pub block_of : (List ℕ → Tests) → Lines → Block
-block_of named end = done
-block_of named (line n ws after) = put_line named (map spelled ws) (block_of named after)
-block_of named (block n ws is_closed inside after) = put_block named (map spelled ws) (block_of named inside) (block_of named after)
+block_of tests_of end = done
+block_of tests_of (line n ws after) = with_statement tests_of (map spelled ws) (block_of tests_of after)
+block_of tests_of (block n ws is_closed inside after) = with_block tests_of (map spelled ws) (block_of tests_of inside) (block_of tests_of after)
 
 -- ---- sites
 
@@ -125,11 +127,11 @@ abbrev pub put_site : Option Address → Block → List Site → List Site
 put_site None b sites = sites
 put_site (Some address) b sites = record { address = address; block = b } ∷ sites
 
--- the sites of lines, where `named` has the tests of a matcher by the line of its site and by its name
+-- the sites of lines, where `tests_of` has the tests of a matcher by the line of its site and by its name
 unfoldable pub sites_in : (ℕ → List ℕ → Tests) → Lines → List Site
-sites_in named end = []
-sites_in named (line n ws after) = sites_in named after
-sites_in named (block n ws is_closed inside after) = put_site (address_of ws) (block_of (named n) inside) (sites_in named after)
+sites_in tests_of end = []
+sites_in tests_of (line n ws after) = sites_in tests_of after
+sites_in tests_of (block n ws is_closed inside after) = put_site (address_of ws) (block_of (tests_of n) inside) (sites_in tests_of after)
 
 abbrev pub sites : List ℕ → List Site
 sites bytes = sites_in (tests_named (walk defined place.File (file_lines bytes)) (walk tested place.File (file_lines bytes))) (file_lines bytes)

@@ -2,6 +2,7 @@
 use Rattle.std.specs.Prelude.{ℕ, suc, ◌+◌, ◌==◌, not, Bool, true, false, if◌then◌else◌, List, [], ◌∷◌, ◌++◌, map, filter, codes, decimal, Option, Some, None, is_some}
 use Rattle.std.specs.List.{list_any}
 use Rattle.cd_text.specs.ByKey.{by_key}
+use Rattle.cd_caddyfile.specs.declared.entry.Entry.{Entry as AnEntry}
 use Rattle.cd_tree.specs.declared.tree.Member.{roll-Member}
 use Rattle.cd_tree.specs.declared.tree.Tree as tree
 use Rattle.cd_tree.specs.declared.tree.Tree.{Tree}
@@ -10,9 +11,8 @@ use Rattle.cd_caddyfile.specs.Sites.{Wanted, Tests, Action, vars, set_field, add
 -- ---- trees
 
 -- a member that is to be
-pub record Entry : Type 0 where
-  pub key : List ℕ
-  pub value : Tree
+abbrev pub Entry : Type 0
+Entry = AnEntry
 
 abbrev pub member : List ℕ → Tree → Entry
 member key value = record { key = key; value = value }

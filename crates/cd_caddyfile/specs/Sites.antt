@@ -1,19 +1,16 @@
 -- What a Caddyfile says: sites, each with a block of directives.
 use Rattle.std.specs.Prelude.{ℕ, List, [], Option, None}
 use Rattle.cd_caddyfile.specs.declared.address.Address.{Address}
+use Rattle.cd_caddyfile.specs.declared.tests.Tests.{Tests as AllTests}
+use Rattle.cd_caddyfile.specs.declared.tests.Wanted.{Wanted as SomeWanted}
 
 -- values that are wanted of a field or of a key
-pub record Wanted : Type 0 where
-  pub name : List ℕ
-  pub values : List (List ℕ)
+abbrev pub Wanted : Type 0
+Wanted = SomeWanted
 
 -- a matcher: all that is given is to hold
-pub record Tests : Type 0 where
-  pub path : Option (List (List ℕ))
-  pub method : Option (List (List ℕ))
-  pub host : Option (List (List ℕ))
-  pub header : List Wanted
-  pub query : List Wanted
+abbrev pub Tests : Type 0
+Tests = AllTests
 
 abbrev pub no_tests : Tests
 no_tests = record { path = None; method = None; host = None; header = []; query = [] }

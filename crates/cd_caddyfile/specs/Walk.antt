@@ -37,7 +37,8 @@ inside_of site n [] = Unread site
 inside_of site n (name ∷ args) =
     if is_matcher name then inside_matcher site n args else inside_directive site (directive_named name)
 
--- the block of a line with this number and these words; a block where none may stand is not read, but for the names of matchers
+-- what the block of a line with this number and these words is; where none may stand, its lines say nothing but the names of matchers
+-- that they define, so that no fault depends on another
 abbrev pub inside : Within → ℕ → List (List ℕ) → Within
 inside File n ws = Directives n
 inside (Directives site) n ws = inside_of site n ws

@@ -39,7 +39,7 @@ impl Directive {
 }
 
 /// Whether a word is the name of a matcher.
-pub(crate) fn is_matcher(word: &[u8]) -> bool
+pub fn is_matcher(word: &[u8]) -> bool
     ensures { result ≡ is_matcher word.now }
 {
     begins_with(b'@', word)

@@ -6,11 +6,12 @@
 //! Wording, the words of a fault.
 //! Examples of all of them, with near misses, are computed in proofs/Examples.antt.
 //!
-//! `check` gives the first fault of a file, exactly, but for the limits of its tree. It reads the file once, a line at a time,
+//! `check` gives the first fault of a file, exactly, but for the limits of its tree, and `read_matchers` the matchers of a file that
+//! has none. It reads the file once, a line at a time,
 //! and keeps the blocks that are open in a list: nothing recurses, however deep blocks nest. What it keeps besides are the
 //! addresses of sites and the names of matchers, which are compared when all lines are read. `fault_words` says it in words.
 //!
-//! No tree is made yet: `adapted` of specs/Adapting.antt is a definition alone.
+//! The tree is made by `cd_adapt`, over the calls for lines, addresses, directives and shorthands that are public here.
 #![tactic(auto)]
 
 mod actions;
@@ -18,6 +19,7 @@ mod address;
 mod checking;
 mod choice;
 mod directive;
+mod entry;
 mod fault;
 mod faults;
 mod laws;
@@ -30,20 +32,25 @@ mod reader;
 mod reading;
 mod repeats;
 mod shorthands;
+mod tests;
 mod within;
 mod word;
 mod wording;
 mod words;
 mod wrong;
 
-pub use address::Address;
-pub use checking::check;
-pub use choice::Choice;
-pub use directive::Directive;
+pub use address::{Address, address_of};
+pub use checking::{check, read_matchers};
+pub use choice::{Choice, choice_of, own_args};
+pub use directive::{Directive, is_matcher};
+pub use entry::Entry;
 pub use fault::{CaddyfileFault, CaddyfileKind};
 pub use laws::{quoted_words_read_back, words_of_texts_are_texts};
 pub use line::Line;
-pub use named::{Located, Named};
+pub use lines::{ReadLine, read_line, without_return};
+pub use named::{Located, Matchers, Named, TestLine};
+pub use shorthands::spelled;
+pub use tests::{Tests, Wanted};
 pub use within::Within;
 pub use word::{Mark, Word};
 pub use wording::fault_words;

@@ -1,13 +1,14 @@
 //! What the lines of a file say that is compared with other lines, and their first fault.
-ghost use Rattle.std.specs.Prelude.{◌≡◌, ◌++◌, OnOk, IfOk};
-ghost use Rattle.cd_caddyfile.specs.Faults.{is_sooner, place, sooner, first_fault, faults_of, fault_where, wrongs, sites_said, defined, defined_in, used, used_in, used_by, used_by_choice, is_by_name};
+ghost use Rattle.std.specs.Prelude.{◌≡◌, ◌++◌, ◌∷◌, [], OnOk, IfOk};
+ghost use Rattle.cd_caddyfile.specs.Faults.{is_sooner, precedence, sooner, first_fault, faults_of, fault_where, wrongs, sites_said, defined, defined_in, used, used_in, used_by, used_by_choice, is_by_name};
+ghost use Rattle.cd_caddyfile.specs.FileSites.{tested, tested_in, test_line};
 ghost use Rattle.cd_caddyfile.specs.declared.within.Within.TheVariants as place_of;
 
 use crate::address::address_of;
 use crate::choice::{Choice, choice_of};
 use crate::directive::{Directive, is_matcher};
 use crate::fault::{CaddyfileFault, CaddyfileKind};
-use crate::named::{Located, Named};
+use crate::named::{Located, Named, TestLine};
 use crate::within::Within;
 use crate::wrong::{wrong_site, wrong_statement, wrong_test};
 use cd_text::{List, NoMemory, Octets};
@@ -23,6 +24,8 @@ pub struct Notes {
     pub defined: List<Named>,
     /// The names of matchers that directives take.
     pub used: List<Named>,
+    /// The tests of matchers.
+    pub tested: List<TestLine>,
 }
 
 impl Notes {
@@ -39,13 +42,14 @@ impl Notes {
         ensures sites { OnOk result (self.new.sites ≡ self.old.sites ++ sites_said at opens number words.now) }
         ensures defined { OnOk result (self.new.defined ≡ self.old.defined ++ defined at opens number words.now) }
         ensures used { OnOk result (self.new.used ≡ self.old.used ++ used at opens number words.now) }
+        ensures tested { OnOk result (self.new.tested ≡ self.old.tested ++ tested at opens number words.now) }
     {
         match at {
             Within::File => self.note_site(alloc, opens, number, words),
             Within::Directives(site) => self.note_statement(alloc, site, opens, number, words),
-            Within::Tests(_, _) => {
+            Within::Tests(_, matcher) => {
                 self.blame(number, wrong_test(opens, words));
-                Ok(())
+                self.note_test(alloc, matcher, words)
             }
             Within::Unread(site) => self.note_defined(alloc, site, number, words),
         }
@@ -62,6 +66,7 @@ impl Notes {
         ensures sites { OnOk result (self.new.sites ≡ self.old.sites ++ sites_said place_of.File opens number words.now) }
         ensures defined { self.new.defined ≡ self.old.defined }
         ensures used { self.new.used ≡ self.old.used }
+        ensures tested { self.new.tested ≡ self.old.tested }
     {
         match address_of(alloc, words)? {
             None => {
@@ -90,10 +95,45 @@ impl Notes {
         ensures sites { self.new.sites ≡ self.old.sites }
         ensures defined { OnOk result (self.new.defined ≡ self.old.defined ++ defined_in site number words.now) }
         ensures used { OnOk result (self.new.used ≡ self.old.used ++ used_in site number words.now) }
+        ensures tested { OnOk result (self.new.tested ≡ self.old.tested ++ tested (place_of.Directives site) opens number words.now) }
     {
         self.blame(number, wrong_statement(opens, words));
         self.note_defined(alloc, site, number, words)?;
-        self.note_used(alloc, site, number, words)
+        self.note_used(alloc, site, number, words)?;
+        if opens {
+            return Ok(());
+        }
+        self.note_test_in(alloc, number, words)
+    }
+
+    // A matcher whose test is in its line.
+    fn note_test_in(&mut self, alloc: Global, number: u32, words: &[Octets]) -> Result<(), NoMemory>
+        ensures fault { self.new.fault ≡ self.old.fault }
+        ensures sites { self.new.sites ≡ self.old.sites }
+        ensures defined { self.new.defined ≡ self.old.defined }
+        ensures used { self.new.used ≡ self.old.used }
+        ensures tested { OnOk result (self.new.tested ≡ self.old.tested ++ tested_in number words.now) }
+    {
+        match words {
+            [] => Ok(()),
+            [name, args @ ..] => {
+                if !is_matcher(name.as_slice()) {
+                    return Ok(());
+                }
+                self.note_test(alloc, number, args)
+            }
+        }
+    }
+
+    fn note_test(&mut self, alloc: Global, matcher: u32, words: &[Octets]) -> Result<(), NoMemory>
+        ensures fault { self.new.fault ≡ self.old.fault }
+        ensures sites { self.new.sites ≡ self.old.sites }
+        ensures defined { self.new.defined ≡ self.old.defined }
+        ensures used { self.new.used ≡ self.old.used }
+        ensures tested { OnOk result (self.new.tested ≡ self.old.tested ++ test_line matcher words.now ∷ []) }
+    {
+        let words = copies(alloc, words)?;
+        self.tested.push(TestLine { matcher, words })
     }
 
     fn note_defined(
@@ -107,6 +147,7 @@ impl Notes {
         ensures sites { self.new.sites ≡ self.old.sites }
         ensures defined { OnOk result (self.new.defined ≡ self.old.defined ++ defined_in site number words.now) }
         ensures used { self.new.used ≡ self.old.used }
+        ensures tested { self.new.tested ≡ self.old.tested }
     {
         match words {
             [] => Ok(()),
@@ -135,6 +176,7 @@ impl Notes {
         ensures sites { self.new.sites ≡ self.old.sites }
         ensures defined { self.new.defined ≡ self.old.defined }
         ensures used { OnOk result (self.new.used ≡ self.old.used ++ used_in site number words.now) }
+        ensures tested { self.new.tested ≡ self.old.tested }
     {
         match words {
             [] => Ok(()),
@@ -157,6 +199,7 @@ impl Notes {
         ensures sites { self.new.sites ≡ self.old.sites }
         ensures defined { self.new.defined ≡ self.old.defined }
         ensures used { OnOk result (self.new.used ≡ self.old.used ++ used_by site number (Some directive) args.now) }
+        ensures tested { self.new.tested ≡ self.old.tested }
     {
         match args {
             [] => Ok(()),
@@ -180,9 +223,20 @@ impl Notes {
         ensures sites { self.new.sites ≡ self.old.sites }
         ensures defined { self.new.defined ≡ self.old.defined }
         ensures used { self.new.used ≡ self.old.used }
+        ensures tested { self.new.tested ≡ self.old.tested }
     {
         self.fault = sooner(self.fault, fault_at(number, kind));
     }
+}
+
+fn copies(alloc: Global, words: &[Octets]) -> Result<List<Octets>, NoMemory>
+    ensures { IfOk result (λ made. made ≡ words.now) }
+{
+    let mut made = List::new(alloc);
+    for word in words {
+        made.push(word.copy(alloc)?)?;
+    }
+    Ok(made)
 }
 
 fn is_by_name(choice: Choice) -> bool
@@ -237,12 +291,13 @@ pub fn sooner(one: Option<CaddyfileFault>, other: Option<CaddyfileFault>) -> Opt
 fn is_sooner(one: &CaddyfileFault, other: &CaddyfileFault) -> bool
     ensures { result ≡ is_sooner one.now other.now }
 {
-    one.line < other.line || (one.line == other.line && place(one.kind) <= place(other.kind))
+    one.line < other.line
+        || (one.line == other.line && precedence(one.kind) <= precedence(other.kind))
 }
 
-// The kind's place among those of one line.
-fn place(kind: CaddyfileKind) -> u8
-    ensures { result ≡ place kind }
+// Which of the faults of one line counts: the least.
+fn precedence(kind: CaddyfileKind) -> u8
+    ensures { result ≡ precedence kind }
 {
     match kind {
         CaddyfileKind::BadText => 1,

@@ -1,6 +1,6 @@
 //! Reads lines one after another.
 ghost use Rattle.std.specs.Prelude.{◌≡◌, map, reverse, IfOk, OnOk};
-ghost use Rattle.cd_caddyfile.specs.Blocks.{Nesting, put_line, opened, in_front, end, up_to};
+ghost use Rattle.cd_caddyfile.specs.Blocks.{Nesting, preceded_by, opened, in_front, end, up_to};
 ghost use Rattle.cd_caddyfile.specs.Going.{Goes};
 ghost use Rattle.cd_caddyfile.specs.Left.{innermost};
 ghost use Rattle.cd_caddyfile.specs.Shorthands.{spelled};
@@ -35,7 +35,7 @@ pub struct Reader {
 impl Reader {
     /// Reads a line.
     pub fn take(&mut self, alloc: Global, number: u32, line: Line) -> Result<(), NoMemory>
-        ensures { OnOk result ((after : Nesting) → Goes self.old self.new (put_line number line after) after) }
+        ensures { OnOk result ((after : Nesting) → Goes self.old self.new (preceded_by number line after) after) }
     {
         match line {
             Line::Empty => Ok(()),

@@ -1,6 +1,6 @@
 use Rattle.std.proofs.Common.{◌≡◌, ◌+◌, ◌==◌, [], sym, ap, ◌∙◌, arith}
 use Rattle.std.specs.List.{before_first, after_first}
-use Rattle.cd_caddyfile.specs.Blocks.{last, end, put_line, nested}
+use Rattle.cd_caddyfile.specs.Blocks.{last, end, preceded_by, nested}
 use Rattle.cd_caddyfile.specs.Faults.{sooner, first_fault, line_faults}
 use Rattle.cd_caddyfile.specs.Lines.{lines_of, line_of, without_return}
 use Rattle.cd_caddyfile.proofs.FaultSteps.{at_start, first_line, last_line, shorter, text_on, text_end, nested_line, nested_end, reads_on}
@@ -9,7 +9,7 @@ use Rattle.cd_caddyfile.proofs.faults.read_file.Goals as goal
 pub lines-init : goal.lines-init
 lines-init c = record {
   text = sym (ap (λ f. sooner f (first_fault (line_faults 1 (lines_of c.args.bytes.now)))) c.new-file.ensures.text);
-  all = at_start c.args.bytes.now c.new-file.result.reader c.new-file.ensures.fault c.new-file.ensures.sites c.new-file.ensures.defined c.new-file.ensures.used c.new-file.ensures.no_blocks;
+  all = at_start c.args.bytes.now c.new-file.result.reader c.new-file.ensures.fault c.new-file.ensures.sites c.new-file.ensures.defined c.new-file.ensures.used c.new-file.ensures.tested c.new-file.ensures.no_blocks;
   count = omega arith;
 }
 
@@ -25,7 +25,7 @@ lines-preserved c =
     let less = shorter rest after c.in-Some.ensures.0 after-is in
     record {
       text = text_on _ c.lines.file.text_fault c.take-in-Some.new.self.text_fault n (lines_of rest) (lines_of after) (without_return line) all-is c.lines.invariant.text c.in_ok-take-in-Some.ensures.text;
-      all = reads_on _ c.lines.file.reader c.take-in-Some.new.self.reader (nested n (lines_of rest)) (put_line n (line_of (without_return line)) (nested (n + 1) (lines_of after)))
+      all = reads_on _ c.lines.file.reader c.take-in-Some.new.self.reader (nested n (lines_of rest)) (preceded_by n (line_of (without_return line)) (nested (n + 1) (lines_of after)))
           (nested (n + 1) (lines_of after)) (nested_line n (lines_of rest) (lines_of after) (without_return line) all-is) c.lines.invariant.all
           (c.in_ok-take-in-Some.ensures.goes (nested (n + 1) (lines_of after)));
       count = omega (arith, less, c.lines.invariant.count);
@@ -42,7 +42,7 @@ pub returns-in-None-clause-all : goal.returns-in-None-clause-all
 returns-in-None-clause-all c =
     let rest = c.lines.rest.now in
     let n = c.lines.number in
-    reads_on _ c.lines.file.reader c.take.new.self.reader (nested n (lines_of rest)) (put_line n (line_of (without_return rest)) (last end)) (last end)
+    reads_on _ c.lines.file.reader c.take.new.self.reader (nested n (lines_of rest)) (preceded_by n (line_of (without_return rest)) (last end)) (last end)
     (nested_line n (lines_of rest) [] (without_return rest) (last_line rest c.in-None.ensures)
-    ∙ ap (λ tail. put_line n (line_of (without_return rest)) tail) (nested_end (n + 1)))
+    ∙ ap (λ tail. preceded_by n (line_of (without_return rest)) tail) (nested_end (n + 1)))
     c.lines.invariant.all (c.in_ok-take-in-None.ensures.goes (last end))
