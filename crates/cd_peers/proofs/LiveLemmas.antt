@@ -1,6 +1,5 @@
 -- The counts of a balancer are those of the live exchanges.
-use Rattle.std.proofs.Common.{◌≡◌, ℕ, zero, suc, ◌+◌, ◌*◌, ◌<◌, ◌≤◌, ◌==◌, ◌≢◌, Bool, true, false, ◌&&◌, ◌||◌, not, cond, if◌then◌else◌, List, [], ◌∷◌, ◌++◌, length, get_or, set, replicate, refl, sym, ap, ◌∙◌, subst, append_assoc, arith, Option, Some, None}
-use Rattle.std.specs.List.{list_any, count_by, sum_by}
+use Rattle.std.proofs.Common.{◌≡◌, ℕ, ◌+◌, ◌*◌, ◌<◌, ◌≤◌, ◌==◌, Bool, true, false, ◌&&◌, ◌||◌, not, cond, if◌then◌else◌, List, [], ◌∷◌, ◌++◌, length, get_or, set, replicate, refl, sym, ap, ◌∙◌, subst, append_assoc, arith, Option, Some, None}
 use Rattle.std.proofs.lemmas.Bool.{eqb-true, eq-eqb}
 use Rattle.std.proofs.lemmas.Bool.Decides.{nat_tests}
 use Rattle.std.proofs.lemmas.List.{append-nil, length-replicate, length-set, set-get_or, get_or-set_same, get_or-set_other, get_or-replicate}
@@ -10,8 +9,7 @@ use Rattle.cd_outside.specs.declared.address.Address.{Address}
 use Rattle.cd_peers.specs.declared.limits.TheConstants.{MAX_PLACES}
 use Rattle.cd_peers.specs.declared.policy.Policy.{Policy}
 use Rattle.cd_peers.specs.declared.state.BalancerState.{BalancerState}
-use Rattle.cd_peers.specs.Balance.{is_at, count_at, at_place, fresh, freed, begun, ended, ended_at}
-use Rattle.cd_peers.specs.Pick.{IsPick}
+use Rattle.cd_peers.specs.Balance.{is_at, count_at, at_place, fresh, begun, ended, ended_at, NoneBeyond}
 use Rattle.cd_peers.specs.Calls.{Call, began, finished, is_call_at, is_over, live, Leads}
 
 -- 1 where a test holds
@@ -255,7 +253,7 @@ end_keeps : (place : ℕ) (good : Bool) (b : BalancerState) (at : Option ℕ) �
 end_keeps place good b None = refl
 end_keeps place good b (Some upstream) = refl
 
-other_number : (other number size : ℕ) → other < size → size ≤ number → (other == number) ≡ false
+pub other_number : (other number size : ℕ) → other < size → size ≤ number → (other == number) ≡ false
 other_number other number size less most = grind (arith, nat_tests)
 
 no_count : (b over : Bool) (rest : ℕ) → b ≡ false → rest ≡ 0 → (if b && over then 1 else 0) + rest ≡ 0
@@ -278,3 +276,26 @@ pub others_have_none : (policy : Policy) (upstreams : List Address) (calls : Lis
     → Leads (fresh policy upstreams) calls b → (number : ℕ) → length upstreams ≤ number → count_at number b.places ≡ 0
 others_have_none policy upstreams calls b leads number most =
     counts_are_live policy upstreams calls b leads number ∙ none_live number calls (fresh policy upstreams) b most leads
+
+-- ---- what is written at a place
+
+pub written_none : (i p : ℕ) (l : Option ℕ) (ps : List (Option ℕ)) → p < length ps → is_at i l ≡ false → count_at i ps ≡ 0 → count_at i (set ps p l) ≡ 0
+written_none i p l ps within not_at none =
+    let changed : count_at i (set ps p l) + one_if (is_at i (get_or ps p None)) ≡ count_at i ps + one_if (is_at i l) =
+    sum_by-set (λ (x : Option ℕ). one_if (is_at i x)) ps p l None within in
+    let nothing : one_if (is_at i l) ≡ 0 = ap one_if not_at in
+    omega (arith, changed, none, nothing)
+
+pub beyond_fresh : (policy : Policy) (upstreams : List Address) → NoneBeyond (fresh policy upstreams)
+beyond_fresh policy upstreams number most = none_counted number MAX_PLACES
+
+pub beyond_begun : (place upstream : ℕ) (b : BalancerState) → place < length b.places → upstream < length b.upstreams → NoneBeyond b → NoneBeyond (begun place upstream b)
+beyond_begun place upstream b room within none number most =
+    written_none number place (Some upstream) b.places room (other_number upstream number (length b.upstreams) within most) (none number most)
+
+beyond_ended_at : (place : ℕ) (good : Bool) (b : BalancerState) (at : Option ℕ) → place < length b.places → NoneBeyond b → NoneBeyond (ended_at place good at b)
+beyond_ended_at place good b None room none number most = none number most
+beyond_ended_at place good b (Some upstream) room none number most = written_none number place None b.places room refl (none number most)
+
+pub beyond_ended : (place : ℕ) (good : Bool) (b : BalancerState) → place < length b.places → NoneBeyond b → NoneBeyond (ended place good b)
+beyond_ended place good b room none = beyond_ended_at place good b (at_place place b) room none

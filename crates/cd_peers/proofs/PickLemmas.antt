@@ -1,10 +1,10 @@
 -- What a search for the least rank has found when it goes on.
-use Rattle.std.proofs.Common.{◌≡◌, ◌≢◌, ℕ, ◌+◌, ◌<◌, ◌≤◌, ◌⊎◌, Bool, true, false, ◌||◌, not, Option, Some, None, refl, sym, ap, ◌∙◌, subst, arith, inl, inr}
+use Rattle.std.proofs.Common.{◌≡◌, ℕ, ◌+◌, ◌<◌, ◌≤◌, ◌⊎◌, Bool, true, false, ◌||◌, not, Option, Some, None, refl, sym, ap, ◌∙◌, arith, inl, inr}
 use Rattle.std.proofs.lemmas.Bool.{cases_lt}
 use Rattle.cd_peers.specs.declared.state.BalancerState.{BalancerState}
 use Rattle.cd_peers.specs.declared.picking.Least.{Least}
 use Rattle.cd_peers.specs.Balance.{is_down}
-use Rattle.cd_peers.specs.Pick.{IsCandidate, IsPick, Precedes, rank, size}
+use Rattle.cd_peers.specs.Pick.{IsCandidate, IsPick, rank, size}
 use Rattle.cd_peers.specs.Picking.{IsLeast, may}
 
 -- below the next number stands what stood below this one, and this one

@@ -1,5 +1,5 @@
 -- What a balancer keeps, and how a call changes it.
-use Rattle.std.specs.Prelude.{ℕ, ◌==◌, Bool, true, false, not, List, replicate, Option, Some, None, slice_index_or, slice_set}
+use Rattle.std.specs.Prelude.{◌≡◌, ℕ, ◌≤◌, ◌==◌, Bool, false, not, List, length, replicate, Option, Some, None, slice_index_or, slice_set}
 use Rattle.std.specs.List.{count_by}
 use Rattle.cd_outside.specs.declared.address.Address.{Address}
 use Rattle.cd_peers.specs.declared.limits.TheConstants.{MAX_UPSTREAMS, MAX_PLACES}
@@ -50,3 +50,7 @@ ended_at place good (Some upstream) b =
 -- the exchange at the place has ended
 abbrev pub ended : ℕ → Bool → BalancerState → BalancerState
 ended place good b = ended_at place good (at_place place b) b
+
+-- no place holds an exchange at a number that no upstream has
+abbrev pub NoneBeyond : BalancerState → Type 0
+NoneBeyond b = (number : ℕ) → length b.upstreams ≤ number → count_at number b.places ≡ 0

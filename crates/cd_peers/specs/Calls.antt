@@ -1,5 +1,5 @@
 -- A list of calls on a balancer, with what each `begin` answered, and the exchanges that are live after it.
-use Rattle.std.specs.Prelude.{◌≡◌, ℕ, ◌+◌, ◌<◌, ◌==◌, Bool, true, false, ◌&&◌, not, List, [], ◌∷◌, if◌then◌else◌}
+use Rattle.std.specs.Prelude.{◌≡◌, ℕ, ◌+◌, ◌<◌, ◌==◌, Bool, ◌&&◌, not, List, [], ◌∷◌, if◌then◌else◌}
 use Rattle.std.specs.List.{list_any}
 use Rattle.cd_peers.specs.declared.limits.TheConstants.{MAX_PLACES}
 use Rattle.cd_peers.specs.declared.state.BalancerState.{BalancerState}

@@ -4,7 +4,7 @@
 //! a short time.
 ghost use Rattle.std.specs.Prelude.{◌≡◌, ◌≤◌, ◌<◌, length};
 ghost use Rattle.cd_peers.specs.declared.limits.TheConstants.{MAX_UPSTREAMS, MAX_PLACES};
-ghost use Rattle.cd_peers.specs.Balance.{count_at, begun, ended, freed, fresh};
+ghost use Rattle.cd_peers.specs.Balance.{NoneBeyond, count_at, begun, ended, freed, fresh};
 ghost use Rattle.cd_peers.specs.Pick.{IsPick};
 
 use crate::limits::{MAX_PLACES, MAX_UPSTREAMS};
@@ -20,6 +20,7 @@ pub struct Balancer {
     pub state: BalancerState,
     pub ghost some: { 0 < length state.upstreams },
     pub ghost few: { length state.upstreams ≤ MAX_UPSTREAMS },
+    pub ghost within: { NoneBeyond state },
 }
 
 impl Balancer {
@@ -66,9 +67,10 @@ impl Balancer {
         }
     }
 
-    /// How many places have an exchange at the upstream of this number.
+    /// How many places have an exchange at the upstream of this number: none where no upstream has it.
     pub fn count(&self, upstream: u32) -> u64
-        ensures { result ≡ count_at upstream self.now.state.places }
+        ensures places { result ≡ count_at upstream self.now.state.places }
+        ensures none { length self.now.state.upstreams ≤ upstream → result ≡ 0 }
     {
         u64::from(count(&self.state.places, upstream))
     }

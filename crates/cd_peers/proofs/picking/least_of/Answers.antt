@@ -1,4 +1,4 @@
-use Rattle.std.proofs.Common.{ℕ, ◌+◌, Option, subst, sym, ◌∙◌}
+use Rattle.std.proofs.Common.{◌+◌, Option, subst, sym, ◌∙◌}
 use Rattle.cd_peers.specs.declared.picking.Least.{Least}
 use Rattle.cd_peers.specs.Pick.{rank}
 use Rattle.cd_peers.specs.Picking.{IsLeast, may}
