@@ -11,6 +11,8 @@
 //! it means the lane says, which reads the bytes anew. What a lane calls a connection is thus a stretch of it, from a request to
 //! the next quiet moment.
 //!
+//! `TcpPeers` are the way of a lane to upstreams: a connection for each exchange, which the lane waits for itself.
+//!
 //! The forms tell nothing of content. Proved is that each counts its faults and answers `Failed` only where the count rose,
 //! that a read never answers more bytes than there was room for, how long a client may be slow, how much is kept, and that nothing
 //! panics. What sockets and files do is tested.
@@ -24,6 +26,7 @@ mod binding;
 mod budgets;
 mod clock;
 mod connection;
+mod dialling;
 mod draining;
 mod events;
 mod explaining;
@@ -34,6 +37,7 @@ mod inbound;
 mod lane;
 mod limits;
 mod pacing;
+mod peers;
 mod reactor;
 mod seeing;
 mod sockets;
@@ -48,12 +52,14 @@ pub use held::{Held, Parting};
 pub use inbound::Inbound;
 pub use lane::TcpLane;
 pub use limits::{
-    FAST_BYTES, GRACE_MILLIS, IDLE_SECONDS, LINGER_SECONDS, MAX_ACCEPTS, MAX_CHUNKED_BYTES,
-    MAX_DRAIN_READS, MAX_HEAD_ROOM, MAX_KEPT_BYTES, MAX_KEPT_BYTES_OF_ALL, MAX_PAUSE_MILLIS,
-    MAX_TAKES, MAX_TRIES, MAX_WAITING, READ_BYTES, SLOW_SECONDS, SLOW_SECONDS_WHEN_FULL,
-    TRY_PAUSE_MILLIS, WRITE_MILLIS, WRITE_MILLIS_WHEN_FULL, WRITE_TURN_MILLIS, limits_are,
+    DIAL_SECONDS, FAST_BYTES, GRACE_MILLIS, IDLE_SECONDS, LINGER_SECONDS, MAX_ACCEPTS,
+    MAX_CHUNKED_BYTES, MAX_DIALS, MAX_DRAIN_READS, MAX_HEAD_ROOM, MAX_KEPT_BYTES,
+    MAX_KEPT_BYTES_OF_ALL, MAX_PAUSE_MILLIS, MAX_TAKES, MAX_TRIES, MAX_WAITING, READ_BYTES,
+    SLOW_SECONDS, SLOW_SECONDS_WHEN_FULL, TRY_PAUSE_MILLIS, UPSTREAM_SECONDS, WRITE_MILLIS,
+    WRITE_MILLIS_WHEN_FULL, WRITE_TURN_MILLIS, limits_are,
 };
 pub use pacing::{is_over, slow_after};
+pub use peers::TcpPeers;
 pub use reactor::Reactor;
 pub use seeing::{Search, Seen, is_due, look_on, nothing_seen};
 pub use stream::{Got, Patient, read_once, write_whole};

@@ -1,6 +1,6 @@
 //! The numbers of the event loop. Each is a limit of time, of room or of tries.
 ghost use Rattle.std.specs.Prelude.{◌≡◌};
-ghost use Rattle.cd_tcp.specs.declared.limits.TheConstants.{FAST_BYTES, GRACE_MILLIS, IDLE_SECONDS, LINGER_SECONDS, MAX_ACCEPTS, MAX_CHUNKED_BYTES, MAX_DRAIN_READS, MAX_HEAD_ROOM, MAX_KEPT_BYTES, MAX_KEPT_BYTES_OF_ALL, MAX_PAUSE_MILLIS, MAX_TAKES, MAX_TRIES, MAX_WAITING, READ_BYTES, SLOW_SECONDS, SLOW_SECONDS_WHEN_FULL, TRY_PAUSE_MILLIS, WRITE_MILLIS, WRITE_MILLIS_WHEN_FULL, WRITE_TURN_MILLIS};
+ghost use Rattle.cd_tcp.specs.declared.limits.TheConstants.{DIAL_SECONDS, FAST_BYTES, GRACE_MILLIS, IDLE_SECONDS, LINGER_SECONDS, MAX_ACCEPTS, MAX_CHUNKED_BYTES, MAX_DIALS, MAX_DRAIN_READS, MAX_HEAD_ROOM, MAX_KEPT_BYTES, MAX_KEPT_BYTES_OF_ALL, MAX_PAUSE_MILLIS, MAX_TAKES, MAX_TRIES, MAX_WAITING, READ_BYTES, SLOW_SECONDS, SLOW_SECONDS_WHEN_FULL, TRY_PAUSE_MILLIS, UPSTREAM_SECONDS, WRITE_MILLIS, WRITE_MILLIS_WHEN_FULL, WRITE_TURN_MILLIS};
 
 /// How long a lane waits for the next request of a connection, in milliseconds. Then it waits without a lane.
 pub const GRACE_MILLIS: u64 = 20;
@@ -65,6 +65,15 @@ pub const MAX_KEPT_BYTES_OF_ALL: usize = 67_108_864;
 /// So many bytes of a connection are kept in any case: a head has no more.
 pub const MAX_HEAD_ROOM: usize = 16_384;
 
+/// How long an address of an upstream has to take a connection, in seconds.
+pub const DIAL_SECONDS: u64 = 3;
+
+/// How many addresses of an upstream are tried, at most.
+pub const MAX_DIALS: usize = 4;
+
+/// How long a read waits for an upstream, in seconds.
+pub const UPSTREAM_SECONDS: u64 = 30;
+
 /// The numbers, which the code cites by name.
 pub fn limits_are()
     ensures grace { GRACE_MILLIS ≡ 20 }
@@ -88,4 +97,7 @@ pub fn limits_are()
     ensures chunked { MAX_CHUNKED_BYTES ≡ 1048576 }
     ensures all_kept { MAX_KEPT_BYTES_OF_ALL ≡ 67108864 }
     ensures head_room { MAX_HEAD_ROOM ≡ 16384 }
+    ensures dial { DIAL_SECONDS ≡ 3 }
+    ensures dials { MAX_DIALS ≡ 4 }
+    ensures upstream { UPSTREAM_SECONDS ≡ 30 }
 {}

@@ -1,0 +1,4 @@
+pub mod Telling
+pub mod Connecting
+pub mod Going
+mod Examples
