@@ -10,7 +10,8 @@ use Rattle.cd_program.specs.declared.initial.Initial.{Initial}
 use Rattle.cd_program.specs.declared.status.Status.TheVariants as status
 use Rattle.cd_program.specs.Config.{Gave}
 use Rattle.cd_program.specs.Output.{Wrote, FellShort}
-use Rattle.cd_program.specs.Seen.{Device, HasFailed, Seen}
+use Rattle.cd_program.specs.Seen.{Seen}
+use Rattle.cd_output.specs.Devices.{Device, HasFailed}
 use Rattle.cd_program.specs.Storm.{IsStorm, Storms}
 use Rattle.cd_program.specs.Top.{ExitsWith, HasRun, HasEnded, Serves, Validates, Declines, code_of}
 

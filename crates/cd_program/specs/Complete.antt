@@ -20,14 +20,11 @@ use Rattle.cd_program.specs.declared.command.Command.TheVariants as Command
 use Rattle.cd_program.specs.declared.initial.Initial.{Initial}
 use Rattle.cd_program.specs.declared.initial.Initial.TheVariants.{OfFile, Null, Saved}
 use Rattle.cd_program.specs.Configuration.{configured, if_planned}
-use Rattle.cd_program.specs.Seen.{Device, HasFailed, Seen}
+use Rattle.cd_program.specs.Seen.{Seen}
+use Rattle.cd_output.specs.Devices.{Device, IsUnfailed}
 use Rattle.cd_program.specs.Top.{HasRun, standard}
 
 -- ---- what it asks for
-
--- no call on it has failed
-abbrev pub IsUnfailed : {T : Type 0} → Device T → Type 0
-IsUnfailed d = ¬ (HasFailed d)
 
 -- no call on the source, the output, the fixtures or a lane has failed
 pub record NothingFailed {F L : Type 0} (s : Seen F L) : Type 0 where

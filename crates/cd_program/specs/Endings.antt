@@ -8,8 +8,9 @@ use Rattle.cd_program.specs.declared.refusal.Refusal.{Refusal}
 use Rattle.cd_program.specs.declared.status.Status.{Status}
 use Rattle.cd_program.specs.declared.status.Status.TheVariants as status
 use Rattle.cd_program.specs.Configuration.{words_of}
-use Rattle.cd_program.specs.Output.{Writes, Says, served_line, refused_line, unopened_line, read_fault_line}
-use Rattle.cd_program.specs.Seen.{Device, HasFailed, IsSilent}
+use Rattle.cd_program.specs.Output.{Writes, Says, served_line, unopened_line, read_fault_line}
+use Rattle.cd_output.specs.Lines.{refused_line}
+use Rattle.cd_output.specs.Devices.{Device, HasFailed, IsSilent}
 
 -- that of a run that went so, over the output between the run and its end
 abbrev pub Concludes : ℕ → ℕ → Device (List ℕ) → HostHow → Status → Type 0

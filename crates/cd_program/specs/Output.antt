@@ -7,7 +7,8 @@ use Rattle.cd_outside.specs.declared.given.Given.TheVariants as given
 use Rattle.cd_outside.specs.Given.{IsGivenOf}
 use Rattle.cd_serve.specs.Faults.{key_words}
 use Rattle.cd_host.specs.Hosting.{serving_line}
-use Rattle.cd_program.specs.Seen.{Device, HasFailed}
+use Rattle.cd_output.specs.Devices.{Device, HasFailed}
+use Rattle.cd_output.specs.Lines.{refused_line}
 
 -- so many requests were answered under so many configurations
 unfoldable pub served_line : ℕ → ℕ → List ℕ
@@ -16,10 +17,6 @@ served_line answered published = codes "served " ++ decimal answered ++ codes " 
 -- both lines of a run
 abbrev pub run_text : ℕ → ℕ → List ℕ
 run_text answered published = serving_line ++ served_line answered published
-
--- the line of a refusal in these words
-abbrev pub refused_line : List ℕ → List ℕ
-refused_line words = codes "refused: " ++ words ++ codes "\n"
 
 -- the line for a key that can't be opened
 abbrev pub unopened_line : Key → List ℕ

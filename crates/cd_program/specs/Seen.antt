@@ -3,28 +3,12 @@
 use Rattle.std.specs.Prelude.{◌≡◌, ℕ, List, Option}
 use Rattle.cd_outside.specs.declared.fixtures.FixtureCall.{FixtureCall}
 use Rattle.cd_outside.specs.declared.past.Past.{Past}
-use Rattle.cd_outside.specs.Counts.{Rose}
+use Rattle.cd_output.specs.Devices.{Device, device}
 use Rattle.cd_legal.specs.State.{Conf}
 use Rattle.cd_serve.specs.Reports.{Span}
 use Rattle.cd_host.specs.Runs.{Observed}
 use Rattle.cd_host.specs.Seated.{spans}
 use Rattle.cd_program.specs.declared.ended.Ended.{Ended}
-
--- what a part of the outside told and tells now, and how often its calls had failed and have
-pub record Device (T : Type 0) : Type 0 where
-  pub told_before : Option T
-  pub told_now : Option T
-  pub failed_before : ℕ
-  pub failed_now : ℕ
-
--- a call on it has failed in between
-abbrev pub HasFailed : {T : Type 0} → Device T → Type 0
-HasFailed d = Rose d.failed_before d.failed_now
-
--- it tells what it told, and no call on it has failed in between
-pub record IsSilent {T : Type 0} (d : Device T) : Type 0 where
-  pub told : d.told_now ≡ d.told_before
-  pub failed : d.failed_now ≡ d.failed_before
 
 -- The source tells what it has left, the output what it was given, the fixtures what they were asked for, and each lane its
 -- connections. The fixtures and the lanes stand here themselves too, as they were handed in and as they came back. Last is what was
@@ -78,10 +62,6 @@ module _ {F L : Type 0} (s : Seen F L) where
   }
 
 -- ---- what is seen of a call
-
--- a part of the outside that was this and is that, by what it tells and how often it has failed
-abbrev pub device : {A T : Type 0} → (A → Option T) → (A → ℕ) → A → A → Device T
-device told failed before now = record { told_before = told before; told_now = told now; failed_before = failed before; failed_now = failed now }
 
 -- what is seen of a call that was handed a source, an output, fixtures and lanes, and ended so
 module _ {S O F L : Type 0} (left : S → Option (List ℕ)) (source_faults : S → ℕ) (holds : O → Option (List ℕ)) (sink_faults : O → ℕ)

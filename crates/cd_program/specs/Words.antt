@@ -63,7 +63,3 @@ has_file (Serve initial) = is_of_file initial
 has_file Validate = true
 has_file (Storm number) = false
 has_file Unknown = false
-
--- the line for words that ask for nothing that is known
-abbrev pub usage_line : List ℕ
-usage_line = codes "usage: caddy_run run [--config FILE] | stdio --config FILE | validate --config FILE | storm N | run --resume\n"

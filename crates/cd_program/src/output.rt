@@ -2,7 +2,8 @@ ghost use Rattle.std.specs.Prelude.{◌≡◌, ◌<◌, ◌++◌, codes, length,
 ghost use Rattle.cd_outside.specs.Counts.{Rose};
 ghost use Rattle.cd_program.specs.Configuration.{words_of};
 ghost use Rattle.cd_serve.specs.Faults.{key_words};
-ghost use Rattle.cd_program.specs.Output.{Wrote, served_line, refused_line, unopened_line};
+ghost use Rattle.cd_program.specs.Output.{Wrote, served_line, unopened_line};
+ghost use Rattle.cd_output.specs.Lines.{refused_line};
 
 use crate::refusal::{Refusal, fault_words};
 use cd_host::say;

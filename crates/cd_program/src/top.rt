@@ -12,6 +12,7 @@ use crate::starting::run_all;
 use crate::status::Status;
 use crate::storm::run_storm;
 use crate::validating::validate;
+use cd_output::USAGE;
 use cd_outside::{Fixtures, Lane, Sink, Source};
 use cd_standard::Standard;
 use cd_text::{List, Text};
@@ -81,10 +82,7 @@ pub fn caddy_main<R: Threads + Wait + Sync, S: Source, O: Sink, F: Fixtures + Se
             lanes,
         ),
         Command::Unknown => {
-            let _ = say_line(
-                out,
-                "usage: caddy_run run [--config FILE] | stdio --config FILE | validate --config FILE | storm N | run --resume\n",
-            );
+            let _ = say_line(out, USAGE);
             unbegun(Status::Usage, fixtures, lanes)
         }
     }
