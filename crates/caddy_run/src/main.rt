@@ -1,7 +1,7 @@
 //! The program: it gives `caddy_main` of `cd_program`, or `caddy_saved` of `cd_saved`, the real forms of the outside.
 //!
 //! `run` serves the lanes of a reactor, over TCP, by the forms of `cd_tcp`, and saves in a file of the current folder, by those of
-//! `cd_disk`. `stdio` serves standard input and output, by those of
+//! `cd_disk`. `reverse-proxy` relays what comes to such lanes, by `proxy_main` of `cd_reverse_proxy` (proxying.rt). `stdio` serves standard input and output, by those of
 //! `cd_stdio`; words that serve nothing get the same lane, and it comes back untouched. lanes.rt says how many lanes there are,
 //! words.rt reads the words and finds the file of the configuration, serving.rt calls `caddy_main`, and ending.rt says on standard
 //! error what has failed. No contract speaks of what a stream, a socket or a file holds: what the program does with them is proved
@@ -10,6 +10,7 @@
 
 mod ending;
 mod lanes;
+mod proxying;
 mod serving;
 mod words;
 
@@ -18,6 +19,7 @@ use cd_stdio::{AfterMessages, Announced, Console, Messages, StreamLane, Watched}
 use cd_tcp::{Reactor, TcpFixtures};
 use ending::{tell_cause, tell_cut};
 use lanes::tcp_lanes;
+use proxying::{over_peers, tcp_peers};
 use serving::{over_disk, over_streams};
 use std::process::ExitCode;
 use words::{begins_with, config_source, words_of};
@@ -49,6 +51,27 @@ fn main(rt: HostRuntime) -> ExitCode {
         let cut = served.cut.saturating_add(reactor.cut(&rt));
         tell_cut(&rt, alloc, &messages, cut);
         tell_cause(alloc, &mut rt.stderr(), words, &config);
+        Ok(served.status)
+    } else if begins_with(words, "reverse-proxy") {
+        let Ok(error) = Watched::new(&rt, alloc, rt.stderr()) else {
+            return ExitCode::from(5);
+        };
+        let messages = Messages::new(alloc, error);
+        let Ok(reactor) = Reactor::new(&rt, alloc, rt.stdout(), rt.stderr()) else {
+            return ExitCode::from(5);
+        };
+        let Ok(lanes) = tcp_lanes(&rt, alloc, &reactor, &messages) else {
+            return ExitCode::from(5);
+        };
+        let Ok(peers) = tcp_peers(&rt, alloc, &reactor) else {
+            return ExitCode::from(5);
+        };
+        let fixtures = TcpFixtures::new(&rt, alloc, &reactor);
+        let fixtures = Announced::new(&rt, alloc, fixtures, &messages);
+        let out = AfterMessages::new(&rt, Console::new(rt.stdout()), &messages);
+        let served = over_peers(&rt, alloc, words, out, fixtures, lanes, peers);
+        let cut = served.cut.saturating_add(reactor.cut(&rt));
+        tell_cut(&rt, alloc, &messages, cut);
         Ok(served.status)
     } else if begins_with(words, "stdio") {
         let lane = StreamLane::new(&rt, alloc, rt.stdin(), rt.stdout(), rt.stderr());

@@ -4,18 +4,24 @@
 //! is said in `cd_rows`. The exit status is 0 where every row of every file agrees.
 #![tactic(auto)]
 
+mod commands;
 mod forwards;
+mod handles;
 mod kinds;
 mod picks;
 mod relays;
 mod responses;
 
 use cd_rows::check_files;
+use handles::Handles;
 use kinds::Cases;
 use std::process::ExitCode;
 
 fn main(rt: HostRuntime) -> ExitCode {
-    match check_files(&rt, &Cases { rt: &rt }) {
+    let cases = Cases {
+        handles: Handles::of(&rt),
+    };
+    match check_files(&rt, &cases) {
         Ok(true) => ExitCode::SUCCESS,
         Ok(false) => ExitCode::from(1),
         Err(_) => ExitCode::from(2),

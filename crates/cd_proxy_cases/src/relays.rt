@@ -1,20 +1,19 @@
-//! Requests that are relayed, one after another, for one client, by peers in memory.
+//! A connection that is relayed by a worker with peers in memory.
 //!
 //!     {"relay": BYTES, "policy": POLICY, "upstreams": NUMBER, "responses": [BYTES, ..], "fails": [NUMBER, ..], "answered": BYTES}
 //!
-//! The bytes are requests. Each exchange reads the next of the responses, and then its end; a dial after the last one fails, and so
+//! The bytes come on the connection, and then its end. Each exchange reads the next of the responses, and then its end; a dial after the last one fails, and so
 //! do the calls on the peers whose numbers are in `fails`, counted from 0. What is wanted is, for each exchange, the port of its
 //! upstream, `<`, the first line that was put on it, `|`, and then what the client was sent.
-ghost use Rattle.std.specs.Prelude.{◌≡◌, ◌<◌, length, true, false, is_some};
+ghost use Rattle.std.specs.Prelude.{◌≡◌, ◌<◌, length, false, is_some};
 
 use crate::picks::{count_of, policy_of, upstreams_of};
-use cd_outside::{Accepted, Address, Call, Lane, MemoryLane};
-use cd_peers::{Balancer, Dialled, MemoryPeers, Peers, Policy};
-use cd_proxy::relay;
+use cd_gateway::relay_lane;
+use cd_outside::{Address, Call, MemoryLane};
+use cd_peers::{Balancer, Dialled, MemoryPeers, Policy};
 use cd_rows::{Outcome, RowFault, bytes_at, bytes_of, find, number_of, only, text_of};
 use cd_text::{List, NoMemory, Octets, decimal, split_at_byte};
 use cd_tree::Tree;
-use cd_wire::{Intake, Next};
 use std::alloc::Global;
 use std::sync::{Mutex, Wait};
 
@@ -28,14 +27,14 @@ pub fn relay_outcome<R: Wait>(rt: &R, alloc: Global, row: &Tree) -> Result<Outco
     let policy = policy_of(text_of(row, "policy")?)?;
     let count = count_of(row)?;
     let requests = bytes_at(alloc, row, "relay")?;
-    let bytes = relayed(rt, alloc, row, policy, count, requests.as_slice())?;
+    let bytes = relayed(rt, alloc, row, policy, count, requests)?;
     Ok(Outcome {
         member: "answered",
         bytes,
     })
 }
 
-fn script_of(alloc: Global, row: &Tree) -> Result<List<Call>, RowFault> {
+pub(crate) fn script_of(alloc: Global, row: &Tree) -> Result<List<Call>, RowFault> {
     let Some(Tree::Items(responses)) = find(row, "responses") else {
         return Err(RowFault::Malformed("responses that are no list"));
     };
@@ -56,9 +55,10 @@ fn call_of(alloc: Global, bytes: Octets) -> Result<Call, NoMemory> {
     })
 }
 
-fn failing(alloc: Global, row: &Tree) -> Result<List<u64>, RowFault> {
+// The numbers that the row lists under this name.
+pub(crate) fn failing(alloc: Global, row: &Tree, name: &str) -> Result<List<u64>, RowFault> {
     let mut numbers = List::new(alloc);
-    if let Some(Tree::Items(trees)) = find(row, "fails") {
+    if let Some(Tree::Items(trees)) = find(row, name) {
         for tree in trees.as_slice() {
             numbers.push(u64::from(number_of(tree)?))?;
         }
@@ -73,31 +73,30 @@ fn relayed<R: Wait>(
     row: &Tree,
     policy: Policy,
     count: u16,
-    requests: &[u8],
+    requests: Octets,
 ) -> Result<Octets, RowFault> {
     let script = script_of(alloc, row)?;
-    let fails = failing(alloc, row)?;
-    let client = client_of(alloc)?;
+    let fails = failing(alloc, row, "fails")?;
+    let client = client_of(alloc, requests)?;
     let known = upstreams_of(alloc, count)?;
     let upstreams = upstreams_of(alloc, count)?;
     let balancer = Mutex::new(Balancer::new(policy, known));
     let mut lane = MemoryLane::new(alloc, client, List::new(alloc));
     let mut peers = MemoryPeers::new(alloc, script, fails);
-    played(
+    Ok(played(
         rt,
         alloc,
         &balancer,
         upstreams.as_slice(),
         &mut lane,
         &mut peers,
-        requests,
-    )
+    )?)
 }
 
-// One connection, of which nothing is read.
-fn client_of(alloc: Global) -> Result<List<Call>, NoMemory> {
+// One connection, on which these bytes come, and then the end.
+pub(crate) fn client_of(alloc: Global, requests: Octets) -> Result<List<Call>, NoMemory> {
     let mut script = List::new(alloc);
-    script.push(call_of(alloc, Octets::new(alloc))?)?;
+    script.push(call_of(alloc, requests)?)?;
     Ok(script)
 }
 
@@ -108,66 +107,13 @@ fn played<R: Wait>(
     upstreams: &[Address],
     lane: &mut MemoryLane,
     peers: &mut MemoryPeers,
-    requests: &[u8],
-) -> Result<Octets, RowFault>
+) -> Result<Octets, NoMemory>
     requires some { 0 < length upstreams.now }
     requires lane { is_some lane.old.current ≡ false }
     requires peers { is_some peers.old.current ≡ false }
 {
-    relay_all(rt, alloc, balancer, upstreams, lane, peers, requests)?;
-    Ok(told(alloc, lane, peers)?)
-}
-
-// Relays each of the requests, as far as the lane has a connection.
-fn relay_all<R: Wait, L: Lane, P: Peers>(
-    rt: &R,
-    alloc: Global,
-    balancer: &Mutex<Balancer>,
-    upstreams: &[Address],
-    lane: &mut L,
-    peers: &mut P,
-    bytes: &[u8],
-) -> Result<(), NoMemory>
-    requires some { 0 < length upstreams.now }
-    requires lane { L.busy lane.old ≡ false }
-    requires peers { P.busy peers.old ≡ false }
-{
-    let mut intake = Intake::new(alloc);
-    intake.push(bytes)?;
-    match lane.accept() {
-        Accepted::Connection(_) => relay_each(
-            rt,
-            alloc,
-            balancer,
-            upstreams,
-            lane,
-            peers,
-            &mut intake,
-        ),
-        _ => Ok(()),
-    }
-}
-
-fn relay_each<R: Wait, L: Lane, P: Peers>(
-    rt: &R,
-    alloc: Global,
-    balancer: &Mutex<Balancer>,
-    upstreams: &[Address],
-    lane: &mut L,
-    peers: &mut P,
-    intake: &mut Intake,
-) -> Result<(), NoMemory>
-    requires some { 0 < length upstreams.now }
-    requires lane { L.busy lane.old ≡ true }
-    requires peers { P.busy peers.old ≡ false }
-{
-    for _ in 0..16u8 {
-        let Next::Request(request) = intake.next(true)? else {
-            return Ok(());
-        };
-        relay(rt, alloc, balancer, upstreams, 0, lane, peers, &request);
-    }
-    Ok(())
+    relay_lane(rt, alloc, balancer, upstreams, 0, lane, peers);
+    told(alloc, lane, peers)
 }
 
 fn told(alloc: Global, lane: &MemoryLane, peers: &MemoryPeers) -> Result<Octets, NoMemory> {
@@ -181,7 +127,11 @@ fn told(alloc: Global, lane: &MemoryLane, peers: &MemoryPeers) -> Result<Octets,
     Ok(out)
 }
 
-fn put_exchange(alloc: Global, out: &mut Octets, dialled: &Dialled) -> Result<(), NoMemory> {
+pub(crate) fn put_exchange(
+    alloc: Global,
+    out: &mut Octets,
+    dialled: &Dialled,
+) -> Result<(), NoMemory> {
     let port = decimal(alloc, u64::from(dialled.address.port))?;
     out.append(port.as_str().as_bytes())?;
     out.push(b'<')?;
