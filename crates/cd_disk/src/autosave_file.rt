@@ -31,7 +31,7 @@ pub fn limits_are()
 ///
 /// A call fails where the file can't be opened, and changes nothing: where it is no regular file, where another program has made it
 /// (its first byte is neither 0 nor 1, or it has more than `MAX_FILE_BYTES`), where another server has it open, and where a file of
-/// that name came after it was found missing. A sync also fails where the file was moved or removed since.
+/// that name came after it was found missing, unless that file is empty. A sync also fails where the file was moved or removed since.
 pub struct AutosaveFile<'r, R: Files<File = File>> {
     files: &'r R,
     path: &'r str,
@@ -140,16 +140,30 @@ fn find<R: Files<File = File>>(files: &R, path: &str) -> io::Result<Found> {
     }
 }
 
-// Makes the file. It fails where something of that name has come.
+// Makes the file. It fails where something of that name has come that is not empty. A file that was made and could not be locked is
+// found empty by a later call.
 fn make<R: Files<File = File>>(files: &R, path: &str) -> io::Result<File> {
     let file = OpenOptions::new()
         .read(true)
         .write(true)
-        .create_new(true)
+        .create(true)
         .mode(MODE)
         .open(files, path)?;
+    is_regular(&file)?;
     lock(&file)?;
+    is_empty(&file)?;
     Ok(file)
+}
+
+fn is_empty(file: &File) -> io::Result<()> {
+    if file.metadata()?.len() == 0 {
+        Ok(())
+    } else {
+        Err(io::Error::new(
+            ErrorKind::AlreadyExists,
+            "it has come since it was found missing",
+        ))
+    }
 }
 
 fn is_regular(file: &File) -> io::Result<()> {

@@ -1,4 +1,4 @@
-ghost use Rattle.std.specs.Prelude.{◌≡◌, List, ℕ, Option, None, take, IfOk, IfSome, OnErr};
+ghost use Rattle.std.specs.Prelude.{◌≡◌, ◌<◌, List, ℕ, Option, None, length, take, IfOk, IfSome, OnErr};
 ghost use Rattle.std.specs.Io.{ReadsAtMost, WritesAtMost};
 ghost use Rattle.cd_disk.specs.RawFile.{Reads, Writes};
 
@@ -9,9 +9,10 @@ pub trait RawFile {
     /// The bytes of the file, where it tells them. One of the system does not.
     ghost bytes: { Self → Option (List ℕ) };
 
-    /// Reads bytes from a place on into the front of `into`, and says how many: none where the place is the end of the file or past
-    /// it.
+    /// Reads bytes from a place on into the front of `into`, which may not be empty, and says how many: none where the place is the
+    /// end of the file or past it.
     fn read_at(&mut self, at: u64, into: &mut [u8]) -> io::Result<usize>
+        requires { 0 < length into.old }
         ensures bound { ReadsAtMost result into.new }
         ensures bytes { IfOk result (λ n. IfSome (bytes self.old) (λ image. Reads n at into.new image)) }
         ensures kept { bytes self.new ≡ bytes self.old };

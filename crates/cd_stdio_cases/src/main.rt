@@ -29,7 +29,7 @@ use saving::{
     a_disk_goes_on_after_a_short_write, a_disk_leaves_messages, a_failed_sync_ends_a_disk,
     a_file_has_what_was_saved, a_file_is_made_by_the_first_write, a_file_is_open_once,
     a_file_that_has_come_stays, a_file_that_was_moved_is_missed, a_full_disk_fails,
-    what_is_no_saved_file_stays,
+    an_empty_file_is_used, what_is_no_saved_file_stays,
 };
 use std::fs::{File, Files};
 use std::io;
@@ -125,6 +125,7 @@ fn tell_files<R: Print + Files<File = File> + AllocGlobal>(rt: &R) -> io::Result
     tell(rt, "what is no saved file stays", other)?;
     let come = a_file_that_has_come_stays(rt);
     tell(rt, "a file that has come stays", come)?;
+    tell(rt, "an empty file is used", an_empty_file_is_used(rt))?;
     tell(rt, "a file is open once", a_file_is_open_once(rt))?;
     let moved = a_file_that_was_moved_is_missed(rt);
     tell(rt, "a file that was moved is missed", moved)?;

@@ -155,6 +155,25 @@ pub fn a_file_that_has_come_stays<R: Files<File = File> + AllocGlobal>(rt: &R) -
         && has_text(rt, "late.bin", "hello\n")
 }
 
+/// Whether an empty file that has come is used once nobody has it locked, and stays until then.
+pub fn an_empty_file_is_used<R: Files<File = File> + AllocGlobal>(rt: &R) -> bool {
+    let mut disk = disk_at(rt, "empty.bin");
+    let begun = disk.sync() == Given::All;
+    let Ok(other) = File::create_new(rt, "empty.bin") else {
+        return false;
+    };
+    let refused = other.try_lock().is_ok()
+        && disk.write_at(0, b"\0") == Given::Failed
+        && failed_by(&disk, ErrorKind::ResourceBusy)
+        && has_text(rt, "empty.bin", "");
+    drop(other);
+    begun
+        && refused
+        && disk.write_at(0, b"\0") == Given::All
+        && disk.faults == 1
+        && has_text(rt, "empty.bin", "\0")
+}
+
 /// Whether a file that one has open is refused to others, until it is closed.
 pub fn a_file_is_open_once<R: Files<File = File> + AllocGlobal>(rt: &R) -> bool {
     let mut disk = disk_at(rt, "once.bin");
