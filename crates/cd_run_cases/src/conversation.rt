@@ -34,7 +34,7 @@ impl<R: Threads + Wait + Sync> Kinds for Conversations<R> {
         only(
             alloc,
             row,
-            "asked calls configuration configuration_bytes connections ends fails lanes meet pieces rests sizes words",
+            "asked calls configuration configuration_bytes connections ends fails keeps lanes meet pieces rests sizes words",
         )?;
         Ok(Outcome {
             member: "ends",
@@ -101,6 +101,7 @@ fn shown_of(row: &Tree) -> Result<Shown, RowFault> {
         rests: is_true(row, "rests")?,
         calls: is_true(row, "calls")?,
         lanes: has(row, "lanes"),
+        keeps: is_true(row, "keeps")?,
     })
 }
 
@@ -182,7 +183,7 @@ pub(crate) fn failing(alloc: Global, row: &Tree, part: &str) -> Result<List<u64>
     let Some(parts) = find(row, "fails") else {
         return Ok(List::new(alloc));
     };
-    only(alloc, parts, "configuration fixtures lane output")?;
+    only(alloc, parts, "configuration fixtures keeps lane output")?;
     match find(parts, part) {
         None => Ok(List::new(alloc)),
         Some(Tree::Items(numbers)) => numbers_of(alloc, numbers.as_slice()),

@@ -10,10 +10,14 @@
 //! --                                                a line before what each connection was sent
 //! HTTP/1.1 200 OK
 //! logged stderr "s" GET / 200 0                     the lines that were logged while it was there
+//! kept 2 after 0 {"apps":null}                      the configurations that were kept meanwhile, each after so many bytes, where the
+//!                                                   row asks for it
 //! ```
 use crate::resting::RestingLane;
 use cd_addr::write;
-use cd_outside::{Accepted, FixtureCall, Key, Logged, MemoryFixtures, MemorySink, Past};
+use cd_outside::{
+    Accepted, FixtureCall, KeepRecord, Key, Logged, MemoryFixtures, MemorySink, Past,
+};
 use cd_program::Ended;
 use cd_rows::RowFault;
 use cd_text::{NoMemory, Octets};
@@ -25,6 +29,7 @@ pub struct Shown {
     pub rests: bool,
     pub calls: bool,
     pub lanes: bool,
+    pub keeps: bool,
 }
 
 /// The text of a run that ended so with this output.
@@ -48,7 +53,7 @@ pub fn text_of(
         if shown.lanes {
             text.append(if lane.alone { b"== alone\n" } else { b"==\n" })?;
         }
-        append_sent(&mut text, lane.lane.past())?;
+        append_sent(alloc, &mut text, lane.lane.past(), shown.keeps)?;
     }
     Ok(text)
 }
@@ -131,11 +136,29 @@ fn append_call(alloc: Global, text: &mut Octets, what: &str, key: &Key) -> Resul
     Ok(())
 }
 
-fn append_sent(text: &mut Octets, past: &Past) -> Result<(), NoMemory> {
+fn append_sent(alloc: Global, text: &mut Octets, past: &Past, keeps: bool) -> Result<(), NoMemory> {
     for connection in past.connections.as_slice() {
         text.append(b"--\n")?;
         text.append(connection.put.as_slice())?;
         append_lines(text, connection.lines.as_slice())?;
+        if keeps {
+            append_keeps(alloc, text, connection.keeps.as_slice())?;
+        }
+    }
+    Ok(())
+}
+
+// The configurations that were kept, each with its serial and the bytes that were put before, on lines of their own.
+fn append_keeps(alloc: Global, text: &mut Octets, keeps: &[KeepRecord]) -> Result<(), NoMemory> {
+    for kept in keeps {
+        let serial = kept.serial;
+        let put = kept.put;
+        let first = format!(in alloc; "\nkept {serial} after {put} ")?;
+        text.append(first.as_bytes())?;
+        text.append(kept.text.as_slice())?;
+    }
+    if !keeps.is_empty() {
+        text.push(b'\n')?;
     }
     Ok(())
 }

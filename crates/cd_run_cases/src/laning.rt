@@ -32,7 +32,14 @@ fn one_lane(alloc: Global, row: &Tree, size: usize) -> Result<List<RestingLane>,
     ensures idle { IfOk result (λ lanes. All (λ lane. is_some lane.lane.current ≡ false) lanes) }
 {
     let script = script_of(alloc, row, size)?;
-    let lane = idle_lane(alloc, script, failing(alloc, row, "lane")?, Places::none());
+    let unkept = failing(alloc, row, "keeps")?;
+    let lane = idle_lane(
+        alloc,
+        script,
+        failing(alloc, row, "lane")?,
+        unkept,
+        Places::none(),
+    );
     let mut lanes = List::new(alloc);
     lanes.push(lane)?;
     Ok(lanes)
@@ -75,14 +82,26 @@ fn listed_lane(
 {
     only(alloc, tree, "asked connections fails pieces waits")?;
     let script = script_of(alloc, tree, size)?;
-    Ok(idle_lane(alloc, script, lane_failing(alloc, tree)?, places))
+    Ok(idle_lane(
+        alloc,
+        script,
+        lane_failing(alloc, tree)?,
+        List::new(alloc),
+        places,
+    ))
 }
 
-// A lane with this script, on which no connection is there.
-fn idle_lane(alloc: Global, script: List<Call>, failing: List<u64>, places: Places) -> RestingLane
+// A lane with this script, on which no connection is there, and the numbers of its calls that fail, and of what it fails to keep.
+fn idle_lane(
+    alloc: Global,
+    script: List<Call>,
+    failing: List<u64>,
+    unkept: List<u64>,
+    places: Places,
+) -> RestingLane
     ensures { is_some result.lane.current ≡ false }
 {
-    RestingLane::new(MemoryLane::new(alloc, script, failing), places)
+    RestingLane::new(MemoryLane::new(alloc, script, failing), unkept, places)
 }
 
 // The numbers of the calls of this lane that fail.

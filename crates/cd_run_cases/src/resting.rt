@@ -1,15 +1,18 @@
 ghost use Rattle.std.specs.Prelude.{◌≡◌, None, false, is_some};
 
 use crate::meeting::Meeting;
-use cd_outside::{Accepted, Given, Key, Lane, MemoryLane, Taken};
-use cd_text::Text;
+use cd_outside::{Accepted, Faults, Given, Key, Lane, MemoryLane, Taken};
+use cd_text::{List, Text};
 use std::sync::Wait;
 
-/// A lane in memory that counts how often it may rest. Where the row says so, it waits for other lanes before its first read.
+/// A lane in memory that counts how often it may rest. Where the row says so, it waits for other lanes before its first read, and
+/// fails to keep configurations.
 #[derive(Drop)]
 pub struct RestingLane {
     pub lane: MemoryLane,
     pub rests: u64,
+    /// Which configurations it fails to keep, by their numbers from 0.
+    unkept: Faults,
     /// Where it is to wait for all lanes, until it has been asked for a connection.
     coming: Option<Meeting>,
     /// Where it is to wait before its first read.
@@ -43,8 +46,8 @@ impl Places {
 }
 
 impl RestingLane {
-    /// This lane, on which no connection is there.
-    pub fn new(lane: MemoryLane, places: Places) -> RestingLane
+    /// This lane, on which no connection is there. It fails to keep the configurations with these numbers, counted from 0.
+    pub fn new(lane: MemoryLane, unkept: List<u64>, places: Places) -> RestingLane
         requires { lane.current ≡ None }
         ensures { is_some result.lane.current ≡ false }
     {
@@ -56,6 +59,7 @@ impl RestingLane {
         RestingLane {
             lane,
             rests: 0,
+            unkept: Faults::new(unkept),
             coming,
             waiting,
             answering,
@@ -103,6 +107,10 @@ impl Lane for RestingLane {
     }
 
     fn keep<R: Wait>(&mut self, rt: &R, serial: u32, text: &[u8]) -> Given {
+        if self.unkept.fails() {
+            self.lane.faults.rise();
+            return Given::Failed;
+        }
         self.lane.keep(rt, serial, text)
     }
 

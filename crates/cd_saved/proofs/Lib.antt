@@ -1,3 +1,4 @@
 mod Sharing
 mod Held
 mod Over
+mod Examples

@@ -2,7 +2,8 @@
 ghost use Rattle.std.specs.Prelude.{◌≡◌, ◌≤◌, false, [], All, length, vec_len};
 ghost use Rattle.std.specs.Vec.{vec_capacity};
 ghost use Rattle.cd_legal.specs.declared.limits.TheConstants.{MAX_LANES};
-ghost use Rattle.cd_program.specs.Seen.{device, seen};
+ghost use Rattle.cd_program.specs.Seen.{seen};
+ghost use Rattle.cd_output.specs.Devices.{device};
 ghost use Rattle.cd_program.specs.Words.{IsSoundStart, is_of_file};
 ghost use Rattle.cd_saved.specs.Running.{RanShared};
 ghost use Rattle.cd_saved.specs.Top.{HasRunOver};
