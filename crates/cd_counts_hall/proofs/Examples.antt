@@ -5,11 +5,15 @@ use Rattle.cd_legal.specs.declared.entry.Entry.TheVariants.{Finish, Halt}
 use Rattle.cd_legal.specs.declared.state.State.{State}
 use Rattle.cd_legal.specs.Entry.{signed}
 use Rattle.cd_legal.specs.State.{opening_state}
+use Rattle.cd_counts.specs.Knowing.{Knows}
 use Rattle.cd_counts.specs.Steps.{first_view, with_turn}
 use Rattle.cd_counts.specs.Tables.{Found}
 use Rattle.cd_counts_hall.specs.Dues.{is_last_at, is_before_halt, DueThen}
+use Rattle.cd_counts_hall.specs.GoesOn.{GoesOn, Settles}
+use Rattle.cd_counts_hall.specs.Requests.{HasLooked}
 use Rattle.cd_counts_hall.specs.Since.{Since}
 use Rattle.cd_counts_hall.specs.Turned.{Turned}
+use Rattle.cd_counts_hall.proofs.Goes.{goes_none}
 use Rattle.cd_counts_hall.proofs.Since.{entered}
 
 -- serial 1 is current, and one request runs under serial 0
@@ -49,3 +53,25 @@ module _ (b : State) where
 
   not_turned : Turned (first_view b) (first_view b) [] (Finish 0 ∷ []) → ⊥
   not_turned t = absurd (let h : [] ≡ signed 0 (Finish 0) ∷ [] = t.is in cc)
+
+  -- in its turn it has made nothing yet, and has nothing settled
+  knows : Knows (with_turn (first_view b) [])
+  knows = record { history = record { is_legal = refl; is_signed = refl }; own = refl; owes = refl; duties = λ n has. absurd (let h : false ≡ true = has in cc) }
+
+  goes : GoesOn (with_turn (first_view b) []) (with_turn (first_view b) []) []
+  goes = goes_none (with_turn (first_view b) []) knows
+
+  not_goes : GoesOn (with_turn (first_view b) []) (with_turn (first_view b) []) (Halt 1 ∷ []) → ⊥
+  not_goes g = absurd (let h : [] ≡ signed 0 (Halt 1) ∷ [] = g.core_is in cc)
+
+  settles : Settles (with_turn (first_view b) []) (with_turn (first_view b) []) [] []
+  settles = record { unsettled = with_turn (first_view b) []; goes = goes; settled = refl; more = refl }
+
+  not_settles : Settles (with_turn (first_view b) []) (with_turn (first_view b) []) [] (0 ∷ []) → ⊥
+  not_settles s = absurd (let h : [] ≡ 0 ∷ [] = s.more in cc)
+
+  looked : HasLooked (first_view b) (with_turn (first_view b) [])
+  looked = record { found = []; since = since; checked = refl }
+
+  not_looked : HasLooked (first_view b) (record (with_turn (first_view b) []) { checked = true }) → ⊥
+  not_looked l = absurd (let h : true ≡ false = l.checked in cc)

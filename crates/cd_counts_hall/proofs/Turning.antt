@@ -1,5 +1,5 @@
 -- A turn that was taken, or in which an entry was added.
-use Rattle.std.proofs.Common.{◌≡◌, ◌≤◌, true, false, List, [], ◌∷◌, ◌++◌, sym, ap, subst, ◌∙◌}
+use Rattle.std.proofs.Common.{◌≡◌, ◌≤◌, ℕ, true, false, List, [], ◌∷◌, ◌++◌, sym, ap, subst, ◌∙◌}
 use Rattle.cd_legal.specs.declared.entry.Entry.{Entry}
 use Rattle.cd_legal.specs.declared.entry.Signed.{Signed}
 use Rattle.cd_legal.specs.declared.limits.TheConstants.{LAST_SERIAL}
@@ -7,6 +7,7 @@ use Rattle.cd_legal.specs.Entry.{signed}
 use Rattle.cd_legal.specs.Laws.{core_at}
 use Rattle.cd_legal.specs.Legal.{state_at}
 use Rattle.cd_legal.specs.Signing.{IsHistory}
+use Rattle.cd_legal.proofs.Cores.{is_apart}
 use Rattle.cd_legal.proofs.Histories.{first}
 use Rattle.cd_counts.specs.declared.gate.Gate.{Gate}
 use Rattle.cd_counts.specs.declared.pass.Pass.{Pass}
@@ -15,12 +16,13 @@ use Rattle.cd_counts.specs.declared.view.View.{View}
 use Rattle.cd_counts.specs.Counts.{is_noted}
 use Rattle.cd_counts.specs.Knowing.{Knows}
 use Rattle.cd_counts.specs.Passes.{view, HasTurnOf, opening_of}
-use Rattle.cd_counts.specs.Steps.{may_note, with_turn, noted}
+use Rattle.cd_counts.specs.Steps.{may_note, with_turn, noted, superseded}
 use Rattle.cd_counts.specs.Tables.{FoundInTurn, Finds}
 use Rattle.cd_counts.proofs.Cored.{noted_core, one_more}
 use Rattle.cd_counts.proofs.InTurn.{finds, knows_noted}
 use Rattle.cd_counts_hall.specs.Since.{Since}
 use Rattle.cd_counts_hall.specs.Turns.{InTurn}
+use Rattle.cd_counts_hall.proofs.Goes.{apart_core, knows_superseded}
 use Rattle.cd_counts_hall.proofs.Since.{entered}
 
 module _ {T : Type 0} where
@@ -53,4 +55,17 @@ module _ {T : Type 0} where
         knows = subst (λ (z : View T). Knows z) (sym is) (knows_noted (view p) log e f now knows);
         board = subst (λ (b : T). stands (opening_of g) b (core_at (view q).seen)) (sym (ap (λ (z : Turn T). z.value) same))
             (subst (λ (l : List Signed). stands (opening_of g) t.value l) (sym core) board);
+      }
+
+  -- the pass has superseded a serial by the entry, which is then made on the board
+  pub superseded_turn : (stands : T → T → List Signed → Type 0) (g : Gate T) (u : Turn T) (p q : Pass T) (log : List Signed) (e : Entry) (n begins : ℕ) → Knows (view p) → FoundInTurn (view p) log → IsHistory (log ++ signed (view p).number e ∷ []) → is_apart e ≡ true
+      → HasTurnOf g q → view q ≡ superseded (view p) log e n begins → stands (opening_of g) u.value (core_at (view p).seen ++ signed (view p).number e ∷ []) → InTurn stands g u q
+  superseded_turn stands g u p q log e n begins knows f now apart turn is board =
+      let x : Signed = signed (view p).number e in
+      let core : core_at (view q).seen ≡ core_at (view p).seen ++ x ∷ [] =
+      ap (λ (z : View T). core_at z.seen) is ∙ (one_more log x (apart_core e apart) ∙ ap (λ (l : List Signed). l ++ x ∷ []) f.core_is) in
+      record {
+        turn = turn;
+        knows = knows_superseded (view p) (view q) log e n begins knows f now apart is;
+        board = subst (λ (l : List Signed). stands (opening_of g) u.value l) (sym core) board;
       }

@@ -1,6 +1,12 @@
 pub mod Turned
 pub mod Spread
 pub mod Since
-pub mod Turns
 pub mod Dues
+pub mod GoesOn
+pub mod Turns
 pub mod Requests
+pub mod Tickets
+pub mod Drafts
+pub mod Calls
+pub mod Ends
+pub mod Publishing

@@ -1,5 +1,6 @@
 //! What a pass has made in a turn, step by step, and what the end of a request is; each as a call that does nothing.
 ghost use Rattle.std.specs.Prelude.{◌≡◌, ◌++◌, ◌∷◌, [], ℕ, Bool, List, Some, cond, false};
+ghost use mathlib.Core.List.{IsPrefix};
 ghost use Rattle.cd_legal.specs.declared.entry.Entry.{Entry};
 ghost use Rattle.cd_legal.specs.declared.entry.Entry.TheVariants.{Begin, Finish};
 ghost use Rattle.cd_legal.specs.declared.entry.Signed.{Signed};
@@ -11,14 +12,18 @@ ghost use Rattle.cd_legal.specs.Placed.{Placed, placed_entries};
 ghost use Rattle.cd_legal.specs.Serials.{last_conf, publishings};
 ghost use Rattle.cd_legal.specs.Signing.{IsHistory};
 ghost use Rattle.cd_counts.specs.declared.view.View.{View};
+ghost use Rattle.cd_counts.specs.Growing.{Places, all_signed};
 ghost use Rattle.cd_counts.specs.Steps.{with_turn, without_turn, checking, worn, noted, superseded, settled};
 ghost use Rattle.cd_counts.specs.Tables.{Found, FoundInTurn, Begins, Ends};
 ghost use Rattle.cd_counts_hall.specs.Dues.{DueThen};
 ghost use Rattle.cd_counts_hall.specs.Since.{Since};
 ghost use Rattle.cd_counts_hall.specs.Spread.{Spread};
-ghost use Rattle.cd_counts_hall.specs.Turned.{Turned};
+ghost use Rattle.cd_counts_hall.specs.Tickets.{HasConfiguration, IsTicketOf};
+ghost use Rattle.cd_counts_hall.specs.Turned.{Turned, placed_behind};
 
+use crate::hall::Ticket;
 use cd_legal::Stands;
+use cd_module_set::ModuleSet;
 
 /// A turn begins with no entry. Each step that adds one adds it right after the history that the step met.
 pub fn turns_go_on_by_steps<T: Stands>()
@@ -56,3 +61,25 @@ pub fn requests_leave_all_else()
     ensures publishings { (log : List Signed) → publishings (entries (core_at log)) ≡ publishings (entries log) }
     ensures conf { (log : List Signed) → last_conf (entries (core_at log)) ≡ last_conf (entries log) }
 {}
+
+/// The entries that a call made in a turn of its own stand one after another, right after the history that it found.
+pub fn turns_place_their_entries<T: Stands>()
+    ensures places { (v w : View T) (found : List Signed) (made : List Entry) → Turned v w found made → Places v w (placed_behind v.number found made) }
+    ensures entries { (k : ℕ) (found : List Signed) (made : List Entry) → placed_entries (placed_behind k found made) ≡ made }
+{}
+
+/// What a call made in a turn of its own is spread over the history by places too, and begins with what was found. Where nobody else
+/// has made an entry, the call found what its pass had seen.
+pub fn turns_spread_their_entries<T: Stands>()
+    ensures spreads { (v w : View T) (found : List Signed) (made : List Entry) → Turned v w found made → Spread v w found made }
+    ensures found { (v w : View T) (found : List Signed) (made : List Entry) → Spread v w found made → IsPrefix found w.seen }
+    ensures alone { (v w : View T) (found : List Signed) (made : List Entry) → Spread v w found made → w.seen ≡ v.seen ++ all_signed v.number made → found ≡ v.seen }
+{}
+
+/// While the history grows, a ticket keeps the configuration of its serial, and is that of its pass until this ends the request.
+pub fn tickets_keep_their_configurations<T: Stands, M: ModuleSet>(ticket: &Ticket<M>)
+    ensures conf { (v w : View T) → HasConfiguration v ticket.now → IsPrefix v.seen w.seen → IsHistory w.seen → HasConfiguration w ticket.now }
+    ensures own { (v w : View T) → IsTicketOf v ticket.now → IsPrefix v.seen w.seen → IsHistory w.seen → w.ticket ≡ v.ticket → IsTicketOf w ticket.now }
+{
+    let _ = ticket;
+}

@@ -1,22 +1,19 @@
 // A turn: it is taken, entries are added in it, and it is left. Whatever is guarded, it stands for what the pass has seen without
 // Begin and Finish.
 ghost use Rattle.std.specs.Prelude.{◌≡◌, ◌≤◌, ◌++◌, ◌∷◌, [], ℕ, List, Some, None, slice_get, true, false};
-ghost use Rattle.cd_legal.specs.declared.entry.Entry.{Entry};
 ghost use Rattle.cd_legal.specs.declared.entry.Signed.{Signed};
 ghost use Rattle.cd_legal.specs.declared.limits.TheConstants.{LAST_SERIAL};
 ghost use Rattle.cd_legal.specs.Entry.{signed};
 ghost use Rattle.cd_legal.specs.Laws.{core_at};
 ghost use Rattle.cd_legal.specs.Legal.{state_at};
-ghost use Rattle.cd_legal.specs.Placed.{Placed, placed_entries};
 ghost use Rattle.cd_legal.specs.Signing.{IsHistory};
 ghost use Rattle.cd_legal.specs.Whole.{nothing_left};
-ghost use Rattle.cd_counts.specs.declared.view.View.{View};
 ghost use Rattle.cd_counts.specs.Knowing.{Knows};
 ghost use Rattle.cd_counts.specs.Passes.{view, IsIdleOf, HasTurnOf, opening_of};
 ghost use Rattle.cd_counts.specs.Steps.{may_note, with_turn, without_turn, noted};
 ghost use Rattle.cd_counts.specs.Tables.{FoundInTurn};
+ghost use Rattle.cd_counts_hall.specs.GoesOn.{GoesOn};
 ghost use Rattle.cd_counts_hall.specs.Since.{Since};
-ghost use Rattle.cd_counts_hall.specs.Spread.{Spread};
 ghost use Rattle.cd_counts_hall.specs.Turns.{InTurn};
 
 use cd_counts::{Gate, Names, Pass, Turn};
@@ -49,6 +46,8 @@ pub(crate) fn add<T: Stands, X, N: Names<X>>(
     requires may { may_note (view pass.old) (N.entry about.now) ≡ true }
     ensures turn { InTurn T.stands gate.now turn.new pass.new }
     ensures noted { (log : List Signed) × FoundInTurn (view pass.old) log × (view pass.new ≡ noted (view pass.old) log (N.entry about.now)) × IsHistory (log ++ signed (view pass.old).number (N.entry about.now) ∷ []) }
+    ensures goes { GoesOn (view pass.old) (view pass.new) (N.entry about.now ∷ []) }
+    ensures unsettled { (view pass.new).unsettled ≡ (view pass.old).unsettled }
     ensures same { turn.new ≡ turn.old }
 {
     gate.note::<X, N>(turn, pass, about);

@@ -1,6 +1,6 @@
 use Rattle.std.proofs.Common.{rules, ◌≡◌, true, false}
 use Rattle.cd_counts.specs.Passes.{view}
-use Rattle.cd_counts_hall.proofs.Beginning.{looked, began, begun_now, in_turn_then}
+use Rattle.cd_counts_hall.proofs.Begun.{looked, began, begun_now, in_turn_then}
 use Rattle.cd_counts_hall.proofs.requests.begin_in_turn.Goals as goal
 
 pub returns-then-not-check-clause-turn : goal.returns-then-not-check-clause-turn

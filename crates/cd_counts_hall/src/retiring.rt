@@ -1,0 +1,78 @@
+//! Serials are retired.
+ghost use Rattle.std.specs.Prelude.{◌≡◌, ◌∷◌, [], true};
+ghost use Rattle.cd_legal.specs.declared.entry.Entry.TheVariants.{Retire};
+ghost use Rattle.cd_legal.specs.Legal.{state_at};
+ghost use Rattle.cd_legal.specs.Runs.{block_of};
+ghost use Rattle.cd_legal.specs.State.{has_number};
+ghost use Rattle.cd_legal.specs.Whole.{nothing_left};
+ghost use Rattle.cd_counts.specs.Duties.{without_number};
+ghost use Rattle.cd_counts.specs.Passes.{view};
+ghost use Rattle.cd_life.specs.Standing.{Stood};
+ghost use Rattle.cd_counts_hall.specs.Calls.{IsPassOf};
+ghost use Rattle.cd_counts_hall.specs.GoesOn.{GoesOn};
+ghost use Rattle.cd_counts_hall.specs.Spread.{Spreads};
+ghost use Rattle.cd_counts_hall.specs.Turns.{InTurn};
+
+use crate::duty::Duty;
+use crate::hall::Hall;
+use crate::names::NamesRetire;
+use crate::superseding::clean_retired;
+use crate::turns::{add, leave_turn, take_turn};
+use cd_counts::{Gate, Pass, Turn};
+use cd_life::Board;
+use cd_module_set::ModuleSet;
+use cd_outside::Fixtures;
+use std::sync::Wait;
+
+impl<M: ModuleSet, F: Fixtures> Hall<M, F> {
+    /// Retires the serial of a duty of the pass. Its configuration is let go, and its instances are cleaned, the last one first.
+    pub fn retire<R: Wait>(&self, rt: &R, duty: Duty, pass: &mut Pass<Board<M, F>>)
+        requires pass { IsPassOf self.now pass.old }
+        requires duty { has_number duty.serial (view pass.old).duties ≡ true }
+        ensures pass { IsPassOf self.now pass.new }
+        ensures spreads { Spreads (view pass.old) (view pass.new) (λ s. block_of s duty.serial) }
+        ensures duties { (view pass.new).duties ≡ without_number duty.serial (view pass.old).duties }
+    {
+        let Duty { serial } = duty;
+        let mut turn = take_turn(rt, &self.gate, pass);
+        retire_in_turn(&self.gate, &mut turn, pass, serial);
+        leave_turn(&self.gate, turn, pass);
+    }
+}
+
+// Retires a serial that the pass is to retire, and cleans its instances.
+pub(crate) fn retire_in_turn<M: ModuleSet, F: Fixtures>(
+    gate: &Gate<Board<M, F>>,
+    turn: &mut Turn<Board<M, F>>,
+    pass: &mut Pass<Board<M, F>>,
+    serial: u32,
+)
+    requires turn { InTurn (Stood F.calls F.faults M.plan M.change) gate.now turn.old pass.old }
+    requires duty { has_number serial (view pass.old).duties ≡ true }
+    requires left { nothing_left (state_at (view pass.old).seen) ≡ true }
+    ensures turn { InTurn (Stood F.calls F.faults M.plan M.change) gate.now turn.new pass.new }
+    ensures goes { GoesOn (view pass.old) (view pass.new) (block_of (state_at (view pass.old).seen) serial) }
+    ensures unsettled { (view pass.new).unsettled ≡ (view pass.old).unsettled }
+    ensures duties { (view pass.new).duties ≡ without_number serial (view pass.old).duties }
+    ensures left { nothing_left (state_at (view pass.new).seen) ≡ true }
+{
+    note_retire(gate, turn, pass, serial);
+    clean_retired(gate, turn, pass, serial);
+}
+
+// Retires the serial, and notes it.
+fn note_retire<M: ModuleSet, F: Fixtures>(
+    gate: &Gate<Board<M, F>>,
+    turn: &mut Turn<Board<M, F>>,
+    pass: &mut Pass<Board<M, F>>,
+    serial: u32,
+)
+    requires turn { InTurn (Stood F.calls F.faults M.plan M.change) gate.now turn.old pass.old }
+    requires duty { has_number serial (view pass.old).duties ≡ true }
+    ensures turn { InTurn (Stood F.calls F.faults M.plan M.change) gate.now turn.new pass.new }
+    ensures goes { GoesOn (view pass.old) (view pass.new) (Retire serial ∷ []) }
+    ensures unsettled { (view pass.new).unsettled ≡ (view pass.old).unsettled }
+{
+    turn.value.retire(serial);
+    add::<Board<M, F>, u32, NamesRetire>(gate, turn, pass, &serial);
+}
