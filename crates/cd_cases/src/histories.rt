@@ -21,7 +21,7 @@ use cd_legal::{Change, Entry, Plan, PlanApp, PlanModule, ReplayFault, replay};
 use cd_outside::Key;
 use cd_rows::{Outcome, RowFault, bytes_at, find, has, only, says};
 use cd_text::{List, Octets, Text, parts_of};
-use cd_tree::{Path, Tree};
+use cd_tree::{Path, SharedText, Tree};
 use std::alloc::Global;
 
 pub fn history_outcome(alloc: Global, row: &Tree) -> Result<Outcome, RowFault> {
@@ -153,7 +153,7 @@ fn draft_of(alloc: Global, plan: &Plan, words: &[&str]) -> Result<Entry, RowFaul
     let [number, name] = words else {
         return Err(RowFault::Malformed("not `draft D NAME`"));
     };
-    let tree = Tree::Text(Text::from_str(alloc, name)?);
+    let tree = Tree::Text(SharedText::from_str(alloc, name)?);
     Ok(Entry::Draft(number_in(number)?, tree, plan.copy(alloc)?))
 }
 

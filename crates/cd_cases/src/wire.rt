@@ -12,8 +12,8 @@
 //!     {"render": {"status": N, "fields": [[NAME, VALUE], ..], "body": BYTES, "close": TRUTH}, "head": TRUTH, "close": TRUTH, "answered": BYTES}
 //!     {"refusal": STATUS, "answered": BYTES}
 use cd_rows::{Outcome, RowFault, bytes_at, bytes_of, find, is_true, number_of, only};
-use cd_text::{List, NoMemory, Octets, Text};
-use cd_tree::Tree;
+use cd_text::{List, NoMemory, Octets};
+use cd_tree::{SharedText, Tree};
 use cd_wire::{Answer, Field, Fields, Intake, Lent, Next, Request, refusal, render};
 use std::alloc::Global;
 
@@ -241,7 +241,7 @@ fn field_of(alloc: Global, pair: &Tree) -> Result<Field<'static>, RowFault> {
     }
 }
 
-fn named(alloc: Global, name: &Text, value: &Tree) -> Result<Field<'static>, RowFault> {
+fn named(alloc: Global, name: &SharedText, value: &Tree) -> Result<Field<'static>, RowFault> {
     let value = Lent::octets(bytes_of(alloc, value)?);
     Ok(Field {
         name: Lent::text(name.copy(alloc)?),

@@ -9,7 +9,7 @@ use crate::texts::has_brace;
 use cd_fill::{Failure, Scene};
 use cd_module::{LoadFault, LoadKind, Settings};
 use cd_text::Text;
-use cd_tree::{Num, Place, Tree};
+use cd_tree::{Num, Place, SharedText, Tree};
 use std::alloc::Global;
 
 /// The status that a handler gives, from 200 to 999 (RFC 9110, section 15).
@@ -57,7 +57,7 @@ fn known(alloc: Global, code: Option<u16>, at: &Place<'_>) -> Result<Status, Loa
     }
 }
 
-fn text_status(alloc: Global, text: &Text, at: &Place<'_>) -> Result<Status, LoadFault>
+fn text_status(alloc: Global, text: &SharedText, at: &Place<'_>) -> Result<Status, LoadFault>
     ensures { Gives LoadFault.NoMemory result (text_status text.now at.now) }
 {
     let bytes = text.as_str().as_bytes();

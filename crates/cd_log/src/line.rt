@@ -3,7 +3,7 @@ ghost use Rattle.std.specs.Prelude.{◌≡◌, ◌<◌, ◌++◌, ◌∷◌, [],
 ghost use Rattle.cd_log.specs.Lines.{access_line, body_sent, name_text, visible};
 
 use cd_text::{NoMemory, Text};
-use cd_tree::{Tree, print_ordered};
+use cd_tree::{SharedText, Tree, print_ordered};
 use cd_wire::{Answer, Request};
 use itoa::Buffer;
 use std::alloc::Global;
@@ -31,7 +31,10 @@ pub(crate) fn access_line(
 fn name_text(alloc: Global, server: &Text) -> Result<String, NoMemory>
     ensures { IfOk result (λ text. string_bytes text ≡ name_text server.now) }
 {
-    let text = print_ordered(alloc, &Tree::Text(server.copy(alloc)?))?;
+    let text = print_ordered(
+        alloc,
+        &Tree::Text(SharedText::from_str(alloc, server.as_str())?),
+    )?;
     Ok(text.into_string())
 }
 

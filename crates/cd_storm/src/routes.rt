@@ -9,7 +9,7 @@ use crate::draws::Draws;
 use crate::limits::{BODIES, LEAST_ROUTES, ROUTE_COUNTS};
 use crate::trees::{double, list_of, single, text};
 use cd_text::{List, NoMemory, Text};
-use cd_tree::{Shared, Tree};
+use cd_tree::{Shared, SharedText, Tree};
 use std::alloc::Global;
 
 /// How many routes have a body that is drawn.
@@ -71,7 +71,7 @@ fn path(alloc: Global, place: u64) -> Result<Tree, NoMemory>
     ensures { IfOk result (λ made. made ≡ tree.Text (path_of place)) }
 {
     let path = Text::from_string(format!(in alloc; "/p{place}")?);
-    Ok(Tree::Text(path))
+    Ok(Tree::Text(SharedText::new(alloc, path)?))
 }
 
 fn handler(alloc: Global, value: u64) -> Result<Tree, NoMemory>
@@ -87,5 +87,5 @@ fn body(alloc: Global, value: u64) -> Result<Tree, NoMemory>
 {
     let choice = value % BODIES;
     let body = Text::from_string(format!(in alloc; "b{choice}")?);
-    Ok(Tree::Text(body))
+    Ok(Tree::Text(SharedText::new(alloc, body)?))
 }

@@ -4,14 +4,14 @@ ghost use Rattle.cd_tree.specs.declared.tree.Tree.TheVariants as tree;
 ghost use Rattle.cd_storm.specs.FirstTree.{member, single, double, list_of};
 
 use cd_text::{List, NoMemory, Text};
-use cd_tree::{Member, Shared, Tree};
+use cd_tree::{Member, Shared, SharedText, Tree};
 use std::alloc::Global;
 
 /// A text.
 pub fn text(alloc: Global, words: &str) -> Result<Tree, NoMemory>
     ensures { IfOk result (λ made. made ≡ tree.Text words.now) }
 {
-    Ok(Tree::Text(Text::from_str(alloc, words)?))
+    Ok(Tree::Text(SharedText::from_str(alloc, words)?))
 }
 
 /// A list with one element.

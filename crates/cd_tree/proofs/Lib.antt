@@ -6,8 +6,8 @@ pub mod Rising
 pub mod Signs
 pub mod Soundness
 pub mod TextLengths
-pub mod Placing
-pub mod Converted
+pub mod Marks
+pub mod Turns
 pub mod Found
 pub mod Joined
 pub mod ReadBack

@@ -1,13 +1,11 @@
 -- Steps that may fail, taken apart, and what `tree_of` gives case by case.
-use Rattle.std.proofs.Common.{◌≡◌, ℕ, ◌<◌, ◌≤◌, List, [], length, Bool, true, false, nat_lt, not, Some, None, Result, Ok, Err, inl, inr, true≢false, refl, sym, ap, ◌∙◌}
-use Rattle.std.specs.Prelude.{IsTrue, option_and_then}
+use Rattle.std.proofs.Common.{◌≡◌, ℕ, ◌<◌, ◌≤◌, List, length, Bool, true, false, nat_lt, not, Some, None, Result, Ok, Err, inl, inr, true≢false, refl, sym, ap, ◌∙◌}
+use Rattle.std.specs.Prelude.{IsTrue}
 use Rattle.std.proofs.lemmas.Bool.{lt-ltb, le-ltb, cases_lt}
 use Rattle.std.specs.Str.{IsUtf8, is_utf8}
 use Rattle.std.proofs.lemmas.Str.{IsUtf8-from_is_utf8, is_utf8-from_IsUtf8}
 use Rattle.serde_json.specs.Data as json
-use Rattle.json.specs.Json as raw
-use Rattle.json.specs.Lex.{tokens}
-use Rattle.serde_json.specs.Read.{read, max_depth, of_json as of_json_value}
+use Rattle.serde_json.specs.Read.{read}
 use Rattle.cd_text.specs.Steps.{◌▷◌, refused_where, some_or}
 use Rattle.cd_tree.specs.Tree.{text}
 use Rattle.cd_tree.specs.Reading.{of_reading, json_reading, tree_of}
@@ -31,10 +29,6 @@ passed false fault r b e = (refl, e)
 -- UTF-8 with a reading
 pub reads : (b : List ℕ) (d : json.Data) → IsUtf8 b → read b ≡ Some d → json_reading b ≡ Ok d
 reads b d utf8 is = ap (λ t. refused_where (not t) NotJson ▷ λ _. some_or NotJson (read b)) (is_utf8-from_IsUtf8 b utf8) ∙ ap (some_or NotJson) is
-
--- one value is all of the text
-pub read_whole : (b : List ℕ) (j : raw.Json) (d : json.Data) → raw.value max_depth (tokens b) ≡ Some (j, []) → of_json_value j ≡ Some d → read b ≡ Some d
-read_whole b j d one is = ap (λ found. option_and_then of_json_value (option_and_then (λ p. raw.if_last p.0 p.1) found)) one ∙ is
 
 none : (b : List ℕ) (t : Bool) → is_utf8 b ≡ t → (IsUtf8 b → read b ≡ None) → json_reading b ≡ Err NotJson
 none b true is h = ap (λ u. refused_where (not u) NotJson ▷ λ _. some_or NotJson (read b)) is ∙ ap (some_or NotJson) (h (IsUtf8-from_is_utf8 b is))

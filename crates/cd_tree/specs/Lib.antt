@@ -1,8 +1,8 @@
 pub mod Counted
-pub mod Direct
 pub mod Endings
 pub mod Fields
 pub mod Lengths
+pub mod Marked
 pub mod Path
 pub mod Reading
 pub mod Tree

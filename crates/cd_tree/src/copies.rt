@@ -4,7 +4,7 @@ use crate::tree::{Member, Tree};
 use cd_text::NoMemory;
 use std::alloc::Global;
 
-/// An equal tree, which shares the values inside with the first. A text is copied.
+/// An equal tree, which shares its text or the values inside with the first. It copies nothing.
 pub fn copy(alloc: Global, tree: &Tree) -> Result<Tree, NoMemory>
     ensures { IfOk result (λ made. made ≡ tree.now) }
 {
@@ -12,7 +12,7 @@ pub fn copy(alloc: Global, tree: &Tree) -> Result<Tree, NoMemory>
         Tree::Null => Ok(Tree::Null),
         Tree::Bool(value) => Ok(Tree::Bool(*value)),
         Tree::Num(number) => Ok(Tree::Num(*number)),
-        Tree::Text(text) => Ok(Tree::Text(text.copy(alloc)?)),
+        Tree::Text(text) => Ok(Tree::Text(text.share()?)),
         Tree::Items(items) => Ok(Tree::Items(items.share()?)),
         Tree::Object(members) => Ok(Tree::Object(members.share()?)),
     }

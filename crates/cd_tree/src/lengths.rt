@@ -6,7 +6,6 @@ ghost use Rattle.cd_tree.specs.Tree.{text, number_text};
 
 use crate::shared::Shared;
 use crate::tree::{Member, Num, Tree};
-use cd_text::Text;
 
 /// How many bytes the compact text of a tree has, or the largest `usize` where that is more. It writes nothing.
 pub fn text_length(tree: &Tree) -> usize
@@ -23,7 +22,7 @@ fn tree_length(tree: &Tree) -> usize
         Tree::Null => 4,
         Tree::Bool(value) => truth_length(*value),
         Tree::Num(number) => number_length(number),
-        Tree::Text(text) => quoted_length(text),
+        Tree::Text(text) => quoted_length(text.as_str()),
         Tree::Items(items) => items_length(items).max(1).saturating_add(1),
         Tree::Object(members) => members_length(members).max(1).saturating_add(1),
     }
@@ -48,7 +47,7 @@ fn members_length(members: &Shared<Member>) -> usize
 {
     let mut length = 0usize;
     for member in members.as_slice() {
-        let key = quoted_length(&member.key).saturating_add(1);
+        let key = quoted_length(member.key.as_str()).saturating_add(1);
         let value = tree_length(&member.value);
         length = length
             .saturating_add(key)
@@ -90,10 +89,10 @@ fn digits_length(number: u64) -> usize
 }
 
 /// A text with its quotes and escapes.
-fn quoted_length(text: &Text) -> usize
+fn quoted_length(text: &str) -> usize
     ensures { result ≡ min (length (quoted text.now)) (2 ^ 64 - 1) }
 {
-    escaped_length(text.as_str().as_bytes()).saturating_add(2)
+    escaped_length(text.as_bytes()).saturating_add(2)
 }
 
 fn escaped_length(bytes: &[u8]) -> usize

@@ -4,15 +4,15 @@
 //! grammar and the numbers that serde_json states. Every tree that it gives is sound (specs/Tree.antt): keys rise in each
 //! object, and nesting and compact text stay within `MAX_DEPTH` and `MAX_TEXT_BYTES`.
 //!
-//! Most texts are read directly (direct.rt). What that leaves open, as a key that stands twice or a fault, is found the long
-//! way, over serde_json's values (reading.rt, nested.rt, converting.rt). `place_of_json_fault` says in which line and column a
-//! text stops being JSON.
+//! A text is read in one pass, straight into the tree (marking.rt), so no other value is in memory beside it. A number that is
+//! not whole in range is marked on the way, and makes a fault at the end if it counts (reading.rt, whole.rt).
+//! `place_of_json_fault` says in which line and column a text stops being JSON.
 //!
 //! `print` gives the compact text of a sound tree, which reads back as that tree; `reads_back` says the same of a tree that is
 //! not printed. `text_length` says how long the text is, and writes nothing. `equal` says whether two trees are equal.
 //!
-//! Trees share their lists and objects (`Shared`): `copy` gives an equal tree that owns them together with the first, and
-//! costs no more than a text. No list is changed once it is shared. Contracts see plain data, whoever owns it: they compare
+//! Trees share their lists, objects and texts (`Shared`, `SharedText`): `copy` gives an equal tree that owns them together with
+//! the first, and takes no memory. Nothing is changed once it is shared. Contracts see plain data, whoever owns it: they compare
 //! trees by `≡`, and depth, text and soundness are functions on a tree.
 //!
 //! `Fields` lends the members of an object by their names. What is lent from a sound object is sound. A reader is given the
@@ -22,26 +22,28 @@
 //! place.
 #![tactic(auto)]
 
-mod converting;
 mod copies;
-mod direct;
 mod endings;
 mod equality;
 mod fault;
 mod fields;
+mod json_fault;
 mod json_place;
 mod lengths;
 mod limits;
+mod marking;
 mod measure;
-mod nested;
+mod numbers;
 mod path;
 mod place;
 mod printing;
 mod reading;
 mod round_trip;
 mod shared;
+mod shared_text;
 mod tree;
 mod way;
+mod whole;
 
 pub use copies::{copy, copy_member};
 pub use endings::no_tree_ends_in_zero;
@@ -58,4 +60,5 @@ pub use printing::{print, print_ordered};
 pub use reading::read;
 pub use round_trip::reads_back;
 pub use shared::Shared;
+pub use shared_text::SharedText;
 pub use tree::{Member, Num, Tree};

@@ -7,7 +7,6 @@ ghost use Rattle.cd_tree.specs.Utf8.{are_text};
 
 use crate::shared::Shared;
 use crate::tree::{Member, Num, Tree};
-use cd_text::Text;
 
 /// The law that the compact text of a sound tree reads as that tree.
 ///
@@ -28,7 +27,7 @@ fn see(tree: &Tree)
         Tree::Null => {}
         Tree::Bool(_) => {}
         Tree::Num(number) => see_number(number),
-        Tree::Text(text) => see_text(text),
+        Tree::Text(text) => see_text(text.as_str()),
         Tree::Items(items) => see_items(items),
         Tree::Object(members) => see_members(members),
     }
@@ -46,10 +45,10 @@ fn see_size(size: u64)
     let _ = size;
 }
 
-fn see_text(text: &Text)
+fn see_text(text: &str)
     ensures { IsTrue (is_utf8 text.now) }
 {
-    let _ = text.as_str();
+    let _ = text;
 }
 
 #[cycle(see)]
@@ -66,7 +65,7 @@ fn see_members(members: &Shared<Member>)
     ensures { IsTrue (are_text (joined (map member_tokens members.now))) }
 {
     for member in members.as_slice() {
-        see_text(&member.key);
+        see_text(member.key.as_str());
         see(&member.value);
     }
 }

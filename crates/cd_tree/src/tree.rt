@@ -1,4 +1,5 @@
 use crate::shared::Shared;
+use crate::shared_text::SharedText;
 use cd_text::Text;
 
 /// A JSON value whose numbers are whole.
@@ -8,7 +9,7 @@ pub enum Tree {
     Null,
     Bool(bool),
     Num(Num),
-    Text(Text),
+    Text(SharedText),
     Items(Shared<Tree>),
     /// In a sound tree the keys rise in byte order, and so are distinct.
     Object(Shared<Member>),

@@ -1,7 +1,5 @@
-use Rattle.std.proofs.Common.{ap, sym, ◌∙◌}
-use Rattle.std.specs.Str.{is_utf8}
 use Rattle.std.proofs.lemmas.Str.{is_utf8-from_IsUtf8}
 use Rattle.cd_tree.proofs.round_trip.see_text.Goals as goal
 
 pub returns : goal.returns
-returns c = ap is_utf8 (sym c.as_str.ensures) ∙ is_utf8-from_IsUtf8 _ c.as_str.utf8
+returns c = is_utf8-from_IsUtf8 c.args.text.now c.utf8.text
