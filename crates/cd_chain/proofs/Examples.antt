@@ -15,19 +15,23 @@ use Rattle.cd_routes.specs.Running.{Middleware, Rest, after, nothing_left}
 use Rattle.cd_chain.specs.declared.place.Place.{Place}
 use Rattle.cd_chain.specs.declared.place.Place.TheVariants as place
 use Rattle.cd_chain.specs.Chains.{Stands}
+use Rattle.cd_chain.specs.Indexes.{AreSound}
 use Rattle.cd_chain.specs.Places.{at, ended, meanings, one_of, place_does}
 use Rattle.cd_chain.proofs.Laid.{laid_end, laid_new}
 use Rattle.cd_chain.proofs.Layouts.{none_left}
 
+no_indexes : (places : List Place) → AreSound places []
+no_indexes places = λ k index there. cc
+
 -- a chain without places stands for a server without routes
-no_places : Stands (record { places = []; routes = 0; errors = None }) [] None []
+no_places : Stands (record { places = []; indexes = []; routes = 0; errors = None; sound = no_indexes [] }) [] None []
 no_places = record {
   main = ap (λ (f : Middleware). f nothing_left) (laid_end place_does ended []) ∙ none_left (named_routes []) [] nothing_left refl;
   errors = refl;
 }
 
 -- error routes that a server does not have are no part of its chain
-no_error_routes : Stands (record { places = []; routes = 0; errors = Some 0 }) [] None [] → ⊥
+no_error_routes : Stands (record { places = []; indexes = []; routes = 0; errors = Some 0; sound = no_indexes [] }) [] None [] → ⊥
 no_error_routes stands = let given : None ≡ Some stands.errors.0 = stands.errors.1 in cc
 
 -- ---- a handler that the server does not have
@@ -51,6 +55,6 @@ unfolding nothing_left
 end_answers x = refl
 
 -- a server without routes answers each request, so its chain has no `error`
-no_error : (settings : StaticError) (x : Scene) (failure : Failure) → failure_filled settings x ≡ Ok failure → Stands (record { places = alone settings; routes = 1; errors = None }) [] None [] → ⊥
+no_error : (settings : StaticError) (x : Scene) (failure : Failure) → failure_filled settings x ≡ Ok failure → Stands (record { places = alone settings; indexes = []; routes = 1; errors = None; sound = no_indexes (alone settings) }) [] None [] → ⊥
 no_error settings x failure filled stands =
     true≢false (sym (error_fails settings x failure filled) ∙ ap (λ (f : Rest). has_failed (f x)) (stands.main ∙ sym (none_left (named_routes []) [] nothing_left refl)) ∙ end_answers x)

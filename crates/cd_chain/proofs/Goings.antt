@@ -4,6 +4,7 @@ use Rattle.cd_fill.specs.declared.scene.Scene.{Scene}
 use Rattle.cd_handlers.specs.declared.handler.Handler.{Handler}
 use Rattle.cd_match.specs.declared.sets.Sets.{Sets}
 use Rattle.cd_routes.specs.Running.{Rest, Middleware, nothing_left, handled}
+use Rattle.cd_chain.specs.declared.index.Entry.{Entry}
 use Rattle.cd_chain.specs.declared.place.ErrorRoutes.{ErrorRoutes}
 use Rattle.cd_chain.specs.declared.place.Place.{Place}
 use Rattle.cd_chain.specs.declared.place.Place.TheVariants as place
@@ -24,11 +25,11 @@ unfolding place_does
 handler_goes places n next i h p back x is here there =
     ap (λ (k : Middleware). handled h (k back) x) there ∙ sym (ap (λ q. place_does (meanings (before n places)) q back x) is) ∙ sym (ap (λ (f : Middleware). f back x) here)
 
-pub route_goes : (places : List Place) (n inside otherwise i o m : ℕ) (matching : Sets) (group : Option (List ℕ)) (p : Place) (back : Rest) (x y : Scene) → p ≡ place.Route matching group inside otherwise →
+pub route_goes : (places : List Place) (n inside otherwise i o m : ℕ) (matching : Sets) (group : Option (List ℕ)) (entry : Option Entry) (p : Place) (back : Rest) (x y : Scene) → p ≡ place.Route matching group inside otherwise entry →
     at places n ≡ place_does (meanings (before n places)) p → at places i ≡ one_of (meanings (before n places)) inside → at places o ≡ one_of (meanings (before n places)) otherwise →
     at places m back y ≡ route_does matching group (at places i back) (at places o back) x → at places m back y ≡ at places n back x
 unfolding place_does
-route_goes places n inside otherwise i o m matching group p back x y is here in_is out_is next =
+route_goes places n inside otherwise i o m matching group entry p back x y is here in_is out_is next =
     next ∙ ap (λ (f : Middleware). route_does matching group (f back) (at places o back) x) in_is
     ∙ ap (λ (g : Middleware). route_does matching group (one_of (meanings (before n places)) inside back) (g back) x) out_is
     ∙ sym (ap (λ q. place_does (meanings (before n places)) q back x) is) ∙ sym (ap (λ (f : Middleware). f back x) here)
@@ -78,11 +79,11 @@ unfolding place_steps
 handler_steps places n next i back h p is here there =
     omega (arith, ap (λ (f : ℕ → ℕ). f back) here, ap (λ q. place_steps (counts (before n places)) q back) is, ap (λ (f : ℕ → ℕ). f back) there)
 
-pub route_steps : (places : List Place) (n inside otherwise i o back : ℕ) (matching : Sets) (group : Option (List ℕ)) (p : Place) → p ≡ place.Route matching group inside otherwise →
+pub route_steps : (places : List Place) (n inside otherwise i o back : ℕ) (matching : Sets) (group : Option (List ℕ)) (entry : Option Entry) (p : Place) → p ≡ place.Route matching group inside otherwise entry →
     steps_at places n ≡ place_steps (counts (before n places)) p → steps_at places i ≡ steps_of (counts (before n places)) inside → steps_at places o ≡ steps_of (counts (before n places)) otherwise →
     steps_at places i back + steps_at places o back < steps_at places n back
 unfolding place_steps
-route_steps places n inside otherwise i o back matching group p is here in_is out_is =
+route_steps places n inside otherwise i o back matching group entry p is here in_is out_is =
     omega (arith, ap (λ (f : ℕ → ℕ). f back) here, ap (λ q. place_steps (counts (before n places)) q back) is, ap (λ (f : ℕ → ℕ). f back) in_is, ap (λ (f : ℕ → ℕ). f back) out_is)
 
 pub try_steps : (places : List Place) (old new : List Frame) (caught : ErrorRoutes) (n first errors f : ℕ) (p : Place) → p ≡ place.Try first errors →

@@ -16,7 +16,8 @@ use Rattle.cd_routes.specs.Named.{named_does, named_routes, passes}
 use Rattle.cd_routes.proofs.NamedMeaning.{agree_by_places, place_is, run_depends, size}
 use Rattle.cd_chain.specs.declared.place.Place.{Place}
 use Rattle.cd_chain.specs.declared.place.Place.TheVariants as place
-use Rattle.cd_chain.specs.Places.{at, ended, place_does, Grows}
+use Rattle.cd_chain.specs.Growing.{Grows}
+use Rattle.cd_chain.specs.Places.{at, ended, place_does}
 use Rattle.cd_chain.specs.Laying.{entered, entered_by, named_at, route_left, AreLaid, Lays, LaidAs, LaysOne}
 use Rattle.cd_chain.proofs.Laid.{laid_new}
 use Rattle.cd_chain.proofs.Standing.{all_named}

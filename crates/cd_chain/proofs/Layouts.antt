@@ -3,6 +3,7 @@ use Rattle.std.proofs.Common.{◌≡◌, true, false, Bool, ℕ, suc, ◌+◌, �
 use Rattle.cd_fill.specs.declared.scene.Scene.{Scene}
 use Rattle.cd_handlers.specs.declared.handler.Handler.{Handler}
 use Rattle.cd_handlers.specs.Invoke.{invoked}
+use Rattle.cd_match.specs.declared.sets.Sets.{Sets}
 use Rattle.cd_routes.specs.declared.outcome.Outcome.{Outcome}
 use Rattle.cd_routes.specs.declared.outcome.Outcome.TheVariants.{Answered, Failed}
 use Rattle.cd_routes.specs.declared.route.Route.{Route, out-Route}
@@ -13,9 +14,12 @@ use Rattle.cd_routes.specs.Invoking.{Names, place_of}
 use Rattle.cd_routes.specs.Running.{Rest, Middleware, Named, nothing_left, in_order, in_place, caught, run_route, run_routes, run_step, run_steps}
 use Rattle.cd_routes.specs.Work.{total, errors_weight, route_weight, step_weight}
 use Rattle.cd_routes.proofs.Equations.{run_route_is, run_subroute_is}
+use Rattle.cd_chain.specs.declared.index.Entry.{Entry}
 use Rattle.cd_chain.specs.declared.place.Place.{Place}
 use Rattle.cd_chain.specs.declared.place.Place.TheVariants as place
-use Rattle.cd_chain.specs.Places.{or_failed, ended, route_does, place_does, meanings, at, Grows}
+use Rattle.cd_chain.specs.Growing.{Grows}
+use Rattle.cd_chain.specs.Places.{or_failed, ended, route_does, place_does, meanings, at}
+use Rattle.cd_chain.specs.Steps.{counts, no_steps, place_steps, steps_at}
 use Rattle.cd_chain.specs.Laying.{entered_by, AreLaid}
 use Rattle.cd_chain.proofs.Laid.{laid_new, laid_kept, laid_end}
 
@@ -45,16 +49,18 @@ pub grows_by : (old new : List Place) (p : Place) → new ≡ old ++ p ∷ [] �
 grows_by old new p is = record {
   longer = omega (arith, ap length is, length-append old (p ∷ []));
   kept = λ n within. ap (λ all. at all n) is ∙ laid_kept place_does ended old (p ∷ []) n within;
+  steps = λ n within. ap (λ all. steps_at all n) is ∙ laid_kept place_steps no_steps old (p ∷ []) n within;
 }
 
 pub grows_on : (old mid new : List Place) → Grows old mid → Grows mid new → Grows old new
 grows_on old mid new first second = record {
   longer = omega (arith, first.longer, second.longer);
   kept = λ n within. second.kept n (omega (arith, within, first.longer)) ∙ first.kept n within;
+  steps = λ n within. second.steps n (omega (arith, within, first.longer)) ∙ first.steps n within;
 }
 
 pub grows_same : (places : List Place) → Grows places places
-grows_same places = record { longer = omega arith; kept = λ n within. refl }
+grows_same places = record { longer = omega arith; kept = λ n within. refl; steps = λ n within. refl }
 
 -- what is entered stays
 pub entered_kept : (old new : List Place) (entries : List ℕ) (names : Names) → AreLaid old entries → Grows old new → entered_by new entries names ≡ entered_by old entries names
@@ -85,15 +91,26 @@ pub rest_of : (places : List Place) (terminal : Bool) (rest : ℕ) (back : Rest)
 rest_of places true rest back = ap (λ (f : Middleware). f back) (laid_end place_does ended places)
 rest_of places false rest back = refl
 
-pub route_added : (e : Named) (r : Route) (old mid new : List Place) (rest inside n : ℕ) (back : Rest) →
+pub route_added : (e : Named) (r : Route) (old mid new : List Place) (rest inside n : ℕ) (entry : Option Entry) (back : Rest) →
     at mid inside back ≡ run_steps e (out-Route r).handle (at old (if (out-Route r).terminal then 0 else rest) back) → at mid rest ≡ at old rest →
-    new ≡ mid ++ place.Route (out-Route r).matching (out-Route r).group inside rest ∷ [] → n ≡ length new → at new n back ≡ run_route e r (at old rest back)
+    new ≡ mid ++ place.Route (out-Route r).matching (out-Route r).group inside rest entry ∷ [] → n ≡ length new → at new n back ≡ run_route e r (at old rest back)
 unfolding place_does
-route_added e r old mid new rest inside n back inside_is rest_is is number =
-    ap (λ (f : Middleware). f back) (added mid new (place.Route (out-Route r).matching (out-Route r).group inside rest) n is number)
+route_added e r old mid new rest inside n entry back inside_is rest_is is number =
+    ap (λ (f : Middleware). f back) (added mid new (place.Route (out-Route r).matching (out-Route r).group inside rest entry) n is number)
     ∙ ap (λ (f : Rest). route_does (out-Route r).matching (out-Route r).group f (at mid rest back)) (inside_is ∙ ap (run_steps e (out-Route r).handle) (rest_of old (out-Route r).terminal rest back))
     ∙ ap (λ (f : Middleware). route_does (out-Route r).matching (out-Route r).group (run_steps e (out-Route r).handle (if (out-Route r).terminal then nothing_left else at old rest back)) (f back)) rest_is
     ∙ alike _ _ (λ x. sym (run_route_is e r (at old rest back) x))
+
+-- it takes more steps than what follows it
+pub route_falls : (old mid new : List Place) (rest inside n : ℕ) (matching : Sets) (group : Option (List ℕ)) (entry : Option Entry) (back : ℕ) → steps_at mid rest ≡ steps_at old rest →
+    new ≡ mid ++ place.Route matching group inside rest entry ∷ [] → n ≡ length new → steps_at old rest back ≤ steps_at new n back
+unfolding place_steps
+route_falls old mid new rest inside n matching group entry back rest_is is number =
+    let size : n ≡ suc (length mid) = omega (arith, number, ap length is, length-append mid (place.Route matching group inside rest entry ∷ [])) in
+    let e : steps_at new n back ≡ place_steps (counts mid) (place.Route matching group inside rest entry) back =
+    ap (λ all. steps_at all n back) is ∙ ap (λ k. steps_at (mid ++ place.Route matching group inside rest entry ∷ []) k back) size
+    ∙ ap (λ (f : ℕ → ℕ). f back) (laid_new place_steps no_steps mid (place.Route matching group inside rest entry)) in
+    omega (arith, e, ap (λ (f : ℕ → ℕ). f back) rest_is)
 
 -- ---- subroutes
 

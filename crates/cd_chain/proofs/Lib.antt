@@ -3,6 +3,9 @@ pub mod Numbers
 pub mod Frames
 pub mod Goings
 pub mod Layouts
+pub mod Indexes
+pub mod Beginnings
+pub mod Noted
 pub mod Standing
 pub mod LaidOut
 pub mod Crossing

@@ -12,7 +12,8 @@ use Rattle.cd_routes.specs.Running.{Rest, Middleware, Named, nothing_left, run_r
 use Rattle.cd_routes.specs.Serving.{settled, error_answer, restored, answer_with, answer_from}
 use Rattle.cd_chain.specs.declared.chain.Chain.{Chain}
 use Rattle.cd_chain.specs.declared.place.Place.{Place}
-use Rattle.cd_chain.specs.Places.{ended, place_does, at, Grows}
+use Rattle.cd_chain.specs.Growing.{Grows}
+use Rattle.cd_chain.specs.Places.{ended, place_does, at}
 use Rattle.cd_chain.specs.Chains.{from_place, chain_settled, chain_answer, ErrorsStand, Stands, IsMadeOf}
 use Rattle.cd_chain.specs.Laying.{entered, entered_by, named_at}
 use Rattle.cd_chain.proofs.Laid.{laid_end}
@@ -39,11 +40,11 @@ errors_laid e old new n errors given some laid = (given, some, laid nothing_left
 pub errors_named : (places : List Place) (n : Option ℕ) (e f : Named) (errors : Option (List Route)) → e ≡ f → ErrorsStand places n e errors → ErrorsStand places n f errors
 errors_named places n e f errors same stands = subst (λ g. ErrorsStand places n g errors) same stands
 
-pub chain_stands : (places laid : List Place) (begin : ℕ) (failing : Option ℕ) (routes : List Route) (errors : Option (List Route)) (named : List NamedRoute) → places ≡ laid →
-    from_place laid begin ≡ run_routes (named_routes named) routes nothing_left → ErrorsStand laid failing (named_routes named) errors → Stands (record { places = places; routes = begin; errors = failing }) routes errors named
-chain_stands places laid begin failing routes errors named is first second = record {
-  main = ap (λ ps. from_place ps begin) is ∙ first;
-  errors = subst (λ ps. ErrorsStand ps failing (named_routes named) errors) (sym is) second;
+pub chain_stands : (chain : Chain) (laid : List Place) (routes : List Route) (errors : Option (List Route)) (named : List NamedRoute) → chain.places ≡ laid →
+    from_place laid chain.routes ≡ run_routes (named_routes named) routes nothing_left → ErrorsStand laid chain.errors (named_routes named) errors → Stands chain routes errors named
+chain_stands chain laid routes errors named is first second = record {
+  main = ap (λ ps. from_place ps chain.routes) is ∙ first;
+  errors = subst (λ ps. ErrorsStand ps chain.errors (named_routes named) errors) (sym is) second;
 }
 
 -- ---- answers

@@ -8,7 +8,8 @@ use Rattle.cd_routes.specs.Running.{Middleware, Named, Rest, run_route}
 use Rattle.cd_routes.specs.declared.named.NamedRoute.{NamedRoute}
 use Rattle.cd_routes.specs.declared.route.Route.{Route}
 use Rattle.cd_chain.specs.declared.place.Place.{Place}
-use Rattle.cd_chain.specs.Places.{at, Grows}
+use Rattle.cd_chain.specs.Growing.{Grows}
+use Rattle.cd_chain.specs.Places.{at}
 
 -- what is done where the named route of a number is entered; a number that is none is entered at place 1, a `Return`
 abbrev pub entered : List Place → List ℕ → ℕ → Middleware

@@ -1,6 +1,6 @@
 -- What the places of a chain mean: each goes on at earlier places alone. A place does to what follows a named route what it leads
 -- to until `Return`; so it is told by what it does to that, as routes are.
-use Rattle.std.specs.Prelude.{◌≡◌, ◌≤◌, ℕ, not, ◌&&◌, if◌then◌else◌, List, [], ◌∷◌, ◌++◌, length, fold, get_or, Option}
+use Rattle.std.specs.Prelude.{ℕ, not, ◌&&◌, if◌then◌else◌, List, [], ◌∷◌, ◌++◌, fold, get_or, Option}
 use Rattle.cd_match.specs.Holds.{holds}
 use Rattle.cd_match.specs.declared.sets.Sets.{Sets}
 use Rattle.cd_routes.specs.declared.outcome.Outcome.{Outcome}
@@ -35,7 +35,7 @@ route_does matching group inside otherwise x = if holds matching x && not (is_ta
 -- what a place does, from what the earlier ones do
 unfoldable pub place_does : List Middleware → Place → Middleware
 place_does earlier (place.Handler handler next) back x = handled handler (one_of earlier next back) x
-place_does earlier (place.Route matching group inside otherwise) back x = route_does matching group (one_of earlier inside back) (one_of earlier otherwise back) x
+place_does earlier (place.Route matching group inside otherwise entry) back x = route_does matching group (one_of earlier inside back) (one_of earlier otherwise back) x
 place_does earlier (place.Try first errors) back x = or_failed (one_of earlier errors back) (one_of earlier first back x)
 place_does earlier (place.Invoke inside next) back x = one_of earlier inside (one_of earlier next back) x
 place_does earlier place.Return back x = back x
@@ -50,10 +50,3 @@ at places n = one_of (meanings places) n
 -- what follows the named routes that are being done: where they return to, of which the last comes first
 unfoldable pub returning : List Place → List ℕ → Rest
 returning places returns = fold (λ rest n. at places n rest) nothing_left returns
-
--- ---- growing
-
--- places were added, and those that were there do what they did
-pub record Grows (old new : List Place) : Type 0 where
-  pub longer : length old ≤ length new
-  pub kept : (n : ℕ) → n ≤ length old → at new n ≡ at old n

@@ -17,7 +17,7 @@ steps_of earlier n = get_or earlier n no_steps
 
 unfoldable pub place_steps : List (ℕ → ℕ) → Place → ℕ → ℕ
 place_steps earlier (place.Handler handler next) back = 1 + steps_of earlier next back
-place_steps earlier (place.Route matching group inside otherwise) back = 1 + (steps_of earlier inside back + steps_of earlier otherwise back)
+place_steps earlier (place.Route matching group inside otherwise entry) back = 1 + (steps_of earlier inside back + steps_of earlier otherwise back)
 place_steps earlier (place.Try first errors) back = 2 + (steps_of earlier first back + steps_of earlier errors back)
 place_steps earlier (place.Invoke inside next) back = 1 + steps_of earlier inside (steps_of earlier next back)
 place_steps earlier place.Return back = 1 + back

@@ -1,15 +1,10 @@
 //! The routes of a server, laid out.
-ghost use Rattle.std.specs.Prelude.{◌≡◌, IfOk, OnOk, List};
-ghost use Rattle.cd_fill.specs.Scene.{scene_of};
-ghost use Rattle.cd_routes.specs.declared.server.Server.{Server as ServerOf};
-ghost use Rattle.cd_routes.specs.Invoking.{HasNoCycle};
-ghost use Rattle.cd_routes.specs.Running.{with_error};
-ghost use Rattle.cd_routes.specs.Serving.{error_answer, restored, server_answer};
-ghost use Rattle.cd_chain.specs.Chains.{from_place, ErrorsStand, IsMadeOf, Stands, chain_answer};
-ghost use Rattle.cd_chain.specs.Laying.{AreLaid, entered_by};
-ghost use Rattle.cd_chain.specs.Places.{Grows};
+ghost use Rattle.cd_routes.specs.Serving.{restored};
+ghost use Rattle.std.specs.Prelude.{◌≡◌};
+ghost use Rattle.cd_chain.specs.Indexes.{AreSound};
 
 use crate::compiling::compile_routes;
+use crate::index::Index;
 use crate::naming::{Layout, lay_all};
 use crate::place::Place;
 use crate::progress::Ended;
@@ -26,33 +21,50 @@ use std::mem::replace;
 #[derive(Debug, Drop)]
 pub struct Chain {
     pub places: List<Place>,
+    /// Which routes of long lists may match a path: they save time alone.
+    pub indexes: List<Index>,
     /// Where the routes begin.
     pub routes: usize,
     /// Where the error routes begin.
     pub errors: Option<usize>,
-}
-
-#[tactic(auto, using(crate::proofs::Standing::errors_laid, crate::proofs::Layouts::grows_same))]
-fn compile_errors(
-    places: &mut Vec<Place>,
-    names: &[Text],
-    entries: &[usize],
-    errors: Option<List<Route>>,
-) -> Result<Option<usize>, NoMemory>
-    requires { AreLaid places.old.items entries.now }
-    ensures stands { IfOk result (λ n. ErrorsStand places.new.items n (entered_by places.old.items entries.now names.now) errors) }
-    ensures grows { OnOk result (Grows places.old.items places.new.items) }
-{
-    match errors {
-        None => Ok(None),
-        Some(given) => {
-            let begin = compile_routes(places, names, entries, given, 0)?;
-            Ok(Some(begin))
-        }
-    }
+    ghost sound: { AreSound places indexes },
 }
 
 impl Chain {
+    ghost use Rattle.std.specs.Prelude.{IfOk, OnOk, List};
+    ghost use Rattle.cd_fill.specs.Scene.{scene_of};
+    ghost use Rattle.cd_routes.specs.declared.server.Server.{Server as ServerOf};
+    ghost use Rattle.cd_routes.specs.Invoking.{HasNoCycle};
+    ghost use Rattle.cd_routes.specs.Running.{with_error};
+    ghost use Rattle.cd_routes.specs.Serving.{error_answer, server_answer};
+    ghost use Rattle.cd_chain.specs.Chains.{from_place, ErrorsStand, IsMadeOf, Stands, chain_answer};
+    ghost use Rattle.cd_chain.specs.Growing.{Grows};
+    ghost use Rattle.cd_chain.specs.Laying.{AreLaid, entered_by};
+
+    #[tactic(auto, using(crate::proofs::Standing::errors_laid, crate::proofs::Layouts::grows_same))]
+    fn compile_errors(
+        alloc: Global,
+        places: &mut Vec<Place>,
+        indexes: &mut Vec<Index>,
+        names: &[Text],
+        entries: &[usize],
+        errors: Option<List<Route>>,
+    ) -> Result<Option<usize>, NoMemory>
+        requires entries { AreLaid places.old.items entries.now }
+        requires sound { AreSound places.old.items indexes.old.items }
+        ensures stands { IfOk result (λ n. ErrorsStand places.new.items n (entered_by places.old.items entries.now names.now) errors) }
+        ensures grows { OnOk result (Grows places.old.items places.new.items) }
+        ensures sound { OnOk result (AreSound places.new.items indexes.new.items) }
+    {
+        match errors {
+            None => Ok(None),
+            Some(given) => {
+                let begin = compile_routes(alloc, places, indexes, names, entries, given, 0)?;
+                Ok(Some(begin))
+            }
+        }
+    }
+
     /// Lays out the routes of a server, whose handlers and matchers move into the chain. No named route may lead to itself:
     /// `Server::first_in_cycle` says whether one does.
     pub fn compile(
@@ -67,13 +79,30 @@ impl Chain {
         let layout = lay_all(alloc, named)?;
         let Layout {
             mut places,
+            mut indexes,
             names,
             entries,
         } = layout;
-        let main = compile_routes(&mut places, names.as_slice(), entries.as_slice(), routes, 0)?;
-        let failing = compile_errors(&mut places, names.as_slice(), entries.as_slice(), errors)?;
+        let main = compile_routes(
+            alloc,
+            &mut places,
+            &mut indexes,
+            names.as_slice(),
+            entries.as_slice(),
+            routes,
+            0,
+        )?;
+        let failing = Chain::compile_errors(
+            alloc,
+            &mut places,
+            &mut indexes,
+            names.as_slice(),
+            entries.as_slice(),
+            errors,
+        )?;
         Ok(Chain {
             places: List::from_vec(places),
+            indexes: List::from_vec(indexes),
             routes: main,
             errors: failing,
         })
@@ -108,7 +137,13 @@ impl Chain {
     fn answer_in<'r>(&'r self, alloc: Global, scene: &mut Scene<'r>) -> Result<Answer<'r>, NoMemory>
         ensures { IfOk result (λ answer. answer ≡ chain_answer self.now scene.old) }
     {
-        match run(alloc, self.places.as_slice(), self.routes, scene)? {
+        match run(
+            alloc,
+            self.places.as_slice(),
+            self.indexes.as_slice(),
+            self.routes,
+            scene,
+        )? {
             Ended::Answered(answer) => Ok(answer),
             Ended::Failed(status, message) => match self.errors {
                 None => Ok(bare_answer(alloc, status, scene)),
@@ -132,7 +167,13 @@ impl Chain {
         let fields = copy_fields(alloc, scene.response.as_slice())?;
         restore(scene);
         fail_into(status, message, scene);
-        match run(alloc, self.places.as_slice(), errors, scene)? {
+        match run(
+            alloc,
+            self.places.as_slice(),
+            self.indexes.as_slice(),
+            errors,
+            scene,
+        )? {
             Ended::Answered(answer) => Ok(answer),
             Ended::Failed(_, _) => Ok(empty_answer(status, fields)),
         }

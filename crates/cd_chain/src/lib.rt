@@ -10,20 +10,28 @@
 //! outcome are frames, of which the last meets it first: changes for an answer, or the errors of a subroute (specs/Frames.antt).
 //! Where named routes return to is kept beside them.
 //!
+//! A list of eight routes or more has an `Index`, which shows the first route from one of them on that may match a path. So the
+//! others are skipped (specs/Indexes.antt). What places mean knows nothing of it.
+//!
 //! Which routes match is left to cd_match, what a handler does to cd_handlers, and what routes mean to cd_routes.
 #![tactic(auto)]
 
 mod chain;
 mod compiling;
 mod framing;
+mod index;
+mod keys;
 mod laws;
 mod naming;
+mod numbering;
 mod place;
 mod progress;
 mod running;
+mod skipping;
 mod stepping;
 
 pub use chain::Chain;
+pub use index::{Entry, Index};
 pub use laws::{chains_answer_alike, chains_cross_threads};
 pub use place::{ErrorRoutes, Frame, Place};
 pub use progress::{Ended, Progress};

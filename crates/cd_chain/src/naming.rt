@@ -1,13 +1,15 @@
 //! Each named route is laid out once, before what invokes it.
-ghost use Rattle.std.specs.Prelude.{◌≡◌, ◌≤◌, ℕ, [], ◌∷◌, List, Option, length, get_or, map, slice_set, IfOk};
+ghost use Rattle.std.specs.Prelude.{◌≡◌, ◌≤◌, ℕ, [], ◌∷◌, List, Option, length, get_or, map, slice_set, IfOk, OnOk};
 ghost use Rattle.cd_leads.specs.Orders.{IsOrder};
 ghost use Rattle.cd_routes.specs.declared.named.NamedRoute.{NamedRoute as NamedOf};
 ghost use Rattle.cd_routes.specs.Invoking.{HasNoCycle, leads_of, route_names};
 ghost use Rattle.cd_routes.specs.Named.{named_routes};
 ghost use Rattle.cd_chain.specs.declared.place.Place.TheVariants.{Return};
+ghost use Rattle.cd_chain.specs.Indexes.{AreSound};
 ghost use Rattle.cd_chain.specs.Laying.{entered, entered_by, named_at, AreLaid, Lays, LaysOne};
 
 use crate::compiling::compile_route;
+use crate::index::Index;
 use crate::place::Place;
 use cd_routes::{NamedRoute, Route, leads_of};
 use cd_text::{List, NoMemory, Text};
@@ -18,6 +20,7 @@ use std::mem::replace;
 #[derive(Drop)]
 pub(crate) struct Layout {
     pub places: Vec<Place>,
+    pub indexes: Vec<Index>,
     /// Their names, and where each is entered.
     pub names: List<Text>,
     pub entries: Vec<usize>,
@@ -96,7 +99,9 @@ fn put_entry(entries: &mut [usize], n: usize, begin: usize)
 // Lays one out, and keeps where it is entered.
 #[tactic(auto, using(crate::proofs::LaidOut::lays_nothing, crate::proofs::LaidOut::lays_route))]
 fn lay_one(
+    alloc: Global,
     places: &mut Vec<Place>,
+    indexes: &mut Vec<Index>,
     names: &[Text],
     slots: &mut [Option<Route>],
     entries: &mut [usize],
@@ -104,12 +109,14 @@ fn lay_one(
 ) -> Result<(), NoMemory>
     requires rest { 1 ≤ length places.old.items }
     requires entries { AreLaid places.old.items entries.old }
-    ensures { IfOk result (λ _. LaysOne names.now places.old.items places.new.items slots.old slots.new entries.old entries.new n) }
+    requires sound { AreSound places.old.items indexes.old.items }
+    ensures sound { OnOk result (AreSound places.new.items indexes.new.items) }
+    ensures laid { IfOk result (λ _. LaysOne names.now places.old.items places.new.items slots.old slots.new entries.old entries.new n) }
 {
     match take_route(slots, n) {
         None => Ok(()),
         Some(route) => {
-            let begin = compile_route(places, names, entries, route, 1)?;
+            let begin = compile_route(alloc, places, indexes, names, entries, route, 1, None)?;
             put_entry(entries, n, begin);
             Ok(())
         }
@@ -119,7 +126,9 @@ fn lay_one(
 /// Lays the named routes out, in an order in which each stands after those that it invokes. Afterwards each is entered at its
 /// entry, and returns to what follows.
 pub(crate) fn lay_named(
+    alloc: Global,
     places: &mut Vec<Place>,
+    indexes: &mut Vec<Index>,
     names: &[Text],
     slots: &mut [Option<Route>],
     entries: &mut [usize],
@@ -127,12 +136,14 @@ pub(crate) fn lay_named(
 ) -> Result<(), NoMemory>
     requires rest { 1 ≤ length places.old.items }
     requires entries { AreLaid places.old.items entries.old }
+    requires sound { AreSound places.old.items indexes.old.items }
     ensures stand { IfOk result (λ _. (named : List NamedOf) → HasNoCycle named → names.now ≡ route_names named → IsOrder (leads_of named) order.now
         → Lays named places.old.items entries.old slots.old [] → (n : ℕ) → entered places.new.items entries.new n ≡ named_at named n) }
     ensures laid { IfOk result (λ _. AreLaid places.new.items entries.new) }
+    ensures sound { IfOk result (λ _. AreSound places.new.items indexes.new.items) }
 {
     for n in order {
-        lay_one(places, names, slots, entries, *n)?;
+        lay_one(alloc, places, indexes, names, slots, entries, *n)?;
     }
     Ok(())
 }
@@ -143,14 +154,18 @@ pub(crate) fn lay_all(alloc: Global, named: List<NamedRoute>) -> Result<Layout, 
     requires { HasNoCycle named }
     ensures named { IfOk result (λ made. entered_by made.places.items made.entries.items made.names ≡ named_routes named) }
     ensures laid { IfOk result (λ made. AreLaid made.places.items made.entries.items) }
+    ensures sound { IfOk result (λ made. AreSound made.places.items made.indexes.items) }
 {
     let order = order_of(alloc, named.as_slice())?;
     let parts = parted(alloc, named)?;
     let Parts { names, mut slots } = parts;
     let mut entries = first_entries(alloc, names.len())?;
     let mut places = first_places(alloc)?;
+    let mut indexes = Vec::new(alloc);
     lay_named(
+        alloc,
         &mut places,
+        &mut indexes,
         names.as_slice(),
         slots.as_mut_slice(),
         entries.as_mut_slice(),
@@ -158,6 +173,7 @@ pub(crate) fn lay_all(alloc: Global, named: List<NamedRoute>) -> Result<Layout, 
     )?;
     Ok(Layout {
         places,
+        indexes,
         names,
         entries,
     })

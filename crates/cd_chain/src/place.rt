@@ -1,3 +1,4 @@
+use crate::index::Entry;
 use cd_handlers::{FilledChanges, Handler};
 use cd_match::Sets;
 use cd_text::{List, Text};
@@ -7,12 +8,13 @@ use cd_text::{List, Text};
 pub enum Place {
     /// A handler, and what follows it.
     Handler(Handler, usize),
-    /// A route: where it is entered, `inside`; else `otherwise`.
+    /// A route: where it is entered, `inside`; else `otherwise`. Where it is in an index only saves time.
     Route {
         matching: Sets,
         group: Option<Text>,
         inside: usize,
         otherwise: usize,
+        entry: Option<Entry>,
     },
     /// The first; where that fails, the second with the error.
     Try(usize, usize),

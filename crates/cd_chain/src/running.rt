@@ -2,8 +2,10 @@ ghost use Rattle.std.specs.Prelude.{◌≡◌, IfOk};
 ghost use Rattle.cd_routes.specs.Running.{with_error};
 ghost use Rattle.cd_chain.specs.Chains.{from_place};
 ghost use Rattle.cd_chain.specs.Frames.{outcome_of};
+ghost use Rattle.cd_chain.specs.Indexes.{AreSound};
 
 use crate::framing::{answered, caught};
+use crate::index::Index;
 use crate::place::Place;
 use crate::progress::{Ended, Progress};
 use crate::stepping::advance;
@@ -23,9 +25,11 @@ pub(crate) fn fail_into(status: u16, message: Octets, scene: &mut Scene<'_>)
 pub(crate) fn run<'r>(
     alloc: Global,
     places: &'r [Place],
+    indexes: &[Index],
     start: usize,
     scene: &mut Scene<'r>,
 ) -> Result<Ended<'r>, NoMemory>
+    requires { AreSound places.now indexes.now }
     ensures { IfOk result (λ ended. outcome_of ended scene.new ≡ from_place places.now start scene.old) }
 {
     let mut frames = List::new(alloc);
@@ -34,7 +38,7 @@ pub(crate) fn run<'r>(
     loop {
         match progress {
             Progress::Goes(n) => {
-                progress = advance(alloc, places, n, scene, &mut returns, &mut frames)?;
+                progress = advance(alloc, places, indexes, n, scene, &mut returns, &mut frames)?;
             }
             Progress::Ends(Ended::Answered(answer)) => {
                 let answer = answered(alloc, frames, answer)?;

@@ -5,12 +5,15 @@ ghost use Rattle.cd_routes.specs.declared.outcome.Outcome.TheVariants as outcome
 ghost use Rattle.cd_routes.specs.Running.{Rest, bare_answer, handled, nothing_left, is_taken, with_group};
 ghost use Rattle.cd_chain.specs.declared.place.Place.{Place as PlaceOf};
 ghost use Rattle.cd_chain.specs.declared.place.Frame.TheVariants.{Catch};
+ghost use Rattle.cd_chain.specs.Indexes.{AreSound};
 ghost use Rattle.cd_chain.specs.Places.{at, one_of, ended, meanings, place_does, route_does, returning};
 ghost use Rattle.cd_chain.specs.Steps.{steps_at, steps_of, no_steps, counts, place_steps, returning_steps, frames_steps, progress_steps};
 ghost use Rattle.cd_chain.specs.Frames.{told, unwound};
 
+use crate::index::Index;
 use crate::place::{ErrorRoutes, Frame, Place};
 use crate::progress::{Ended, Progress};
+use crate::skipping::skip;
 use cd_fill::Scene;
 use cd_handlers::{Done, Handler, deed_in, usual_status};
 use cd_match::{Sets, is_listed};
@@ -157,25 +160,29 @@ fn choose(
 fn over_routes(
     alloc: Global,
     places: &[Place],
+    indexes: &[Index],
     start: usize,
     scene: &mut Scene<'_>,
 ) -> Result<usize, NoMemory>
+    requires { AreSound places.now indexes.now }
     ensures meaning { IfOk result (λ next. (back : Rest) → at places.now next back scene.new ≡ at places.now start back scene.old) }
     ensures less { IfOk result (λ next. (back : ℕ) → steps_at places.now next back ≤ steps_at places.now start back) }
 {
-    let mut n = start;
+    let mut n = skip(places, indexes, start, scene);
     while let Some(
         Place::Route {
             matching,
             group,
             inside,
             otherwise,
+            ..
         },
     ) = place_at(places, n)
     {
         let inside = earlier(*inside, n);
         let otherwise = earlier(*otherwise, n);
-        n = choose(alloc, matching, group, inside, otherwise, scene)?;
+        let next = choose(alloc, matching, group, inside, otherwise, scene)?;
+        n = skip(places, indexes, next, scene);
     }
     Ok(n)
 }
@@ -216,11 +223,13 @@ fn end<'r>(alloc: Global, scene: &mut Scene<'r>) -> Progress<'r>
 pub(crate) fn advance<'r>(
     alloc: Global,
     places: &'r [Place],
+    indexes: &[Index],
     n: usize,
     scene: &mut Scene<'r>,
     returns: &mut List<usize>,
     frames: &mut List<Frame<'r>>,
 ) -> Result<Progress<'r>, NoMemory>
+    requires { AreSound places.now indexes.now }
     ensures meaning { IfOk result (λ p. unwound places.now frames.new (told places.now p returns.new scene.new)
         ≡ unwound places.now frames.old (at places.now n (returning places.now returns.old) scene.old)) }
     ensures less { IfOk result (λ p. progress_steps places.now p returns.new + frames_steps places.now frames.new
@@ -239,12 +248,13 @@ pub(crate) fn advance<'r>(
                 group,
                 inside,
                 otherwise,
+                ..
             },
         ) => {
             let inside = earlier(*inside, n);
             let otherwise = earlier(*otherwise, n);
             let chosen = choose(alloc, matching, group, inside, otherwise, scene)?;
-            let next = over_routes(alloc, places, chosen, scene)?;
+            let next = over_routes(alloc, places, indexes, chosen, scene)?;
             Ok(Progress::Goes(next))
         }
         Some(Place::Try(first, errors)) => {

@@ -2,8 +2,8 @@
 use crate::asked::request_of;
 use cd_fill::{Failure, Lent, RequestLine, Scene, Variable};
 use cd_rows::{Outcome, RowFault, bytes_of, find, number_of, only};
-use cd_text::{List, NoMemory, Octets, Text, decimal};
-use cd_tree::Tree;
+use cd_text::{List, NoMemory, Octets, decimal};
+use cd_tree::{SharedText, Tree};
 use cd_wire::{Fields, Request};
 use std::alloc::Global;
 use std::mem::replace;
@@ -161,7 +161,7 @@ fn variable_of(alloc: Global, pair: &Tree) -> Result<Variable, RowFault> {
     }
 }
 
-fn variable(alloc: Global, name: &Text, value: &Tree) -> Result<Variable, RowFault> {
+fn variable(alloc: Global, name: &SharedText, value: &Tree) -> Result<Variable, RowFault> {
     let value = bytes_of(alloc, value)?;
     Ok(Variable {
         name: name.copy(alloc)?,
@@ -186,7 +186,7 @@ fn line_of<'r>(alloc: Global, parts: &[Tree]) -> Result<RequestLine<'r>, RowFaul
 
 fn line<'r>(
     alloc: Global,
-    method: &Text,
+    method: &SharedText,
     path: &Tree,
     query: &Tree,
     uri: &Tree,

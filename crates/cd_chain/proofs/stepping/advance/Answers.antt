@@ -24,7 +24,7 @@ returns-in_ok-next-in-Some-Route-clause-meaning c =
     let ps = c.args.places.now in
     ap (unwound ps c.args.frames.now)
     (c.in_ok-next-in-Some-Route.ensures.meaning (returning ps c.args.returns.now)
-    ∙ route_goes ps c.args.n _ _ c.earlier-inside.result c.earlier-otherwise.result c.in_ok-chosen-in-Some-Route.chosen _ _ c.in-Some-Route.field-0.now
+    ∙ route_goes ps c.args.n _ _ c.earlier-inside.result c.earlier-otherwise.result c.in_ok-chosen-in-Some-Route.chosen _ _ _ c.in-Some-Route.field-0.now
     (returning ps c.args.returns.now) c.args.scene.now c.choose.new.scene c.in-Some-Route.field-0-is c.in-Some-Route.ensures.meaning.2
     (c.earlier-inside.ensures.meaning ps c.in-Some-Route.ensures.meaning.1) (c.earlier-otherwise.ensures.meaning ps c.in-Some-Route.ensures.meaning.1)
     (c.in_ok-chosen-in-Some-Route.ensures.meaning ps (returning ps c.args.returns.now)))
@@ -38,7 +38,7 @@ returns-in_ok-next-in-Some-Route-clause-less c =
       arith,
       c.in_ok-next-in-Some-Route.ensures.less b,
       c.in_ok-chosen-in-Some-Route.ensures.less ps b,
-      route_steps ps c.args.n _ _ c.earlier-inside.result c.earlier-otherwise.result b _ _ c.in-Some-Route.field-0.now
+      route_steps ps c.args.n _ _ c.earlier-inside.result c.earlier-otherwise.result b _ _ _ c.in-Some-Route.field-0.now
           c.in-Some-Route.field-0-is c.in-Some-Route.ensures.steps
           (c.earlier-inside.ensures.steps ps c.in-Some-Route.ensures.meaning.1) (c.earlier-otherwise.ensures.steps ps c.in-Some-Route.ensures.meaning.1),
     )

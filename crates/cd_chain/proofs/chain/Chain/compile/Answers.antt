@@ -14,6 +14,6 @@ returns c =
     let second : entered_by then_places c.as_slice-4.result.now c.as_slice-3.result.now ≡ named_routes c.args.named =
     ap (λ es. entered_by then_places es c.as_slice-3.result.now) c.as_slice-4.ensures.value ∙ ap (entered_by then_places l.entries.items) c.as_slice-3.ensures
     ∙ entered_kept l.places.items then_places l.entries.items l.names c.in_ok-layout.ensures.laid c.in_ok-main.ensures.grows ∙ c.in_ok-layout.ensures.named in
-    chain_stands _ c.compile_errors.new.places.items c.in_ok-main.main c.in_ok-failing.failing c.args.routes c.args.errors c.args.named c.from_vec.ensures
+    chain_stands _ c.compile_errors.new.places.items c.args.routes c.args.errors c.args.named c.from_vec.ensures
     (routes_stand (entered_by l.places.items c.as_slice-2.result.now c.as_slice.result.now) c.args.named l.places.items then_places c.compile_errors.new.places.items c.in_ok-main.main c.args.routes first c.in_ok-main.ensures.meaning c.in_ok-main.ensures.within c.in_ok-failing.ensures.grows)
     (errors_named c.compile_errors.new.places.items c.in_ok-failing.failing (entered_by then_places c.as_slice-4.result.now c.as_slice-3.result.now) (named_routes c.args.named) c.args.errors second c.in_ok-failing.ensures.stands)

@@ -1,6 +1,6 @@
 use Rattle.cd_chain.specs.Laying.{entered_by}
 use Rattle.cd_chain.proofs.Standing.{errors_laid}
-use Rattle.cd_chain.proofs.chain.compile_errors.Goals as goal
+use Rattle.cd_chain.proofs.chain.Chain.compile_errors.Goals as goal
 
 pub returns-in_ok-begin-in-Some-clause-stands : goal.returns-in_ok-begin-in-Some-clause-stands
 returns-in_ok-begin-in-Some-clause-stands c =
