@@ -1,3 +1,4 @@
+-- Part of the main theorem.
 -- Which configuration a Caddyfile comes to, or its first fault.
 use Rattle.std.specs.Prelude.{ℕ, nat_lt, List, length, Option, Some, None, Result, Ok, Err, ⊤}
 use Rattle.cd_text.specs.Steps.{◌▷◌, refused_where}

@@ -1,3 +1,4 @@
+-- Part of the main theorem.
 -- The blocks that the lines of a file make.
 use Rattle.std.specs.Prelude.{ℕ, suc, Bool, true, false, List, [], ◌∷◌, ◌++◌, codes}
 use Rattle.cd_caddyfile.specs.Lines.{lines_of, line_of}

@@ -1,3 +1,4 @@
+-- Part of the main theorem.
 -- Directives: their names, the matcher that a first argument is, and what the other arguments say.
 use Rattle.std.specs.Prelude.{ℕ, ◌==◌, ◌&&◌, ◌||◌, Bool, if◌then◌else◌, List, [], ◌∷◌, length, drop, codes, Option, Some, None, option_map}
 use Rattle.std.specs.Char.{is_ascii_digit}

@@ -1,3 +1,4 @@
+-- Part of the main theorem.
 -- The faults of a Caddyfile, and the first of them: that of the first line, and of one line that of the kind that comes first.
 use Rattle.std.specs.Prelude.{ℕ, suc, ◌==◌, ◌&&◌, ◌||◌, not, nat_lt, nat_le, Bool, true, false, if◌then◌else◌, List, [], ◌∷◌, ◌++◌, length, map, Option, Some, None, is_some}
 use Rattle.std.specs.List.{list_any}

@@ -1,3 +1,4 @@
+-- Part of the main theorem.
 -- The sites of a file.
 use Rattle.std.specs.Prelude.{ℕ, ◌==◌, ◌&&◌, nat_le, Bool, true, false, if◌then◌else◌, List, [], ◌∷◌, map, Option, Some, None, unwrap_or, codes}
 use Rattle.std.specs.Str.{bytes_eq}

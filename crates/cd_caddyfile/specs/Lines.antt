@@ -1,3 +1,4 @@
+-- Part of the main theorem.
 -- The lines of a file, and what each does: a bare `{` at its end opens a block, and a bare `}` alone closes one.
 use Rattle.std.specs.Prelude.{ℕ, ◌-◌, ◌==◌, ◌&&◌, ◌||◌, not, Bool, true, false, if◌then◌else◌, List, [], ◌∷◌, ◌++◌, length, map, take, codes, nat_eq}
 use Rattle.std.specs.List.{list_any, slice_split, ends_with}

@@ -1,3 +1,4 @@
+-- Part of the main theorem.
 -- Matchers: what a line `KIND ARGS` adds to one.
 use Rattle.std.specs.Prelude.{ℕ, ◌==◌, Bool, if◌then◌else◌, List, [], ◌∷◌, ◌++◌, codes, Option, Some, None, option_map, unwrap_or}
 use Rattle.std.specs.List.{list_any, before_first, after_first}

@@ -1,3 +1,4 @@
+-- Part of the main theorem.
 -- The configuration of a list of sites.
 use Rattle.std.specs.Prelude.{ℕ, suc, ◌+◌, ◌==◌, not, Bool, true, false, if◌then◌else◌, List, [], ◌∷◌, ◌++◌, map, filter, codes, decimal, Option, Some, None, is_some}
 use Rattle.std.specs.List.{list_any}

@@ -1,3 +1,4 @@
+-- Part of the main theorem.
 -- Shorthands of placeholders.
 use Rattle.std.specs.Prelude.{ℕ, ◌==◌, true, false, if◌then◌else◌, List, [], ◌∷◌, ◌++◌, codes}
 use Rattle.std.specs.Str.{bytes_eq}

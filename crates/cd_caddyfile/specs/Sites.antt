@@ -1,3 +1,4 @@
+-- Part of the main theorem.
 -- What a Caddyfile says: sites, each with a block of directives.
 use Rattle.std.specs.Prelude.{ℕ, List, [], Option, None}
 use Rattle.cd_caddyfile.specs.declared.address.Address.{Address}

@@ -1,3 +1,4 @@
+-- Part of the main theorem.
 -- What the lines of a file say, each by where it is.
 use Rattle.std.specs.Prelude.{ℕ, Bool, true, false, if◌then◌else◌, List, [], ◌∷◌, ◌++◌, map, Option, Some, None}
 use Rattle.cd_caddyfile.specs.Blocks.{Lines, end, line, block}

@@ -1,3 +1,4 @@
+-- Part of the main theorem.
 -- The words of a fault.
 use Rattle.std.specs.Prelude.{ℕ, List, ◌++◌, codes, decimal}
 use Rattle.cd_caddyfile.specs.declared.fault.CaddyfileFault.{CaddyfileFault}

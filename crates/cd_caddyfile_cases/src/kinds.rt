@@ -1,4 +1,5 @@
 //! The kinds of rows, each named by a member that no other kind has.
+use crate::adapts::adapt_outcome;
 use crate::checks::check_outcome;
 use cd_rows::{Kinds, Outcome, RowFault, has};
 use cd_tree::Tree;
@@ -12,6 +13,8 @@ impl Kinds for Cases {
     fn outcome(&self, alloc: Global, row: &Tree) -> Result<Outcome, RowFault> {
         if has(row, "caddyfile") {
             check_outcome(alloc, row)
+        } else if has(row, "adapt") {
+            adapt_outcome(alloc, row)
         } else {
             Err(RowFault::Malformed("a row of no known kind"))
         }

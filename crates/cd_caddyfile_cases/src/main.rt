@@ -4,6 +4,7 @@
 //! is said in `cd_rows`. The exit status is 0 where every row of every file agrees.
 #![tactic(auto)]
 
+mod adapts;
 mod checks;
 mod kinds;
 

@@ -1,0 +1,19 @@
+use Rattle.std.proofs.Common.{ap, sym, ◌∙◌, List, ℕ, length, map}
+use Rattle.std.proofs.lemmas.Bool.{eqb-true, eqb-false}
+use Rattle.cd_caddyfile.proofs.WordSteps.{if_ok}
+use Rattle.cd_caddyfile.specs.Shape.{servers}
+use Rattle.cd_parts.specs.Measures.{measured_entry}
+use Rattle.cd_adapt.specs.Splitting.{site_made}
+use Rattle.cd_adapt.specs.declared.splitting.SiteLines.{SiteLines}
+use Rattle.cd_adapt.proofs.ServingLaws.{no_sites, some_sites, no_elements}
+use Rattle.cd_adapt.proofs.serving.shape_of.Goals as goal
+
+pub returns-then-is_empty : goal.returns-then-is_empty
+returns-then-is_empty c = if_ok c.nothing.result (λ made is tests_of agrees.
+    no_sites tests_of c.args.sites.now made (no_elements c.args.sites.now (eqb-true _ _ (sym c.is_empty.ensures ∙ c.if-is_empty.true))) is) c.nothing.ensures
+
+pub returns : goal.returns
+returns c = if_ok c.apps_of.result (λ made is tests_of agrees.
+    some_sites tests_of c.args.sites.now c.in_ok-ports.ports c.in_ok-servers.servers made
+    (λ none. eqb-false _ _ (sym c.is_empty.ensures ∙ c.if-is_empty.false) (ap (λ (l : List SiteLines). length l) none)) (c.in_ok-ports.ensures.ports tests_of)
+    (c.in_ok-servers.ensures tests_of agrees ∙ ap (λ (l : List ℕ). map measured_entry (servers l (map (site_made tests_of) c.args.sites.now) 0 0)) c.as_slice.ensures) is) c.apps_of.ensures

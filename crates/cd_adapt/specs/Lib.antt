@@ -1,0 +1,5 @@
+pub mod Steps
+pub mod Splitting
+pub mod Counting
+pub mod Laying
+pub mod Serving

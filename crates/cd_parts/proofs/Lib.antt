@@ -1,0 +1,4 @@
+pub mod MeasureLaws
+mod HandlerLemmas
+mod SetSteps
+pub mod TextTests

@@ -1,0 +1,8 @@
+use Rattle.std.proofs.Common.{◌≡◌, rules, arith, get_or}
+use Rattle.cd_parts.proofs.TextTests.{after_sign}
+use Rattle.cd_parts.proofs.handlers.deletion.Goals as goal
+
+pub as_text-requires : goal.as_text-requires
+as_text-requires c =
+    let sign : get_or c.args.field.now 0 0 ≡ 45 = search rules in
+    after_sign c.args.field.now 45 sign (omega arith) c.in-45.len_at_least c.requires

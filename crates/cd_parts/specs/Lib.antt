@@ -1,0 +1,4 @@
+pub mod Texts
+pub mod Measures
+pub mod Making
+pub mod Matching
