@@ -22,11 +22,15 @@ use Rattle.cd_module.specs.declared.fault.LoadFault.{LoadFault}
 use Rattle.cd_module.specs.declared.fault.LoadFault.TheVariants as load
 use Rattle.cd_legal.specs.declared.plan.Plan.{Plan}
 use Rattle.cd_admin.specs.Admin.{admin_of}
-use Rattle.cd_admin.specs.Asking.{takes_body, no_halt, acceptable, tree_in, body_for, asked}
+use Rattle.cd_caddyfile.specs.Adapting.{adapted}
+use Rattle.cd_caddyfile.specs.declared.fault.CaddyfileFault.{CaddyfileFault}
+use Rattle.cd_admin.specs.declared.form.Form.{Form}
+use Rattle.cd_admin.specs.declared.form.Form.TheVariants.{Json, Caddyfile}
+use Rattle.cd_admin.specs.Asking.{takes_body, takes_caddyfile, no_halt, form_for, tree_in, adapted_in, read_as, body_for, asked}
 use Rattle.cd_admin.specs.Deciding.{below_id, path_in, looked, verb_of, tag_of_value, tag_test, tags_test, matches, edited, differs, made, fine, replaced, outcome, decided, halt}
 use Rattle.cd_admin.specs.Endings.{Test}
 use Rattle.cd_admin.specs.Endpoints.{text_in, split_text, parts_of, without_last_slashes, skip_slashes, config_at, id_of, id_at, endpoint, any_method, post_alone, action_at}
-use Rattle.cd_admin.specs.Fields.{are_json, must_revalidate}
+use Rattle.cd_admin.specs.Fields.{are_caddyfile, are_json, must_revalidate}
 use Rattle.cd_admin.specs.Origins.{expected, host_test, origin_test, is_among, without_scheme, admitted}
 use Rattle.cd_admin.specs.declared.action.Action.{Action}
 use Rattle.cd_admin.specs.declared.action.Action.TheVariants.{Look, Change}
@@ -127,19 +131,30 @@ no_halt-ends (Id id below) = refl
 no_halt-ends Load = refl
 no_halt-ends Stop = refl
 
-pub acceptable-ends : (action : Action) (fields : List Field) → ends_in is_answer (acceptable action fields) ≡ true
-unfolding acceptable
-acceptable-ends action fields = if-ends is_answer (takes_body action && not (are_json (values (codes "content-type") fields))) _ _ refl refl
+pub form-ends : (place : Endpoint) (action : Action) (fields : List Field) → ends_in is_answer (form_for place action fields) ≡ true
+unfolding form_for
+form-ends place action fields =
+    let types = values (codes "content-type") fields in
+    if-ends is_answer (not (takes_body action)) _ _ refl
+    (if-ends is_answer (are_json types) _ _ refl (if-ends is_answer (takes_caddyfile place && are_caddyfile types) _ _ refl refl))
 
 tree-ends : (r : Result Tree TreeFault) → ends_in is_answer (tree_in r) ≡ true
 tree-ends (Ok tree) = refl
 tree-ends (Err fault) = refl
 
-pub body-ends : (action : Action) (bytes : List ℕ) → ends_in is_answer (body_for action bytes) ≡ true
+adapted-ends : (r : Result Tree CaddyfileFault) → ends_in is_answer (adapted_in r) ≡ true
+adapted-ends (Ok tree) = refl
+adapted-ends (Err fault) = refl
+
+read-ends : (form : Form) (bytes : List ℕ) → ends_in is_answer (read_as form bytes) ≡ true
+read-ends Json bytes = tree-ends (tree_of bytes)
+read-ends Caddyfile bytes = adapted-ends (adapted bytes)
+
+pub body-ends : (action : Action) (form : Form) (bytes : List ℕ) → ends_in is_answer (body_for action form bytes) ≡ true
 unfolding body_for
-body-ends action bytes =
+body-ends action form bytes =
     if-ends is_answer (not (takes_body action)) _ _ refl
-    (if-ends is_answer (length bytes == 0) _ _ refl (tree-ends (tree_of bytes)))
+    (if-ends is_answer (length bytes == 0) _ _ refl (read-ends form bytes))
 
 asked-ends : (q : Request) → ends_in is_answer_or_halt (asked q) ≡ true
 unfolding asked
@@ -147,8 +162,8 @@ asked-ends q =
     then-ends is_answer_or_halt (endpoint q.path) _ (or-halt (endpoint q.path) (endpoint-ends q.path)) (λ place.
     then-ends is_answer_or_halt (action_at place q.method) _ (or-halt (action_at place q.method) (action-ends place q.method)) (λ action.
     then-ends is_answer_or_halt (no_halt place) _ (no_halt-ends place) (λ u.
-    then-ends is_answer_or_halt (acceptable action q.fields) _ (or-halt (acceptable action q.fields) (acceptable-ends action q.fields)) (λ u.
-    then-ends is_answer_or_halt (body_for action q.body) _ (or-halt (body_for action q.body) (body-ends action q.body)) (λ body. refl)))))
+    then-ends is_answer_or_halt (form_for place action q.fields) _ (or-halt (form_for place action q.fields) (form-ends place action q.fields)) (λ form.
+    then-ends is_answer_or_halt (body_for action form q.body) _ (or-halt (body_for action form q.body) (body-ends action form q.body)) (λ body. refl)))))
 
 -- ---- where it comes from
 

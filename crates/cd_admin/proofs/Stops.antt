@@ -6,7 +6,7 @@ use Rattle.std.specs.List.{starts_with}
 use Rattle.std.specs.Str.{bytes_eq}
 use Rattle.cd_text.specs.Steps.{◌▷◌}
 use Rattle.cd_wire.specs.declared.request.Request.{Request}
-use Rattle.cd_admin.specs.Asking.{no_halt, acceptable, body_for, asked}
+use Rattle.cd_admin.specs.Asking.{no_halt, form_for, body_for, asked}
 use Rattle.cd_admin.specs.Endings.{Test, denied}
 use Rattle.cd_admin.specs.Endpoints.{parts_of, without_last_slashes, skip_slashes, config_at, id_of, id_at, endpoint, action_at}
 use Rattle.cd_admin.specs.declared.action.Action.{Action}
@@ -18,7 +18,7 @@ use Rattle.cd_path.specs.declared.verb.Verb.TheVariants.{Post}
 use Rattle.cd_admin.specs.declared.ending.Ending.TheVariants as ending
 use Rattle.cd_admin.specs.declared.endpoint.Endpoint.{Endpoint}
 use Rattle.cd_admin.specs.declared.endpoint.Endpoint.TheVariants.{Config, Id, Load, Stop}
-use Rattle.cd_admin.proofs.Halts.{ends_in, is_answer, then-ends, endpoint-ends, action-ends, acceptable-ends, body-ends}
+use Rattle.cd_admin.proofs.Halts.{ends_in, is_answer, then-ends, endpoint-ends, action-ends, form-ends, body-ends}
 
 -- ---- where a halt comes from
 
@@ -98,14 +98,14 @@ by_post method action e = (bytes_eq-Decides method (codes "POST")).0 (posted (by
 -- the tests after that of the endpoint
 abbrev rest : Endpoint → Action → Request → Test Asked
 rest place action q =
-    acceptable action q.fields ▷ λ _.
-    body_for action q.body ▷ λ body.
+    form_for place action q.fields ▷ λ form.
+    body_for action form q.body ▷ λ body.
     Ok (record { place = place; action = action; body = body })
 
 rest-ends : (place : Endpoint) (action : Action) (q : Request) → ends_in is_answer (rest place action q) ≡ true
 rest-ends place action q =
-    then-ends is_answer (acceptable action q.fields) _ (acceptable-ends action q.fields) (λ u.
-    then-ends is_answer (body_for action q.body) _ (body-ends action q.body) (λ body. refl))
+    then-ends is_answer (form_for place action q.fields) _ (form-ends place action q.fields) (λ form.
+    then-ends is_answer (body_for action form q.body) _ (body-ends action form q.body) (λ body. refl))
 
 at-halt : (place : Endpoint) (action : Action) (q : Request) → (no_halt place ▷ λ _. rest place action q) ≡ Err ending.Halt → place ≡ Stop
 unfolding no_halt

@@ -33,6 +33,7 @@ allow_fields (denial.OtherMethod methods) = field (codes "allow") (allow methods
 allow_fields denial.ContentType = []
 allow_fields denial.NoBody = []
 allow_fields (denial.Body fault) = []
+allow_fields (denial.Sites fault) = []
 allow_fields (denial.UnknownId id) = []
 allow_fields (denial.Edit fault) = []
 allow_fields denial.MalformedIfMatch = []

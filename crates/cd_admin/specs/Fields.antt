@@ -1,6 +1,6 @@
 -- Part of the main theorem.
 -- What the fields of a request say to the admin API.
-use Rattle.std.specs.Prelude.{ℕ, ◌==◌, ◌&&◌, ◌-◌, Bool, true, List, [], ◌∷◌, length, take, drop, codes, nat_eq}
+use Rattle.std.specs.Prelude.{ℕ, ◌==◌, ◌&&◌, ◌-◌, Bool, true, false, List, [], ◌∷◌, length, take, drop, codes, nat_eq}
 use Rattle.std.specs.Char.{is_ascii_whitespace}
 use Rattle.std.specs.List.{list_any, slice_split, prefix_len, suffix_len, before_first, ends_with}
 use Rattle.std.specs.Str.{bytes_eq, str_to_ascii_lowercase}
@@ -20,14 +20,24 @@ trimmed bytes = let rest = without_first_spaces bytes in take (length rest - suf
 abbrev pub is_semicolon : ℕ → Bool
 is_semicolon b = b == 59
 
--- the type without its parameters ends in `/json`, in any case
+-- the type without its parameters, in lower case
+abbrev pub type_in : List ℕ → List ℕ
+type_in value = str_to_ascii_lowercase (trimmed (before_first is_semicolon value))
+
 abbrev pub is_json_type : List ℕ → Bool
-is_json_type value = ends_with nat_eq (str_to_ascii_lowercase (trimmed (before_first is_semicolon value))) (codes "/json")
+is_json_type value = ends_with nat_eq (type_in value) (codes "/json")
+
+abbrev pub is_caddyfile_type : List ℕ → Bool
+is_caddyfile_type value = bytes_eq (type_in value) (codes "text/caddyfile")
 
 -- the first value decides, and no value is fine
 abbrev pub are_json : List (List ℕ) → Bool
 are_json [] = true
 are_json (value ∷ more) = is_json_type value
+
+abbrev pub are_caddyfile : List (List ℕ) → Bool
+are_caddyfile [] = false
+are_caddyfile (value ∷ more) = is_caddyfile_type value
 
 -- ---- Cache-Control (RFC 9111, section 5.2)
 

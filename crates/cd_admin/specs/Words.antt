@@ -5,6 +5,7 @@ use Rattle.cd_tree.specs.declared.fault.TreeFault.{TreeFault}
 use Rattle.cd_tree.specs.declared.fault.TreeFault.TheVariants as tree
 use Rattle.cd_path.specs.declared.fault.EditFault.{EditFault}
 use Rattle.cd_path.specs.declared.fault.EditFault.TheVariants as edit
+use Rattle.cd_caddyfile.specs.Wording.{fault_words}
 use Rattle.cd_module.specs.Words.{words as load_words}
 use Rattle.cd_admin.specs.declared.denial.Denial.{Denial}
 use Rattle.cd_admin.specs.declared.denial.Denial.TheVariants as denial
@@ -59,6 +60,7 @@ words (denial.OtherMethod methods) = codes "method not allowed"
 words denial.ContentType = codes "unacceptable content-type"
 words denial.NoBody = codes "body missing"
 words (denial.Body fault) = tree_words fault
+words (denial.Sites fault) = fault_words fault
 words (denial.UnknownId id) = codes "unknown id " ++ id
 words (denial.Edit fault) = edit_words fault
 words denial.MalformedIfMatch = codes "malformed If-Match"
@@ -73,6 +75,7 @@ status (denial.OtherMethod methods) = 405
 status denial.ContentType = 400
 status denial.NoBody = 400
 status (denial.Body fault) = 400
+status (denial.Sites fault) = 400
 status (denial.UnknownId id) = 404
 status (denial.Edit fault) = edit_status fault
 status denial.MalformedIfMatch = 400

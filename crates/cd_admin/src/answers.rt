@@ -5,7 +5,7 @@ ghost use Rattle.cd_admin.specs.Answers.{field, json_type, line, error_tree, all
 
 use crate::denial::Denial;
 use cd_text::{List, NoMemory, Octets, Text};
-use cd_tree::{Member, Shared, Tree, print_ordered};
+use cd_tree::{Member, Shared, SharedText, Tree, print_ordered};
 use cd_wire::{Answer, Field, Lent};
 use std::alloc::Global;
 
@@ -113,7 +113,7 @@ fn error_line(alloc: Global, words: Text) -> Result<Octets, NoMemory>
     let key = Text::from_str(alloc, "error")?;
     members.push(Member {
         key,
-        value: Tree::Text(words),
+        value: Tree::Text(SharedText::new(alloc, words)?),
     })?;
     let printed = print_ordered(alloc, &Tree::Object(Shared::new(alloc, members)?))?;
     line(alloc, &printed)

@@ -27,12 +27,13 @@ use std::alloc::Global;
 
 /// What a request comes to under a tree (Caddy documentation, "API").
 ///
-/// The tests, in their order, and how the request ends where one does not pass: where the configuration enforces origins, its Host
-/// is expected, and its Origin if it has one (403); its path names something (404), which takes its
-/// method (405, with Allow); POST to `/stop` is the halt; a body is JSON by its Content-Type (400), and is there and a tree
-/// (400); an id is known (404); a GET is answered with the value and its tag, or why its path leads nowhere; If-Match has the
-/// form of a tag (400) and holds (412); the edit is done (400, 404, 409); the tree differs, or Cache-Control has
-/// `must-revalidate` (else 200, and nothing changes); the set of modules finds no fault (400). Then the tree is replaced.
+/// The tests, in their order, and how the request ends where one does not pass: where the configuration enforces origins, its
+/// Host is expected, and its Origin if it has one (403); its path names something (404), which takes its method (405, with
+/// Allow); POST to `/stop` is the halt; a body is JSON by its Content-Type, or a Caddyfile for `/load` (400), and is there, and
+/// is a tree or a Caddyfile without a fault (400); an id is known (404); a GET is answered with the value and its tag, or why its
+/// path leads nowhere; If-Match has the form of a tag (400) and holds (412); the edit is done (400, 404, 409); the tree differs,
+/// or Cache-Control has `must-revalidate` (else 200, and nothing changes); the set of modules finds no fault (400). Then the tree
+/// is replaced.
 ///
 /// The tree of a replacement is the one that the request asks for by the meaning of the set, so that a board may publish it by this
 /// request; an answer and the halt come where the request asks for none.

@@ -1,3 +1,4 @@
+use cd_caddyfile::CaddyfileFault;
 use cd_module::Refusal;
 use cd_path::EditFault;
 use cd_text::Text;
@@ -23,12 +24,14 @@ pub enum Denial {
     UnknownPath,
     /// What its path names takes other methods.
     OtherMethod(Methods),
-    /// Its Content-Type does not end in `/json`.
+    /// Its Content-Type does not end in `/json`, and is not that of a Caddyfile for `/load`.
     ContentType,
     /// A method that needs a body has none.
     NoBody,
     /// Its body is no tree.
     Body(TreeFault),
+    /// Its body is a Caddyfile that has a fault.
+    Sites(CaddyfileFault),
     /// No object has this id.
     UnknownId(Text),
     /// Its path leads nowhere, or the edit is refused.

@@ -3,7 +3,7 @@ ghost use Rattle.std.specs.Prelude.{◌≡◌, map, IfOk};
 ghost use Rattle.std.specs.List.{list_any, before_first, position};
 ghost use Rattle.std.specs.Str.{bytes_eq};
 ghost use Rattle.cd_wire.specs.Fields.{is_named, values};
-ghost use Rattle.cd_admin.specs.Fields.{trimmed, is_semicolon, is_json_type, are_json, is_must_revalidate, has_must_revalidate, is_revalidating, must_revalidate};
+ghost use Rattle.cd_admin.specs.Fields.{trimmed, is_semicolon, is_json_type, is_caddyfile_type, are_json, are_caddyfile, is_must_revalidate, has_must_revalidate, is_revalidating, must_revalidate};
 
 use cd_text::NoMemory;
 use cd_wire::Field;
@@ -45,11 +45,27 @@ pub(crate) fn are_json(alloc: Global, values: &[&[u8]]) -> Result<bool, NoMemory
     }
 }
 
+/// Whether it is a Caddyfile by them.
+pub(crate) fn are_caddyfile(values: &[&[u8]]) -> bool
+    ensures { result ≡ are_caddyfile (map (λ value. value.now) values.now) }
+{
+    match values {
+        [] => false,
+        [value, ..] => is_caddyfile_type(value),
+    }
+}
+
 fn is_json_type(alloc: Global, value: &[u8]) -> Result<bool, NoMemory>
     ensures { IfOk result (λ answer. answer ≡ is_json_type value.now) }
 {
     let kind = trimmed(without_parameters(value)).to_ascii_lowercase(alloc)?;
     Ok(kind.as_slice().ends_with(b"/json".as_slice()))
+}
+
+fn is_caddyfile_type(value: &[u8]) -> bool
+    ensures { result ≡ is_caddyfile_type value.now }
+{
+    trimmed(without_parameters(value)).eq_ignore_ascii_case(b"text/caddyfile".as_slice())
 }
 
 /// What comes before the first `;`.

@@ -27,6 +27,7 @@ mod denial;
 mod ending;
 mod endpoint;
 mod fields;
+mod form;
 mod laws;
 mod making;
 mod origins;

@@ -3,6 +3,7 @@ ghost use Rattle.std.specs.Prelude.{◌≡◌, ◌++◌, IfOk, string_bytes};
 ghost use Rattle.cd_admin.specs.Words.{tree_words, edit_words, edit_status, words, status, allow};
 
 use crate::denial::{Denial, Methods};
+use cd_caddyfile::fault_words;
 use cd_path::EditFault;
 use cd_text::{NoMemory, Text};
 use cd_tree::TreeFault;
@@ -94,6 +95,7 @@ impl Denial {
             Denial::ContentType
             | Denial::NoBody
             | Denial::Body(_)
+            | Denial::Sites(_)
             | Denial::MalformedIfMatch
             | Denial::Load(_) => 400,
         }
@@ -111,6 +113,7 @@ impl Denial {
             Denial::ContentType => Text::from_str(alloc, "unacceptable content-type"),
             Denial::NoBody => Text::from_str(alloc, "body missing"),
             Denial::Body(fault) => Text::from_str(alloc, tree_words(*fault)),
+            Denial::Sites(fault) => fault_words(alloc, fault),
             Denial::UnknownId(id) => unknown_id(alloc, id),
             Denial::Edit(fault) => Text::from_str(alloc, edit_words(*fault)),
             Denial::MalformedIfMatch => Text::from_str(alloc, "malformed If-Match"),

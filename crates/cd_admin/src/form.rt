@@ -1,0 +1,6 @@
+/// What a body is written in.
+#[derive(Clone, Copy, Debug)]
+pub enum Form {
+    Json,
+    Caddyfile,
+}
