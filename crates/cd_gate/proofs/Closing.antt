@@ -1,5 +1,5 @@
 -- What is known when a gate is closed.
-use Rattle.std.proofs.Common.{◌≡◌, ℕ, zero, suc, ◌<◌, Bool, true, false, List, [], ◌∷◌, ◌++◌, length, drop, get_or, refl, sym, ap, ◌∙◌, subst, ⊎_elim, arith, Option, Some, append_assoc}
+use Rattle.std.proofs.Common.{◌≡◌, ℕ, zero, suc, ◌<◌, Bool, true, false, not, nat_lt, List, [], ◌∷◌, ◌++◌, length, drop, get_or, refl, sym, ap, ◌∙◌, subst, ⊎_elim, arith, Option, Some, None, append_assoc}
 use mathlib.Core.Option.{some, some-ne-none, some-injective}
 use mathlib.Core.Logic.{dite}
 use mathlib.Core.List.{IsPrefix}
@@ -10,15 +10,18 @@ use Rattle.atomic_table.specs.Seated.{TableId}
 use Rattle.atomic_table.proofs.Lists.{at_longer, at_last}
 use Rattle.cd_legal.specs.declared.entry.Signed.{Signed}
 use Rattle.cd_legal.specs.Entry.{mine}
-use Rattle.cd_legal.specs.State.{has_number}
+use Rattle.cd_legal.specs.declared.state.State.{State as Host}
+use Rattle.cd_legal.specs.State.{has_number, apps_stopped}
 use Rattle.cd_legal.specs.Legal.{state_at, may_retire}
 use Rattle.cd_legal.specs.Owing.{owes_of, owes_nothing}
+use Rattle.cd_legal.proofs.Histories.{both, first, second}
 use Rattle.cd_legal.proofs.Logs.{prefix_trans}
 use Rattle.cd_legal.proofs.Owing.{owes-none}
 use Rattle.cd_gate.specs.declared.table.TheConstants.{TURN_WORD, BOARD_SLOT}
 use Rattle.cd_gate.specs.declared.view.View.{View}
 use Rattle.cd_gate.specs.declared.view.Gone.{Gone}
 use Rattle.cd_gate.specs.declared.pass.Pass.{Pass}
+use Rattle.cd_gate.specs.Duties.{is_settled, is_due}
 use Rattle.cd_gate.specs.Words.{owed}
 use Rattle.cd_gate.specs.Rule.{HasLeft, IsKept}
 use Rattle.cd_gate.specs.Steps.{gone_of, joining}
@@ -26,7 +29,7 @@ use Rattle.cd_gate.specs.Tables.{Holds, moment_of}
 use Rattle.cd_gate.specs.Passes.{view, IsIdle}
 use Rattle.cd_gate.specs.Ends.{IsRow, IsFree, AreFree, AllIn, Gathers, Closes}
 use Rattle.cd_gate.proofs.Longer.{longer_first}
-use Rattle.cd_gate.proofs.Views.{off}
+use Rattle.cd_gate.proofs.Numbers.{off}
 
 at_middle : {A : Type 0} (xs ys : List A) (a : A) → get_elem? (xs ++ a ∷ ys) (length xs) ≡ some a
 at_middle [] ys a = refl
@@ -151,9 +154,20 @@ module _ {T : Type 0} where
         (λ t. ap (λ m. owes_of m r.log) (sym t.3) ∙ (k.numbers.gone t.0 t.1 t.2).0.owes)
         (k.numbers.known n (omega (arith, more))))
 
+    -- with nothing unsettled each serial that may be retired is due
+    due_now : (n : ℕ) → may_retire (state_at r.log) n ≡ true → is_due (state_at r.log) r.kept.unsettled n ≡ true
+    due_now n may =
+        let s : Host = state_at r.log in
+        let low = first (nat_lt n s.serial) _ may in
+        let rest = second (nat_lt n s.serial) _ may in
+        let new = first (not (has_number n s.retired)) _ rest in
+        let done = second (apps_stopped s n) _ (second (not (has_number n s.retired)) _ rest) in
+        ap (λ (o : Option ℕ). is_due s o n) (k.free is_free).2
+        ∙ both (is_settled s None n) _ (both (nat_lt n s.serial) true low refl) (both (not (has_number n s.retired)) _ new done)
+
     none_due : (n : ℕ) → may_retire (state_at r.log) n ≡ true → ⊥
     none_due n may =
-        let t = k.duties.whole n may in
+        let t = k.duties.whole n (due_now n may) in
         let e : false ≡ true = ap (has_number n) (sym root_free.1) ∙ (ap (λ (v : View T). has_number n v.duties) (sym (alone t.0 t.1 t.2 t.3)) ∙ t.4) in off e
 
     pub closes : (b : T) × (get_elem? s.homes BOARD_SLOT ≡ some (some (Some b))) × Closes stands o all b

@@ -25,12 +25,7 @@ use Rattle.cd_legal.proofs.Logs.{state-snoc, history-snoc, history-along}
 use Rattle.cd_legal.proofs.Owing.{owes-snoc}
 use Rattle.cd_legal.proofs.Owners.{live-owned}
 use Rattle.cd_gate.specs.Rule.{signs_all}
-use Rattle.cd_gate.proofs.Numbers.{left, right}
-use Rattle.cd_gate.proofs.Views.{off}
-
-tells : (b : Bool) → (b ≡ true) ⊎ (b ≡ false)
-tells true = inl refl
-tells false = inr refl
+use Rattle.cd_gate.proofs.Numbers.{tells, left, right, off}
 
 -- ---- no entry of a draft that is not there
 

@@ -1,27 +1,16 @@
--- What one turn tells, as entries and as places.
-use Rattle.std.proofs.Common.{◌≡◌, ℕ, ◌==◌, Bool, true, false, cond, List, [], ◌∷◌, ◌++◌, refl, sym, ap, ◌∙◌, subst, eq-eqb}
+-- What calls tell, as entries and as places.
+use Rattle.std.proofs.Common.{◌≡◌, ℕ, ◌==◌, Bool, true, false, cond, List, [], ◌∷◌, ◌++◌, refl, sym, ap, ◌∙◌, subst}
 use Rattle.std.proofs.lemmas.Bool.{eqb-true}
 use Rattle.std.proofs.lemmas.List.{append-nil, append_assoc, append_cancel_left, map-append}
 use mathlib.Core.List.{IsPrefix}
 use Rattle.cd_legal.specs.declared.entry.Entry.{Entry}
 use Rattle.cd_legal.specs.declared.entry.Signed.{Signed}
 use Rattle.cd_legal.specs.Entry.{signed, mine, entries}
-use Rattle.cd_legal.specs.Owing.{Owes}
 use Rattle.cd_legal.specs.Placed.{Placed, placed_from, placed, placed_entries, through}
-use Rattle.cd_legal.specs.Signing.{IsHistory}
-use Rattle.cd_legal.proofs.Logs.{prefix_more, prefix_trans, mine-append, entries-append}
+use Rattle.cd_legal.proofs.Logs.{prefix_trans, entries-append}
 use Rattle.cd_legal.proofs.Placed.{placed-append, placed-entries}
 use Rattle.cd_gate.specs.declared.view.View.{View}
-use Rattle.cd_gate.specs.Words.{owed}
-use Rattle.cd_gate.specs.Steps.{with_turn, without_turn, noted}
-use Rattle.cd_gate.specs.Growing.{all_signed, EndsWith, owes_after, Grows, Places, noted_all, Since}
-
--- all of them are the pass's own
-mine_all : (k : ℕ) (es : List Entry) → mine k (all_signed k es) ≡ all_signed k es
-mine_all k [] = refl
-mine_all k (e ∷ es) =
-    ap (λ (b : Bool). cond b (signed k e ∷ mine k (all_signed k es)) (mine k (all_signed k es))) (eq-eqb k k refl)
-    ∙ ap (λ (l : List Signed). signed k e ∷ l) (mine_all k es)
+use Rattle.cd_gate.specs.Growing.{all_signed, Grows, Places}
 
 entries_all : (k : ℕ) (es : List Entry) → entries (all_signed k es) ≡ es
 entries_all k [] = refl
@@ -30,12 +19,6 @@ entries_all k (e ∷ es) = ap (λ (l : List Entry). e ∷ l) (entries_all k es)
 all-append : (k : ℕ) (xs ys : List Entry) → all_signed k (xs ++ ys) ≡ all_signed k xs ++ all_signed k ys
 all-append k [] ys = refl
 all-append k (x ∷ xs) ys = ap (λ (l : List Signed). signed k x ∷ l) (all-append k xs ys)
-
-ends : (log : List Signed) (k : ℕ) (es : List Entry) → EndsWith (log ++ all_signed k es) k es
-ends log k [] = tt
-ends log k (e ∷ []) = (log, refl)
-ends log k (e ∷ f ∷ es) =
-    subst (λ (l : List Signed). EndsWith l k (f ∷ es)) (append_assoc log (signed k e ∷ []) (all_signed k (f ∷ es))) (ends (log ++ signed k e ∷ []) k (f ∷ es))
 
 -- ---- places
 
@@ -70,59 +53,6 @@ through_both k own [] front whole one goes two = subst (λ (l : List Placed). Is
 through_both k own (q ∷ more) front whole one goes two = subst (λ (l : List Signed). IsPrefix l whole) (sym (through_last k own q more)) two
 
 module _ {T : Type 0} where
-  -- one more is noted last
-  noted_last : (v : View T) (es : List Entry) (e : Entry) → noted_all v (es ++ e ∷ []) ≡ noted (noted_all v es) e
-  noted_last v [] e = refl
-  noted_last v (f ∷ es) e = noted_last (noted v f) es e
-
-  -- what all of them leave of a view
-  noted_is : (v : View T) (es : List Entry) →
-      noted_all v es ≡ record v { seen = v.seen ++ all_signed v.number es; mine = v.mine ++ all_signed v.number es; ticket = (owes_after (owed v) es).ticket; draft = (owes_after (owed v) es).draft; duties = (noted_all v es).duties }
-  noted_is v [] = λ i. record v { seen = sym (append-nil v.seen) i; mine = sym (append-nil v.mine) i }
-  noted_is v (e ∷ es) =
-      noted_is (noted v e) es
-      ∙ (λ i. record v {
-        seen = append_assoc v.seen (signed v.number e ∷ []) (all_signed v.number es) i;
-        mine = append_assoc v.mine (signed v.number e ∷ []) (all_signed v.number es) i;
-        ticket = (owes_after (owed v) (e ∷ es)).ticket;
-        draft = (owes_after (owed v) (e ∷ es)).draft;
-        duties = (noted_all v (e ∷ es)).duties;
-      })
-
-  -- a turn begins with no entry
-  pub since_none : (v w : View T) (log : List Signed) → IsPrefix v.seen log → mine v.number log ≡ v.mine → mine v.number v.seen ≡ v.mine → w ≡ with_turn v log → Since v [] w
-  since_none v w log seen own own_seen is = record { log = log; seen = seen; own = own; own_seen = own_seen; is = is }
-
-  -- and goes on by one
-  pub since_more : (v w x : View T) (es : List Entry) (e : Entry) → Since v es w → x ≡ noted w e → Since v (es ++ e ∷ []) x
-  since_more v w x es e s is = record {
-    log = s.log;
-    seen = s.seen;
-    own = s.own;
-    own_seen = s.own_seen;
-    is = is ∙ (ap (λ (z : View T). noted z e) s.is ∙ sym (noted_last (with_turn v s.log) es e));
-  }
-
-  -- what the pass has seen once the turn is left
-  pub grows : (v w x : View T) (es : List Entry) → Since v es w → v.turn ≡ false → IsHistory w.seen → x ≡ without_turn w → Grows v x es
-  grows v w x es s idle history is =
-      let all : List Signed = all_signed v.number es in
-      let o : Owes = owes_after (owed v) es in
-      let before : View T = with_turn v s.log in
-      let end : View T = record v { seen = s.log ++ all; mine = v.mine ++ all; ticket = o.ticket; draft = o.draft; duties = (noted_all before es).duties } in
-      let left : w ≡ record end { turn = true } = s.is ∙ noted_is before es in
-      let now : x ≡ end = is ∙ (ap (λ (z : View T). without_turn z) left ∙ (λ i. record end { turn = sym idle i })) in
-      subst (λ (z : View T). Grows v z es) (sym now) record {
-        seen = prefix_more v.seen s.log all s.seen;
-        history = subst (λ (z : View T). IsHistory z.seen) left history;
-        before = s.own_seen;
-        own = mine-append v.number s.log all ∙ (ap (λ (l : List Signed). l ++ mine v.number all) s.own ∙ ap (λ (l : List Signed). v.mine ++ l) (mine_all v.number es));
-        adds = refl;
-        last = ends s.log v.number es;
-        owes = refl;
-        same = refl;
-      }
-
   -- the entries of a call, each where it stands
   pub grown : (v w : View T) (es : List Entry) → Grows v w es → (added : List Placed) × Places v w added × (placed_entries added ≡ es)
   grown v w es g =

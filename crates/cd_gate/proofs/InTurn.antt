@@ -1,94 +1,101 @@
 -- What a pass in its turn knows, entry by entry.
-use Rattle.std.proofs.Common.{◌≡◌, ℕ, ◌==◌, true, nat_lt, List, [], ◌∷◌, ◌++◌, Some, refl, sym, ap, ◌∙◌, ⊎_elim, eq-eqb}
-use Rattle.std.specs.Prelude.{◌&&◌, is_some}
+use Rattle.std.proofs.Common.{◌≡◌, ℕ, Bool, true, false, true≢false, cond, List, [], ◌∷◌, ◌++◌, refl, sym, ap, ◌∙◌, subst, ne_eqb}
+use Rattle.std.proofs.lemmas.List.{append-nil, append_assoc, append_cancel_left}
+use mathlib.Core.List.{IsPrefix}
 use Rattle.cd_legal.specs.declared.entry.Entry.{Entry}
-use Rattle.cd_legal.specs.declared.entry.Entry.TheVariants.{Finish}
+use Rattle.cd_legal.specs.declared.entry.Entry.TheVariants.{Begin, Finish, Retire, Draft, Made, Started}
 use Rattle.cd_legal.specs.declared.entry.Signed.{Signed}
 use Rattle.cd_legal.specs.declared.state.State.{State}
 use Rattle.cd_legal.specs.Entry.{signed, entries}
-use Rattle.cd_legal.specs.State.{has_number, ticket_of, open_at}
-use Rattle.cd_legal.specs.Legal.{allowed, after, state_at, may_retire}
+use Rattle.cd_legal.specs.State.{has_number}
+use Rattle.cd_legal.specs.Laws.{core_at, is_core}
+use Rattle.cd_legal.specs.Legal.{allowed, legal_from, state_at, may_retire, IsLegal}
 use Rattle.cd_legal.specs.Owing.{Owes, owes_by}
-use Rattle.cd_legal.specs.Signing.{may_sign}
+use Rattle.cd_legal.specs.Signing.{IsHistory}
 use Rattle.cd_legal.specs.Whole.{nothing_left}
-use Rattle.cd_legal.proofs.Histories.{both, first, second}
-use Rattle.cd_legal.proofs.Logs.{state-snoc, mine-own, history-snoc}
+use Rattle.cd_legal.proofs.Cores.{core-append}
+use Rattle.cd_legal.proofs.Histories.{first, second}
+use Rattle.cd_legal.proofs.Logs.{state-snoc, mine-own, legal-snoc, legal-back, history-front}
 use Rattle.cd_legal.proofs.Owing.{owes-own}
-use Rattle.cd_legal.proofs.Owed.{owed-ticket}
-use Rattle.cd_legal.proofs.Callers.{has-ticket_of, one_ticket}
 use Rattle.cd_legal.proofs.Serials.{legal-agree}
 use Rattle.cd_gate.specs.declared.view.View.{View}
-use Rattle.cd_gate.specs.Words.{owed}
-use Rattle.cd_gate.specs.Duties.{still_due, newly_due}
-use Rattle.cd_gate.specs.Steps.{may_note, with_turn, noted}
-use Rattle.cd_gate.specs.Tables.{Finds}
-use Rattle.cd_gate.specs.Knowing.{Knows, is_calm, due_at}
-use Rattle.cd_gate.proofs.Numbers.{has_append, either, still-was, newly-was}
-use Rattle.cd_gate.proofs.Calm.{left_calm, left_finish, duties_calm, duties_finish, unretired_here, told_due}
+use Rattle.cd_gate.specs.Duties.{duties_after, without_number}
+use Rattle.cd_gate.specs.Knowing.{Knows, is_calm}
+use Rattle.cd_gate.specs.Steps.{with_turn, noted}
+use Rattle.cd_gate.specs.Tables.{FoundInTurn, Finds}
+use Rattle.cd_gate.proofs.Calm.{left_calm}
+use Rattle.cd_gate.proofs.Entries.{left_same}
+use Rattle.cd_gate.proofs.Numbers.{without-was, without-none, off}
+use Rattle.cd_gate.proofs.Retiring.{retires, retirable-stays}
+
+-- ---- while requests begin and end
+
+requests_retire_none : (n : ℕ) (e : Entry) → is_core e ≡ false → retires n e ≡ false
+requests_retire_none n (Begin k m) is = refl
+requests_retire_none n (Finish k) is = refl
+requests_retire_none n e is = absurd (true≢false is)
+
+skips : (b : Bool) (x : Signed) (rest : List Signed) → cond b (x ∷ rest) rest ≡ [] → (b ≡ false) × (rest ≡ [])
+skips true x rest is = absurd (let h : x ∷ rest ≡ [] = is in cc)
+skips false x rest is = (refl, is)
+
+stays_along : (n : ℕ) (before more : List Signed) → IsLegal before → legal_from (state_at before) (entries more) ≡ true → core_at more ≡ [] → may_retire (state_at before) n ≡ true → may_retire (state_at (before ++ more)) n ≡ true
+stays_along n before [] is legal none may = ap (λ (b : List Signed). may_retire (state_at b) n) (append-nil before) ∙ may
+stays_along n before (x ∷ xs) is legal none may =
+    let allows = first (allowed (state_at before) x.entry) _ legal in
+    let q = skips (is_core x.entry) x (core_at xs) none in
+    let now = ap (λ (s : State). may_retire s n) (state-snoc before x) ∙ retirable-stays (state_at before) n x.entry (legal-agree (entries before) is) allows (requests_retire_none n x.entry q.0) may in
+    ap (λ (b : List Signed). may_retire (state_at b) n) (sym (append_assoc before (x ∷ []) xs))
+    ∙ stays_along n (before ++ x ∷ []) xs (legal-snoc before x is allows)
+    (ap (λ (s : State). legal_from s (entries xs)) (state-snoc before x) ∙ second (allowed (state_at before) x.entry) _ legal) q.1 now
+
+-- what may be retired may be so whatever requests begin and end
+pub retirable_on : (n : ℕ) (seen log : List Signed) → IsPrefix seen log → IsHistory log → core_at log ≡ core_at seen → may_retire (state_at seen) n ≡ true → may_retire (state_at log) n ≡ true
+retirable_on n seen log p is same may =
+    let more : List Signed = p.0 in
+    let whole : seen ++ more ≡ log = p.1 in
+    let none : core_at more ≡ [] = append_cancel_left (core_at seen) (core_at more) [] (sym (core-append seen more) ∙ (ap core_at whole ∙ (same ∙ sym (append-nil (core_at seen))))) in
+    ap (λ (l : List Signed). may_retire (state_at l) n) (sym whole)
+    ∙ stays_along n seen more (history-front seen log p is).is_legal (legal-back seen more (subst IsLegal (sym whole) is.is_legal)) none may
+
+-- ---- an entry of the turn
+
+-- a duty that is left was one, and the entry does not retire it
+left_duty : (n : ℕ) (duties : List ℕ) (e : Entry) → has_number n (duties_after duties e) ≡ true → (has_number n duties ≡ true) × (retires n e ≡ false)
+left_duty n duties (Retire m) is = (without-was n m duties is, ne_eqb n m (λ same. off (sym (without-none m duties) ∙ (ap (λ (z : ℕ). has_number z (without_number m duties)) (sym same) ∙ is))))
+left_duty n duties e is = (is, refl)
 
 module _ {T : Type 0} where
   -- what a pass finds that takes the turn
   pub finds : (stands : T → T → List Signed → Type 0) (o b : T) (v : View T) (log : List Signed) → Finds stands o v log b → Knows (with_turn v log)
-  finds stands o b v log f = record { history = f.history; own = f.own; owes = f.owes; duties = f.duties }
+  finds stands o b v log f = record { history = f.found.history; own = f.found.own; owes = f.found.owes; duties = f.duties }
 
-  -- one entry more
-  pub knows_noted : (v : View T) (e : Entry) → Knows v → may_note v e ≡ true → Knows (noted v e)
-  knows_noted v e k may =
-      let s = state_at v.seen in
-      let allows = first (allowed s e) _ may in
-      let signs = first (may_sign v.number (owed v) e) _ (second (allowed s e) _ may) in
-      record {
-        history = history-snoc v.seen (signed v.number e) k.history allows (ap (λ (o : Owes). may_sign v.number o e) k.owes ∙ signs);
-        own = mine-own v.seen v.number e ∙ ap (λ (l : List Signed). l ++ signed v.number e ∷ []) k.own;
-        owes = owes-own v.number v.seen e ∙ ap (λ (o : Owes). owes_by o e) k.owes;
-        duties = λ n is.
-            ap (λ (z : State). may_retire z n) (state-snoc v.seen (signed v.number e))
-            ∙ ⊎_elim (λ q. (still-was (after s e) n v.duties q).0) (λ q. (newly-was s (after s e) n (after s e).serial q).0)
-            (either (has_number n (still_due (after s e) v.duties)) (has_number n (newly_due s (after s e) (after s e).serial)) (sym (has_append n (still_due (after s e) v.duties) (newly_due s (after s e) (after s e).serial)) ∙ is));
-      }
+  module _ (v : View T) (log : List Signed) (e : Entry) (f : FoundInTurn v log) (now : IsHistory (log ++ signed v.number e ∷ [])) where
+    may_follow_log : allowed (state_at log) e ≡ true
+    may_follow_log = first (allowed (state_at log) e) _ (legal-back log (signed v.number e ∷ []) now.is_legal)
 
-  -- an entry that is calm
-  pub calm : (v : View T) (e : Entry) → Knows v → may_note v e ≡ true → is_calm e ≡ true → nothing_left (state_at v.seen) ≡ true
-      → ((noted v e).duties ≡ v.duties) × (nothing_left (state_at (noted v e).seen) ≡ true)
-  calm v e k may is left =
-      let s = state_at v.seen in
-      let a = legal-agree (entries v.seen) k.history.is_legal in
-      let allows = first (allowed s e) _ may in (
-        duties_calm s e v.duties a allows is left k.duties,
-        ap nothing_left (state-snoc v.seen (signed v.number e)) ∙ left_calm s e a allows is left,
-      )
+    -- one entry more
+    pub knows_noted : Knows v → Knows (noted v log e)
+    knows_noted k = record {
+      history = now;
+      own = mine-own log v.number e ∙ ap (λ (l : List Signed). l ++ signed v.number e ∷ []) f.found.own;
+      owes = owes-own v.number log e ∙ ap (λ (o : Owes). owes_by o e) f.found.owes;
+      duties = λ n is. let q = left_duty n v.duties e is in
+          ap (λ (s : State). may_retire s n) (state-snoc log (signed v.number e))
+          ∙ retirable-stays (state_at log) n e (legal-agree (entries log) f.found.history.is_legal) may_follow_log q.1
+          (retirable_on n v.seen log f.found.seen f.found.history f.core_is (k.duties n q.0));
+    }
 
-  -- the ticket of the pass stands in the state
-  pub ticket_at : (v : View T) → Knows v → ticket_of v.number (state_at v.seen).tickets ≡ v.ticket
-  ticket_at v k = sym (owed-ticket v.seen v.number k.history) ∙ ap (λ (o : Owes). o.ticket) k.owes
-
-  -- it may end its request
-  pub may_finish : (v : View T) (n : ℕ) → Knows v → v.ticket ≡ Some n → may_note v (Finish v.number) ≡ true
-  may_finish v n k has =
-      both (allowed (state_at v.seen) (Finish v.number)) _
-      (has-ticket_of v.number (state_at v.seen).tickets ∙ ap is_some (ticket_at v k ∙ has))
-      (both (may_sign v.number (owed v) (Finish v.number)) true (eq-eqb v.number v.number refl) refl)
-
-  -- what the end gives
-  pub finished : (v : View T) (n : ℕ) → Knows v → v.ticket ≡ Some n → nothing_left (state_at v.seen) ≡ true
-      → ((noted v (Finish v.number)).duties ≡ v.duties ++ due_at (state_at (noted v (Finish v.number)).seen) n) × (nothing_left (state_at (noted v (Finish v.number)).seen) ≡ true)
-  finished v n k has left =
-      let e = Finish v.number in
-      let s = state_at v.seen in
-      let a = legal-agree (entries v.seen) k.history.is_legal in
-      let allows = first (allowed s e) _ (may_finish v n k has) in
-      let now = state-snoc v.seen (signed v.number e) in (
-        duties_finish s v.number n v.duties a allows (one_ticket (entries v.seen) v.number k.history.is_legal) (ticket_at v k ∙ has) left k.duties
-            ∙ ap (λ (z : State). v.duties ++ due_at z n) (sym now),
-        ap nothing_left now ∙ left_finish s v.number a allows left,
-      )
-
-  -- how a board tells it
-  pub told : (v : View T) (n : ℕ) → Knows v → v.ticket ≡ Some n → nothing_left (state_at v.seen) ≡ true
-      → (nat_lt n (state_at (noted v (Finish v.number)).seen).serial && (open_at n (state_at (noted v (Finish v.number)).seen).tickets == 0)) ≡ may_retire (state_at (noted v (Finish v.number)).seen) n
-  told v n k has left =
-      let e = Finish v.number in
-      let now = state-snoc v.seen (signed v.number e) in
-      told_due (state_at (noted v e).seen) n
-      (ap (λ (z : State). has_number n z.retired) now ∙ unretired_here (entries v.seen) v.number n k.history.is_legal (ticket_at v k ∙ has))
-      (finished v n k has left).1
+    -- one that is calm
+    pub calm : is_calm e ≡ true → nothing_left (state_at v.seen) ≡ true → ((noted v log e).duties ≡ v.duties) × (nothing_left (state_at (noted v log e).seen) ≡ true)
+    calm is left = (
+      same_duties v.duties e is,
+      ap nothing_left (state-snoc log (signed v.number e))
+          ∙ left_calm (state_at log) e (legal-agree (entries log) f.found.history.is_legal) may_follow_log is (left_same v.seen log f.core_is ∙ left),
+    )
+      where
+        same_duties : (duties : List ℕ) (e : Entry) → is_calm e ≡ true → duties_after duties e ≡ duties
+        same_duties duties (Draft d tree plan) is = refl
+        same_duties duties (Made d i taken failed) is = refl
+        same_duties duties (Started d a taken failed) is = refl
+        same_duties duties e is = absurd (off is)

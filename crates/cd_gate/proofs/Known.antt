@@ -1,13 +1,13 @@
 -- What the rule says together: one view has the turn, and the views have the tickets and the drafts of the history.
-use Rattle.std.proofs.Common.{◌≡◌, ◌≢◌, ◌⊎◌, inl, ℕ, zero, suc, ◌<◌, true, List, [], ◌∷◌, refl, sym, ap, ◌∙◌, subst, ⊎_elim, arith, Some, None}
-use mathlib.Core.Option.{some, some-ne-none, some-injective}
+use Rattle.std.proofs.Common.{◌≡◌, ◌≢◌, ◌⊎◌, ℕ, ◌<◌, true, List, [], sym, ap, ◌∙◌, ⊎_elim, arith, Some, None}
+use mathlib.Core.Option.{some}
 use mathlib.Core.Logic.{dite}
 use native.Mathlib.Decide.{dec_le}
 use lib.ListN.{get_elem?}
 use Rattle.cd_legal.specs.declared.entry.Signed.{Signed}
 use Rattle.cd_legal.specs.Entry.{mine}
-use Rattle.cd_legal.specs.State.{opening_state, has_number, ticket_of}
-use Rattle.cd_legal.specs.Legal.{state_at, may_retire}
+use Rattle.cd_legal.specs.State.{ticket_of}
+use Rattle.cd_legal.specs.Legal.{state_at}
 use Rattle.cd_legal.specs.Owing.{Owes, owes_of, owes_nothing}
 use Rattle.cd_legal.specs.Signing.{is_live_in}
 use Rattle.cd_legal.proofs.Owed.{owed-ticket}
@@ -15,11 +15,8 @@ use Rattle.cd_legal.proofs.Owing.{owes-none}
 use Rattle.cd_legal.proofs.Owners.{live-owned}
 use Rattle.cd_gate.specs.declared.view.View.{View}
 use Rattle.cd_gate.specs.declared.view.Gone.{Gone}
-use Rattle.cd_gate.specs.Words.{Slot, Moment}
-use Rattle.cd_gate.specs.Rule.{Fits, Numbered, IsKept}
-use Rattle.cd_gate.specs.Steps.{first_view}
-use Rattle.cd_gate.proofs.Retiring.{retirable-low}
-use Rattle.cd_gate.proofs.Views.{off}
+use Rattle.cd_gate.specs.Words.{Moment}
+use Rattle.cd_gate.specs.Rule.{IsKept}
 
 no_owner : (o : Owes) (d : ℕ) → o ≡ owes_nothing → o.draft ≡ Some d → ⊥
 no_owner o d is has = absurd (let h : None ≡ Some d = sym (ap (λ (z : Owes). z.draft) is) ∙ has in cc)
@@ -72,57 +69,3 @@ module _ {T : Type 0} (stands : T → T → List Signed → Type 0) (opening : T
   -- a joined pass has no ticket
   pub none_joined : (i : ℕ) (g : Gone) → get_elem? r.numbers.root.joined i ≡ some g → ticket_of g.number (state_at log).tickets ≡ None
   none_joined i g at = sym (owed-ticket log g.number r.history) ∙ ap (λ (o : Owes). o.ticket) (r.numbers.gone i g at).0.owes
-
--- ---- the beginning
-
--- nothing may be retired in the opening state
-none_due : (n : ℕ) → may_retire opening_state n ≡ true → ⊥
-none_due n is = let low = retirable-low opening_state n is in absurd (omega arith)
-
-module _ {T : Type 0} (stands : T → T → List Signed → Type 0) (b : T) where
-  abbrev first_views : List (View T)
-  first_views = first_view b ∷ []
-
-  only : (j : ℕ) (u : View T) → get_elem? first_views j ≡ some u → (j ≡ 0) × (first_view b ≡ u)
-  only zero u e = (refl, some-injective _ _ e)
-  only (suc j) u e = absurd (some-ne-none u (sym e))
-
-  first_fits : Fits b 0 [] (first_view b)
-  first_fits = record {
-    opened = λ _. refl;
-    seen = ([], refl);
-    older = λ i l e. absurd (some-ne-none l (sym e));
-    own = λ _. refl;
-    own_seen = λ _. refl;
-    owes = λ _. refl;
-    holds = λ has. absurd (off has);
-  }
-
-  first_numbers : Numbered [] first_views
-  first_numbers = record {
-    root = first_view b;
-    root_at = refl;
-    root_is = (refl, refl);
-    few = omega arith;
-    apart = λ i j v w ev ew lv lw same. (only i v ev).0 ∙ sym (only j w ew).0;
-    below = λ i v e live. let same : 0 ≡ v.number = ap (λ (z : View T). z.number) (only i v e).1 in let h : v.number < 1 = omega arith in h;
-    gone = λ i g e. absurd (some-ne-none g (sym e));
-    known = λ k low. inl (0, first_view b, refl, refl, let h : 0 ≡ k = omega arith in h);
-    unmade = λ k le. refl;
-  }
-
-  pub begins : stands b b [] → IsKept stands b [] (record { turn = 0; counted = 0; board = Slot.Home b; views = first_views })
-  begins at_start = record {
-    history = record { is_legal = refl; is_signed = refl };
-    counted = refl;
-    serials = λ _. omega arith;
-    each = λ j u e. subst (Fits b 0 []) (only j u e).1 first_fits;
-    numbers = first_numbers;
-    duties = record {
-      sound = λ j u n e live h. absurd (off (ap (λ (z : View T). has_number n z.duties) (only j u e).1 ∙ h));
-      one = λ i j v w n ev ew lv lw hv hw. (only i v ev).0 ∙ sym (only j w ew).0;
-      whole = λ n may. absurd (none_due n may);
-    };
-    free = λ _. ((b, refl, at_start), refl);
-    taken = λ more. absurd (omega arith);
-  }

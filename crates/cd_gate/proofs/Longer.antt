@@ -4,6 +4,8 @@ use Rattle.std.proofs.lemmas.List.{append-nil}
 use mathlib.Core.List.{IsPrefix}
 use Rattle.cd_legal.specs.declared.entry.Signed.{Signed}
 use Rattle.cd_legal.specs.Entry.{mine}
+use Rattle.cd_legal.specs.Laws.{core_at}
+use Rattle.cd_legal.proofs.Cores.{core-append}
 use Rattle.cd_legal.proofs.Logs.{mine-append}
 use Rattle.cd_gate.specs.Steps.{longer}
 
@@ -67,3 +69,15 @@ empty_front (x ∷ xs) ys e = absurd (let h : x ∷ (xs ++ ys) ≡ [] = e in cc)
 -- a beginning of a history has no entry of a number that has none in the whole
 pub none_before : (k : ℕ) (xs log : List Signed) → IsPrefix xs log → mine k log ≡ [] → mine k xs ≡ []
 none_before k xs log p none = empty_front (mine k xs) (mine k p.0) (sym (mine-append k xs p.0) ∙ (ap (mine k) p.1 ∙ none))
+
+cut : (xs a b : List Signed) → (xs ++ a) ++ b ≡ xs → a ≡ []
+cut xs [] b e = refl
+cut xs (x ∷ a) b e = let n = ap length e in let l = length-append (xs ++ x ∷ a) b in let k = length-append xs (x ∷ a) in absurd (omega arith)
+
+-- between two histories that differ in Begin and Finish alone there is none that differs in more
+pub core_between : (xs ys zs : List Signed) → IsPrefix xs ys → IsPrefix ys zs → core_at xs ≡ core_at zs → core_at ys ≡ core_at zs
+core_between xs ys zs p q same =
+    let ys_is : core_at ys ≡ core_at xs ++ core_at p.0 = ap core_at (sym p.1) ∙ core-append xs p.0 in
+    let zs_is : core_at zs ≡ (core_at xs ++ core_at p.0) ++ core_at q.0 = ap core_at (sym q.1) ∙ (core-append ys q.0 ∙ ap (λ (l : List Signed). l ++ core_at q.0) ys_is) in
+    let none : core_at p.0 ≡ [] = cut (core_at xs) (core_at p.0) (core_at q.0) (sym zs_is ∙ sym same) in
+    ys_is ∙ (ap (λ (l : List Signed). core_at xs ++ l) none ∙ (append-nil (core_at xs) ∙ same))

@@ -1,14 +1,13 @@
--- Lists of numbers, and the duties of a pass.
-use Rattle.std.proofs.Common.{◌≡◌, ◌⊎◌, inl, inr, ◌<◌, ℕ, zero, suc, ◌==◌, Bool, true, false, not, cond, List, [], ◌∷◌, ◌++◌, refl, sym, ap, ◌∙◌, ⊎_elim, arith, eq-eqb}
-use Rattle.std.specs.Prelude.{◌&&◌, ◌||◌}
+-- Numbers, lists of them, and tests.
+use Rattle.std.proofs.Common.{◌≡◌, ◌≢◌, ◌⊎◌, inl, inr, ℕ, ◌==◌, Bool, true, false, true≢false, cond, Option, Some, None, List, [], ◌∷◌, ◌++◌, refl, sym, ap, ◌∙◌, ⊎_elim, eq-eqb}
+use Rattle.std.specs.Prelude.{◌||◌}
 use Rattle.std.proofs.lemmas.Bool.{eqb-true}
-use Rattle.std.proofs.lemmas.Bool.Decides.{eqb_tells}
-use Rattle.cd_legal.specs.declared.state.State.{State}
 use Rattle.cd_legal.specs.State.{has_number}
-use Rattle.cd_legal.specs.Legal.{may_retire}
-use Rattle.cd_legal.proofs.Histories.{both, first, second}
-use Rattle.cd_legal.proofs.Facts.{is-false, not-false}
-use Rattle.cd_gate.specs.Duties.{still_due, newly_due}
+use Rattle.cd_gate.specs.Duties.{without_number, more_due}
+
+pub tells : (b : Bool) → (b ≡ true) ⊎ (b ≡ false)
+tells true = inl refl
+tells false = inr refl
 
 pub either : (b c : Bool) → (b || c) ≡ true → (b ≡ true) ⊎ (c ≡ true)
 either true c is = inl refl
@@ -31,49 +30,49 @@ pub has_append : (n : ℕ) (xs ys : List ℕ) → has_number n (xs ++ ys) ≡ (h
 has_append n [] ys = refl
 has_append n (x ∷ xs) ys = ap (λ (b : Bool). (n == x) || b) (has_append n xs ys) ∙ or_assoc (n == x) (has_number n xs) (has_number n ys)
 
--- ---- a list with some of its numbers
+-- one more
+pub has_this : (n : ℕ) (ns : List ℕ) → has_number n (n ∷ ns) ≡ true
+has_this n ns = left (n == n) (has_number n ns) (eq-eqb n n refl)
 
--- a number that is kept by a test
-has_if : (b : Bool) (n m : ℕ) (ns : List ℕ) → has_number n (cond b (m ∷ ns) ns) ≡ true → ((b ≡ true) × (n ≡ m)) ⊎ (has_number n ns ≡ true)
-has_if true n m ns is = ⊎_elim (λ q. inl (refl, eqb-true n m q)) (λ q. inr q) (either (n == m) (has_number n ns) is)
-has_if false n m ns is = inr is
-
-has_more : (b : Bool) (n m : ℕ) (ns : List ℕ) → has_number n ns ≡ true → has_number n (cond b (m ∷ ns) ns) ≡ true
+pub has_more : (b : Bool) (n m : ℕ) (ns : List ℕ) → has_number n ns ≡ true → has_number n (more_due b m ns) ≡ true
 has_more true n m ns is = right (n == m) (has_number n ns) is
 has_more false n m ns is = is
 
-has_this : (b : Bool) (n m : ℕ) (ns : List ℕ) → b ≡ true → n ≡ m → has_number n (cond b (m ∷ ns) ns) ≡ true
-has_this true n m ns is same = left (n == m) (has_number n ns) (eq-eqb n m same)
-has_this false n m ns is same = cc
+pub has_due : (b : Bool) (n m : ℕ) (ns : List ℕ) → has_number n (more_due b m ns) ≡ true → ((b ≡ true) × (n ≡ m)) ⊎ (has_number n ns ≡ true)
+has_due true n m ns is = ⊎_elim (λ q. inl (refl, eqb-true n m q)) (λ q. inr q) (either (n == m) (has_number n ns) is)
+has_due false n m ns is = inr is
 
--- what is still due may be retired, and was due
-pub still-was : (t : State) (n : ℕ) (ns : List ℕ) → has_number n (still_due t ns) ≡ true → (may_retire t n ≡ true) × (has_number n ns ≡ true)
-still-was t n [] is = absurd (let h : false ≡ true = is in cc)
-still-was t n (m ∷ ns) is = ⊎_elim
-    (λ q. (ap (may_retire t) q.1 ∙ q.0, left (n == m) (has_number n ns) (eq-eqb n m q.1)))
-    (λ q. let h = still-was t n ns q in (h.0, right (n == m) (has_number n ns) h.1)) (has_if (may_retire t m) n m (still_due t ns) is)
+-- without one
+cut_was : (b : Bool) (n m : ℕ) (cut ms : List ℕ) → has_number n (cond b cut (m ∷ cut)) ≡ true → (has_number n cut ≡ true → has_number n ms ≡ true) → has_number n (m ∷ ms) ≡ true
+cut_was true n m cut ms is rest = right (n == m) (has_number n ms) (rest is)
+cut_was false n m cut ms is rest = ⊎_elim (λ q. left (n == m) (has_number n ms) q) (λ q. right (n == m) (has_number n ms) (rest q)) (either (n == m) (has_number n cut) is)
 
--- what was due and may be retired is still due
-pub still-is : (t : State) (n : ℕ) (ns : List ℕ) → may_retire t n ≡ true → has_number n ns ≡ true → has_number n (still_due t ns) ≡ true
-still-is t n [] may is = is
-still-is t n (m ∷ ns) may is = ⊎_elim
-    (λ q. let same = eqb-true n m q in has_this (may_retire t m) n m (still_due t ns) (ap (may_retire t) (sym same) ∙ may) same)
-    (λ q. has_more (may_retire t m) n m (still_due t ns) (still-is t n ns may q)) (either (n == m) (has_number n ns) is)
+pub without-was : (n k : ℕ) (ms : List ℕ) → has_number n (without_number k ms) ≡ true → has_number n ms ≡ true
+without-was n k [] is = is
+without-was n k (m ∷ ms) is = cut_was (k == m) n m (without_number k ms) ms is (without-was n k ms)
 
--- what is newly due may be retired, and could not be
-pub newly-was : (s t : State) (n k : ℕ) → has_number n (newly_due s t k) ≡ true → (may_retire t n ≡ true) × (may_retire s n ≡ false)
-newly-was s t n zero is = absurd (let h : false ≡ true = is in cc)
-newly-was s t n (suc k) is = ⊎_elim
-    (λ q. (ap (may_retire t) q.1 ∙ first (may_retire t k) _ q.0, ap (may_retire s) q.1 ∙ is-false (may_retire s k) (second (may_retire t k) _ q.0)))
-    (λ q. newly-was s t n k q) (has_if (may_retire t k && not (may_retire s k)) n k (newly_due s t k) is)
+cut_is : (b : Bool) (n m : ℕ) (cut ms : List ℕ) → (b ≡ true → n ≢ m) → has_number n (m ∷ ms) ≡ true → (has_number n ms ≡ true → has_number n cut ≡ true) → has_number n (cond b cut (m ∷ cut)) ≡ true
+cut_is true n m cut ms ne is rest = ⊎_elim (λ q. absurd (ne refl (eqb-true n m q))) (λ q. rest q) (either (n == m) (has_number n ms) is)
+cut_is false n m cut ms ne is rest = ⊎_elim (λ q. left (n == m) (has_number n cut) q) (λ q. right (n == m) (has_number n cut) (rest q)) (either (n == m) (has_number n ms) is)
 
-below : (n k : ℕ) → n < suc k → ¬ (n ≡ k) → n < k
-below n k low ne = grind arith
+pub without-is : (n k : ℕ) (ms : List ℕ) → n ≢ k → has_number n ms ≡ true → has_number n (without_number k ms) ≡ true
+without-is n k [] ne is = is
+without-is n k (m ∷ ms) ne is = cut_is (k == m) n m (without_number k ms) ms (λ q same. ne (same ∙ sym (eqb-true k m q))) is (without-is n k ms ne)
 
--- what may be retired and could not be is newly due
-pub newly-is : (s t : State) (n k : ℕ) → n < k → may_retire t n ≡ true → may_retire s n ≡ false → has_number n (newly_due s t k) ≡ true
-newly-is s t n zero low may not_yet = absurd (omega arith)
-newly-is s t n (suc k) low may not_yet = ⊎_elim
-    (λ q. has_this (may_retire t k && not (may_retire s k)) n k (newly_due s t k)
-    (both (may_retire t k) _ (ap (may_retire t) (sym q.1) ∙ may) (not-false (may_retire s k) (ap (may_retire s) (sym q.1) ∙ not_yet))) q.1)
-    (λ q. has_more (may_retire t k && not (may_retire s k)) n k (newly_due s t k) (newly-is s t n k (below n k low q.1) may not_yet)) (eqb_tells n k)
+cut_none : (b : Bool) (k m : ℕ) (cut : List ℕ) → (k == m) ≡ b → has_number k cut ≡ false → has_number k (cond b cut (m ∷ cut)) ≡ false
+cut_none true k m cut is rest = rest
+cut_none false k m cut is rest = ap (λ (b : Bool). b || has_number k cut) is ∙ rest
+
+pub without-none : (k : ℕ) (ms : List ℕ) → has_number k (without_number k ms) ≡ false
+without-none k [] = refl
+without-none k (m ∷ ms) = cut_none (k == m) k m (without_number k ms) refl (without-none k ms)
+
+pub off : false ≡ true → ⊥
+off e = true≢false (sym e)
+
+-- two serials, or none
+pub some_is : (x y : ℕ) → ◌≡◌ {A = Option ℕ} (Some x) (Some y) → x ≡ y
+some_is x y e = cc
+
+pub none_some : (m : ℕ) → ◌≡◌ {A = Option ℕ} None (Some m) → ⊥
+none_some m e = absurd (let h : ◌≡◌ {A = Option ℕ} None (Some m) = e in cc)

@@ -1,5 +1,5 @@
 -- Rows of passes.
-use Rattle.std.proofs.Common.{◌≡◌, ◌≢◌, ℕ, zero, suc, ◌+◌, List, [], ◌∷◌, ◌++◌, length, set, refl, sym, ap, ◌∙◌, subst, ⊎_elim, arith, length-append, length-set}
+use Rattle.std.proofs.Common.{◌≡◌, ◌≢◌, ℕ, zero, suc, ◌+◌, false, List, [], ◌∷◌, ◌++◌, length, set, refl, sym, ap, ◌∙◌, subst, ⊎_elim, arith, length-append, length-set}
 use mathlib.Core.Option.{some, some-ne-none, some-injective}
 use lib.ListN.{get_elem?}
 use Rattle.atomic_table.specs.Seated.{TableId}
@@ -29,7 +29,10 @@ module _ {T : Type 0} where
       each = λ i q e. let h = only_one p q i e in subst (λ (t : ℕ × Pass T). IsIdle z o t.1 × ((view t.1).number ≡ t.0)) (λ k. (sym h.0 k, h.1 k)) (idle, ap (λ (v : View T). v.number) is);
       root = λ q e. let h = only_one p q 0 e in subst (λ (t : Pass T). ((view t).made ≡ 1) × ((view t).joined ≡ [])) h.1 (ap (λ (v : View T). v.made) is, ap (λ (v : View T). v.joined) is);
     },
-    record { each = λ i q e. let h = only_one p q i e in subst (λ (t : Pass T). NewView (view t)) h.1 (subst NewView (sym is) (refl, refl, (refl, refl))) },
+    record {
+      each = λ i q e. let h = only_one p q i e in subst (λ (t : Pass T). NewView (view t)) h.1 (subst NewView (sym is) (refl, refl, (refl, refl)));
+      unchecked = λ i q e. let h = only_one p q i e in subst (λ (t : Pass T). (view t).checked ≡ false) h.1 (ap (λ (v : View T). v.checked) is);
+    },
   )
 
   -- one pass more
@@ -44,6 +47,7 @@ module _ {T : Type 0} where
       let Fresh : Pass T → Type 0 = λ q. NewView (view q) in
       let good_f : Good 0 f' = (idle, ap (λ (v : View T). v.number) is ∙ first.1) in
       let good_p : Good (length now) p = (idle', ap (λ (v : View T). v.number) is' ∙ (root.0 ∙ sym (length-set passes 0 f'))) in
+      let Unlooked : Pass T → Type 0 = λ q. (view q).checked ≡ false in
       let fresh = new.each 0 f at in
       let fresh_f : Fresh f' = subst NewView (sym is) fresh in
       let fresh_p : Fresh p = subst NewView (sym is') (fresh.0, refl, (refl, refl)) in (
@@ -61,6 +65,10 @@ module _ {T : Type 0} where
           each = λ i q e. ⊎_elim
               (λ e'. ⊎_elim (λ (t : (i ≡ 0) × (f' ≡ q)). subst Fresh t.1 fresh_f) (λ (t : (i ≢ 0) × (get_elem? passes i ≡ some q)). new.each i q t.1) (at_set passes 0 i f' q e'))
               (λ (t : (i ≡ length now) × (p ≡ q)). subst Fresh t.1 fresh_p)
+              (at_new now p q i e);
+          unchecked = λ i q e. ⊎_elim
+              (λ e'. ⊎_elim (λ (t : (i ≡ 0) × (f' ≡ q)). subst Unlooked t.1 (ap (λ (v : View T). v.checked) is ∙ new.unchecked 0 f at)) (λ (t : (i ≢ 0) × (get_elem? passes i ≡ some q)). new.unchecked i q t.1) (at_set passes 0 i f' q e'))
+              (λ (t : (i ≡ length now) × (p ≡ q)). subst Unlooked t.1 (ap (λ (v : View T). v.checked) is'))
               (at_new now p q i e);
         },
       )

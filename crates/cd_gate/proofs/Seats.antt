@@ -1,5 +1,5 @@
 -- A pass is split off, and one is joined.
-use Rattle.std.proofs.Common.{◌≡◌, ◌≢◌, ◌⊎◌, inl, inr, ℕ, ◌+◌, ◌<◌, ◌≤◌, true, false, List, [], ◌∷◌, ◌++◌, length, set, refl, sym, ap, ◌∙◌, subst, ⊎_elim, arith}
+use Rattle.std.proofs.Common.{◌≡◌, ◌≢◌, ◌⊎◌, inl, inr, ℕ, ◌+◌, ◌<◌, ◌≤◌, Bool, true, false, Option, None, List, [], ◌∷◌, ◌++◌, length, set, refl, sym, ap, ◌∙◌, subst, ⊎_elim, arith}
 use mathlib.Core.Option.{some, some-ne-none, some-injective}
 use mathlib.Core.Logic.{dite}
 use mathlib.Core.List.{IsPrefix}
@@ -8,7 +8,6 @@ use lib.ListN.{get_elem?}
 use Rattle.atomic_table.proofs.Lists.{at_set, set_here, set_else, at_snoc, at_longer, at_last}
 use Rattle.cd_legal.specs.declared.entry.Signed.{Signed}
 use Rattle.cd_legal.specs.declared.limits.TheConstants.{MAX_PASSES}
-use Rattle.cd_legal.specs.declared.state.State.{State}
 use Rattle.cd_legal.specs.Entry.{mine}
 use Rattle.cd_legal.specs.State.{has_number}
 use Rattle.cd_legal.specs.Legal.{state_at}
@@ -17,11 +16,17 @@ use Rattle.cd_legal.proofs.Logs.{prefix_trans}
 use Rattle.cd_legal.proofs.Owing.{owes-none}
 use Rattle.cd_gate.specs.declared.view.View.{View}
 use Rattle.cd_gate.specs.declared.view.Gone.{Gone}
-use Rattle.cd_gate.specs.Words.{Moment, owed}
+use Rattle.cd_gate.specs.Counts.{begins_in}
+use Rattle.cd_gate.specs.Duties.{is_due}
 use Rattle.cd_gate.specs.Rule.{Fits, HasLeft, Numbered, Dutiful, IsKept}
 use Rattle.cd_gate.specs.Steps.{longer, splitting, split_off, gone_of, joining, messenger, spent_view, split, join}
-use Rattle.cd_gate.proofs.Longer.{longer_first, longer_whole, longer_of, between, none_before}
-use Rattle.cd_gate.proofs.Views.{off, in_range, at_new, fits_set, was, will, face, duties_stay, holder_stays}
+use Rattle.cd_gate.specs.Words.{Moment, owed}
+use Rattle.cd_gate.proofs.Longer.{longer_first, longer_whole, between, none_before, core_between}
+use Rattle.cd_gate.proofs.Dues.{duties_stay}
+use Rattle.cd_gate.proofs.Seated.{crowd_set, crowd_less, crowd_split}
+use Rattle.cd_gate.proofs.Frames.{none_some}
+use Rattle.cd_gate.proofs.Numbers.{off}
+use Rattle.cd_gate.proofs.Views.{in_range, at_new, fits_set, was, will, face, holder_stays}
 
 module _ {T : Type 0} where
   -- number 0 has the first seat
@@ -108,8 +113,8 @@ module _ {T : Type 0} where
         one_more a b low = omega arith
 
   -- a view without duties more
-  pub duties_more : (s : State) (views : List (View T)) (w : View T) → w.duties ≡ [] → Dutiful s views → Dutiful s (views ++ w ∷ [])
-  duties_more s views w none d =
+  pub duties_more : (due : ℕ → Bool) (views : List (View T)) (w : View T) → w.duties ≡ [] → Dutiful due views → Dutiful due (views ++ w ∷ [])
+  duties_more due views w none d =
       let never = λ (u : View T) (n : ℕ) (is : w ≡ u) (h : has_number n u.duties ≡ true). (let e : false ≡ true = ap (has_number n) (sym none) ∙ (ap (λ (z : View T). has_number n z.duties) is ∙ h) in off e) in
       record {
         sound = λ j u n ex lx h. ⊎_elim (λ e. d.sound j u n e lx h) (λ is. absurd (never u n is h)) (at_snoc views w u j ex);
@@ -120,8 +125,8 @@ module _ {T : Type 0} where
       }
 
   -- a view without duties is spent
-  pub duties_less : (s : State) (views : List (View T)) (other : ℕ) (w : View T) → get_elem? views other ≡ some w → w.duties ≡ [] → Dutiful s views → Dutiful s (set views other spent_view)
-  duties_less s views other w there none d =
+  pub duties_less : (due : ℕ → Bool) (views : List (View T)) (other : ℕ) (w : View T) → get_elem? views other ≡ some w → w.duties ≡ [] → Dutiful due views → Dutiful due (set views other spent_view)
+  duties_less due views other w there none d =
       let old = λ (j : ℕ) (x : View T) (e : get_elem? (set views other spent_view) j ≡ some x) (lx : x.live ≡ true).
       (let h : get_elem? views j ≡ some x = ⊎_elim (λ (t : (j ≡ other) × (spent_view ≡ x)). absurd (off (ap (λ (z : View T). z.live) t.1 ∙ lx))) (λ (t : (j ≢ other) × (get_elem? views j ≡ some x)). t.1) (at_set views other j spent_view x e) in h) in
       record {
@@ -207,8 +212,8 @@ module _ {T : Type 0} where
 -- ---- the steps
 
 -- what fits a view that is not live
-pub dead_fits : {T : Type 0} (opening : T) (turn : ℕ) (log seen : List Signed) → IsPrefix seen log → Fits opening turn log (messenger seen)
-dead_fits opening turn log seen p = record {
+pub dead_fits : {T : Type 0} (opening : T) (turn : ℕ) (log : List Signed) (unsettled : Option ℕ) (edge : ℕ) (seen : List Signed) → IsPrefix seen log → Fits opening turn log unsettled edge (messenger seen)
+dead_fits opening turn log unsettled edge seen p = record {
   opened = λ l. absurd (off l);
   seen = p;
   older = λ i l e. absurd (some-ne-none l (sym e));
@@ -216,6 +221,10 @@ dead_fits opening turn log seen p = record {
   own_seen = λ l. absurd (off l);
   owes = λ l. absurd (off l);
   holds = λ l. absurd (off l);
+  waits = λ _. (refl, refl);
+  begun = λ l is. absurd (none_some None l refl is);
+  lends = λ l is on. absurd (none_some None l refl is);
+  checks = λ l. absurd (off l);
 }
 
 module _ {T : Type 0} (stands : T → T → List Signed → Type 0) (opening : T) (log : List Signed) (m : Moment T) (r : IsKept stands opening log m) where
@@ -226,14 +235,18 @@ module _ {T : Type 0} (stands : T → T → List Signed → Type 0) (opening : T
       let none_yet : mine v.made log ≡ [] = r.numbers.unmade v.made (let d : v.made ≡ r.numbers.root.made = ap (λ (z : View T). z.made) root'.1 in omega arith) in
       let now' : List (View T) = set m.views id (splitting v) in
       record {
+        unsettled = r.unsettled;
+        edge = r.edge;
         history = r.history;
         counted = r.counted;
-        serials = r.serials;
+        order = r.order;
+        counts = r.counts;
+        crowd = crowd_split (begins_in log (state_at log).serial) m.views id v at root'.0 r.crowd;
         each = λ j u e. ⊎_elim
-            (λ e'. fits_set (Fits opening m.turn log) m.views id (splitting v)
-            record { opened = mine_fit.opened; seen = mine_fit.seen; older = mine_fit.older; own = mine_fit.own; own_seen = mine_fit.own_seen; owes = mine_fit.owes; holds = mine_fit.holds }
+            (λ e'. fits_set (Fits opening m.turn log r.unsettled r.edge) m.views id (splitting v)
+            record { opened = mine_fit.opened; seen = mine_fit.seen; older = mine_fit.older; own = mine_fit.own; own_seen = mine_fit.own_seen; owes = mine_fit.owes; holds = mine_fit.holds; waits = mine_fit.waits; begun = mine_fit.begun; lends = mine_fit.lends; checks = mine_fit.checks }
             (λ i x _ at'. r.each i x at') j u e')
-            (λ (new : split_off v ≡ u). subst (Fits opening m.turn log) new record {
+            (λ (new : split_off v ≡ u). subst (Fits opening m.turn log r.unsettled r.edge) new record {
               opened = λ _. mine_fit.opened live;
               seen = mine_fit.seen;
               older = λ i l e'. absurd (some-ne-none l (sym e'));
@@ -241,25 +254,33 @@ module _ {T : Type 0} (stands : T → T → List Signed → Type 0) (opening : T
               own_seen = λ _. none_before v.made v.seen log mine_fit.seen none_yet;
               owes = λ _. owes-none v.made log none_yet;
               holds = λ has. absurd (off has);
+              waits = λ _. (refl, refl);
+              begun = λ l is. absurd (none_some None l refl is);
+              lends = λ l is on. absurd (none_some None l refl is);
+              checks = λ h. absurd (off h);
             })
             (at_snoc now' (split_off v) u j e);
         numbers = split_numbers log m.views id v at live number r.numbers room;
-        duties = duties_more (state_at log) now' (split_off v) refl (duties_stay (state_at log) m.views id v (splitting v) at refl r.duties);
+        duties = duties_more (is_due (state_at log) r.unsettled) now' (split_off v) refl (duties_stay (is_due (state_at log) r.unsettled) m.views id v (splitting v) at refl r.duties);
         free = r.free;
         taken = λ more. let t = r.taken more in let h = holder_stays m.views id v (splitting v) at refl t.0 in ((h.0, h.1, at_longer now' (split_off v ∷ []) h.0 h.1 h.2, h.3), t.1);
       }
 
   -- a view whose seen list is longer
-  pub longer_fits : (v w : View T) (u : View T) → Fits opening m.turn log v → IsPrefix w.seen log → u ≡ record v { seen = longer v.seen w.seen; older = u.older; made = u.made; joined = u.joined }
-      → ((i : ℕ) (l : List Signed) → get_elem? u.older i ≡ some l → IsPrefix l (longer v.seen w.seen)) → Fits opening m.turn log u
-  longer_fits v w u f seen is older = subst (Fits opening m.turn log) (sym is) record {
+  pub longer_fits : (v w : View T) (u : View T) → Fits opening m.turn log r.unsettled r.edge v → IsPrefix w.seen log → u ≡ record v { seen = longer v.seen w.seen; older = u.older; made = u.made; joined = u.joined }
+      → ((i : ℕ) (l : List Signed) → get_elem? u.older i ≡ some l → IsPrefix l (longer v.seen w.seen)) → Fits opening m.turn log r.unsettled r.edge u
+  longer_fits v w u f seen is older = subst (Fits opening m.turn log r.unsettled r.edge) (sym is) record {
     opened = f.opened;
     seen = longer_whole v.seen w.seen log f.seen seen;
     older = older;
     own = f.own;
     own_seen = λ l. between v.number v.seen (longer v.seen w.seen) log v.mine (longer_first v.seen w.seen) (longer_whole v.seen w.seen log f.seen seen) (f.own_seen l) (f.own l);
     owes = f.owes;
-    holds = λ has. let h = f.holds has in (h.0, h.1, longer_of v.seen w.seen (subst (λ (l : List Signed). IsPrefix w.seen l) (sym h.2) seen) ∙ h.2);
+    holds = λ has. let h = f.holds has in (h.0, h.1, core_between v.seen (longer v.seen w.seen) log (longer_first v.seen w.seen) (longer_whole v.seen w.seen log f.seen seen) h.2, h.3, h.4);
+    waits = f.waits;
+    begun = f.begun;
+    lends = f.lends;
+    checks = f.checks;
   }
 
   pub joins : (id : ℕ) (v : View T) (other : ℕ) (w : View T) → get_elem? m.views id ≡ some v → get_elem? m.views other ≡ some w → other ≢ id → v.live ≡ true → v.number ≡ 0 → w.live ≡ true → w.turn ≡ false → owed w ≡ owes_nothing → w.duties ≡ []
@@ -275,15 +296,22 @@ module _ {T : Type 0} (stands : T → T → List Signed → Type 0) (opening : T
         own = g.own live';
         owes = g.owes live' ∙ free;
       } in record {
+        unsettled = r.unsettled;
+        edge = r.edge;
         history = r.history;
         counted = r.counted;
-        serials = r.serials;
-        each = fits_set (Fits opening m.turn log) now' other spent_view (dead_fits opening m.turn log [] (log, refl))
-            (λ j u _ e. fits_set (Fits opening m.turn log) m.views id (joining v w)
+        order = r.order;
+        counts = r.counts;
+        crowd = crowd_less (begins_in log (state_at log).serial) now' other w there' (λ e. apart (sym e ∙ sym (root_seat log m.views id v r.numbers at live number).0)) (crowd_set (begins_in log (state_at log).serial) m.views id v (joining v w) at (self _) (self _) refl r.crowd);
+        each = fits_set (Fits opening m.turn log r.unsettled r.edge) now' other spent_view (dead_fits opening m.turn log r.unsettled r.edge [] (log, refl))
+            (λ j u _ e. fits_set (Fits opening m.turn log r.unsettled r.edge) m.views id (joining v w)
             (longer_fits v w (joining v w) f g.seen refl (λ i l e'. prefix_trans l v.seen (longer v.seen w.seen) (f.older i l e') (longer_first v.seen w.seen)))
             (λ i x _ at'. r.each i x at') j u e);
         numbers = join_numbers log m.views id v other w at there apart live number live' r.numbers left;
-        duties = duties_less (state_at log) now' other w there' none (duties_stay (state_at log) m.views id v (joining v w) at refl r.duties);
+        duties = duties_less (is_due (state_at log) r.unsettled) now' other w there' none (duties_stay (is_due (state_at log) r.unsettled) m.views id v (joining v w) at refl r.duties);
         free = r.free;
         taken = λ more. let t = r.taken more in (holder_stays now' other w spent_view there' (sym idle) (holder_stays m.views id v (joining v w) at refl t.0), t.1);
       }
+    where
+      self : (n : ℕ) → n ≤ n
+      self n = omega arith

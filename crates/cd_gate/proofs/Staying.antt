@@ -24,7 +24,7 @@ use Rattle.cd_legal.proofs.Owing.{owes-stays}
 use Rattle.cd_legal.proofs.Owners.{live-owned}
 use Rattle.cd_legal.proofs.Places.{get_change_other, holds_within}
 use Rattle.cd_gate.specs.declared.view.View.{View}
-use Rattle.cd_gate.specs.Tables.{Finds}
+use Rattle.cd_gate.specs.Tables.{Found}
 
 owes_is : (j : ℕ) (o : Option ℕ) → holds (λ own. own == j) o ≡ true → o ≡ Some j
 owes_is j None is = absurd (let h : false ≡ true = is in cc)
@@ -105,5 +105,5 @@ stays k d front log is p same owns =
     ∙ stays_from k d front more (history-front front log p is) (legal-back front more is'.is_legal) (signed_from-back [] front more is'.is_signed) none
     (sym (ap (λ (o : Owes). o.draft) (owes-stays k front more none)) ∙ (ap (λ (l : List Signed). (owes_of k l).draft) whole ∙ owns))
 
-pub kept : {T : Type 0} (stands : T → T → List Signed → Type 0) (o b : T) (v : View T) (log : List Signed) (d : ℕ) → Finds stands o v log b → v.draft ≡ Some d → slice_get (state_at log).drafts d ≡ slice_get (state_at v.seen).drafts d
-kept stands o b v log d f has = stays v.number d v.seen log f.history f.seen (f.own ∙ sym f.own_seen) (ap (λ (w : Owes). w.draft) f.owes ∙ has)
+pub kept : {T : Type 0} (v : View T) (log : List Signed) (d : ℕ) → Found v log → v.draft ≡ Some d → slice_get (state_at log).drafts d ≡ slice_get (state_at v.seen).drafts d
+kept v log d f has = stays v.number d v.seen log f.history f.seen (f.own ∙ sym f.own_seen) (ap (λ (w : Owes). w.draft) f.owes ∙ has)

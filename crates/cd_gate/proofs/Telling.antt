@@ -1,18 +1,22 @@
 -- What one pass has seen reaches another by a messenger.
-use Rattle.std.proofs.Common.{◌≡◌, ◌≢◌, inl, inr, ℕ, zero, suc, Bool, true, false, List, [], ◌∷◌, ◌++◌, set, refl, sym, ap, ◌∙◌, subst, ⊎_elim}
+use Rattle.std.proofs.Common.{◌≡◌, ◌≢◌, inl, inr, ℕ, zero, suc, ◌≤◌, Bool, true, false, List, [], ◌∷◌, ◌++◌, set, refl, sym, ap, ◌∙◌, subst, ⊎_elim, arith}
 use mathlib.Core.Option.{some, some-ne-none, some-injective}
 use mathlib.Core.List.{IsPrefix}
 use lib.ListN.{get_elem?}
 use Rattle.atomic_table.proofs.Lists.{at_set, set_else, set_again, at_snoc, at_longer}
 use Rattle.cd_legal.specs.declared.entry.Signed.{Signed}
-use Rattle.cd_legal.specs.declared.state.State.{State}
 use Rattle.cd_legal.specs.Legal.{state_at}
 use Rattle.cd_gate.specs.declared.view.View.{View}
-use Rattle.cd_gate.specs.Words.{Moment}
+use Rattle.cd_gate.specs.Counts.{begins_in}
+use Rattle.cd_gate.specs.Duties.{is_due}
 use Rattle.cd_gate.specs.Rule.{Fits, Numbered, Dutiful, IsKept}
 use Rattle.cd_gate.specs.Steps.{longer, messenger, spent_view, told, compared, with_seat, copy, hand_over, compare}
+use Rattle.cd_gate.specs.Words.{Moment}
 use Rattle.cd_gate.proofs.Longer.{longer_first, longer_second}
-use Rattle.cd_gate.proofs.Views.{off, fits_set, left_same, numbers_stay, duties_stay, holder_stays}
+use Rattle.cd_gate.proofs.Dues.{duties_stay}
+use Rattle.cd_gate.proofs.Seated.{crowd_set, crowd_less, crowd_more}
+use Rattle.cd_gate.proofs.Numbers.{off}
+use Rattle.cd_gate.proofs.Views.{fits_set, left_same, numbers_stay, holder_stays}
 use Rattle.cd_gate.proofs.Seats.{duties_more, dead_fits, longer_fits}
 
 -- both lists begin the longer
@@ -66,8 +70,8 @@ module _ {T : Type 0} where
         unmade = n.unmade;
       }
 
-  duties_went : (s : State) (views : List (View T)) (other : ℕ) (w : View T) → get_elem? views other ≡ some w → w.live ≡ false → Dutiful s views → Dutiful s (set views other spent_view)
-  duties_went s views other w there dead d =
+  duties_went : (due : ℕ → Bool) (views : List (View T)) (other : ℕ) (w : View T) → get_elem? views other ≡ some w → w.live ≡ false → Dutiful due views → Dutiful due (set views other spent_view)
+  duties_went due views other w there dead d =
       let old = stood views other in
       record {
         sound = λ j u n ex lx h. d.sound j u n (old j u ex lx) lx h;
@@ -76,16 +80,27 @@ module _ {T : Type 0} where
       }
 
 module _ {T : Type 0} (stands : T → T → List Signed → Type 0) (opening : T) (log : List Signed) (m : Moment T) (r : IsKept stands opening log m) where
+  self : (n : ℕ) → n ≤ n
+  self n = omega arith
+
+  -- the first seat is that of a live view
+  root_elsewhere : (other : ℕ) (w : View T) → w.live ≡ false → get_elem? m.views other ≡ some w → 0 ≢ other
+  root_elsewhere other w dead there e = off (sym dead ∙ (ap (λ (z : View T). z.live) (some-injective _ _ (sym there ∙ (ap (get_elem? m.views) (sym e) ∙ r.numbers.root_at))) ∙ r.numbers.root_is.0))
+
   sends : (id : ℕ) (v : View T) → get_elem? m.views id ≡ some v → IsKept stands opening log (with_seat m (messenger v.seen))
   sends id v at = record {
+    unsettled = r.unsettled;
+    edge = r.edge;
     history = r.history;
     counted = r.counted;
-    serials = r.serials;
+    order = r.order;
+    counts = r.counts;
+    crowd = crowd_more (begins_in log (state_at log).serial) m.views r.numbers.root (messenger v.seen) r.numbers.root_at refl refl r.crowd;
     each = λ j u e. ⊎_elim (λ e'. r.each j u e')
-        (λ (new : messenger v.seen ≡ u). subst (Fits opening m.turn log) new (dead_fits opening m.turn log v.seen (r.each id v at).seen))
+        (λ (new : messenger v.seen ≡ u). subst (Fits opening m.turn log r.unsettled r.edge) new (dead_fits opening m.turn log r.unsettled r.edge v.seen (r.each id v at).seen))
         (at_snoc m.views (messenger v.seen) u j e);
     numbers = dead_comes log m.views (messenger v.seen) refl r.numbers;
-    duties = duties_more (state_at log) m.views (messenger v.seen) refl r.duties;
+    duties = duties_more (is_due (state_at log) r.unsettled) m.views (messenger v.seen) refl r.duties;
     free = r.free;
     taken = λ more. let t = r.taken more in ((t.0.0, t.0.1, at_longer m.views (messenger v.seen ∷ []) t.0.0 t.0.1 t.0.2, t.0.3), t.1);
   }
@@ -102,14 +117,18 @@ module _ {T : Type 0} (stands : T → T → List Signed → Type 0) (opening : T
       let there' : get_elem? now other ≡ some w = set_else m.views id other u apart ∙ there in
       let idle : w.turn ≡ false = no_turn w.turn (λ has. sym dead ∙ (g.holds has).0) in
       record {
+        unsettled = r.unsettled;
+        edge = r.edge;
         history = r.history;
         counted = r.counted;
-        serials = r.serials;
-        each = fits_set (Fits opening m.turn log) now other spent_view (dead_fits opening m.turn log [] (log, refl))
-            (λ j x _ e. fits_set (Fits opening m.turn log) m.views id u
+        order = r.order;
+        counts = r.counts;
+        crowd = crowd_less (begins_in log (state_at log).serial) now other w there' (root_elsewhere other w dead there) (crowd_set (begins_in log (state_at log).serial) m.views id v u at (self _) (self _) refl r.crowd);
+        each = fits_set (Fits opening m.turn log r.unsettled r.edge) now other spent_view (dead_fits opening m.turn log r.unsettled r.edge [] (log, refl))
+            (λ j x _ e. fits_set (Fits opening m.turn log r.unsettled r.edge) m.views id u
             (longer_fits stands opening log m r v w u f g.seen refl (olds v.seen w.seen log f.seen g.seen)) (λ i y _ at'. r.each i y at') j x e);
         numbers = dead_goes log now other w there' dead (numbers_stay log log m.views id v u at refl refl r.numbers r.numbers.unmade (left_same log m.views));
-        duties = duties_went (state_at log) now other w there' dead (duties_stay (state_at log) m.views id v u at refl r.duties);
+        duties = duties_went (is_due (state_at log) r.unsettled) now other w there' dead (duties_stay (is_due (state_at log) r.unsettled) m.views id v u at refl r.duties);
         free = r.free;
         taken = λ more. let t = r.taken more in (holder_stays now other w spent_view there' (sym idle) (holder_stays m.views id v u at refl t.0), t.1);
       }
@@ -123,13 +142,17 @@ module _ {T : Type 0} (stands : T → T → List Signed → Type 0) (opening : T
       let f = r.each id v at in
       let w : View T = compared v in
       record {
+        unsettled = r.unsettled;
+        edge = r.edge;
         history = r.history;
         counted = r.counted;
-        serials = r.serials;
-        each = fits_set (Fits opening m.turn log) m.views id w
-            record { opened = f.opened; seen = f.seen; older = λ i l e. absurd (some-ne-none l (sym e)); own = f.own; own_seen = f.own_seen; owes = f.owes; holds = f.holds } (λ j u _ e. r.each j u e);
+        order = r.order;
+        counts = r.counts;
+        crowd = crowd_set (begins_in log (state_at log).serial) m.views id v w at (self _) (self _) refl r.crowd;
+        each = fits_set (Fits opening m.turn log r.unsettled r.edge) m.views id w
+            record { opened = f.opened; seen = f.seen; older = λ i l e. absurd (some-ne-none l (sym e)); own = f.own; own_seen = f.own_seen; owes = f.owes; holds = f.holds; waits = f.waits; begun = f.begun; lends = f.lends; checks = f.checks } (λ j u _ e. r.each j u e);
         numbers = numbers_stay log log m.views id v w at refl refl r.numbers r.numbers.unmade (left_same log m.views);
-        duties = duties_stay (state_at log) m.views id v w at refl r.duties;
+        duties = duties_stay (is_due (state_at log) r.unsettled) m.views id v w at refl r.duties;
         free = r.free;
         taken = λ more. let t = r.taken more in (holder_stays m.views id v w at refl t.0, t.1);
       }

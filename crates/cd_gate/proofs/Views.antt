@@ -1,5 +1,5 @@
 -- What stays of the rule where one view changes, and where a view that is not live comes or goes.
-use Rattle.std.proofs.Common.{◌≡◌, ◌≢◌, ◌⊎◌, inl, inr, ℕ, zero, suc, ◌<◌, ◌≤◌, Bool, true, false, true≢false, List, [], ◌∷◌, ◌++◌, length, set, refl, sym, ap, ◌∙◌, subst, ⊎_elim, arith}
+use Rattle.std.proofs.Common.{◌≡◌, ◌≢◌, ◌⊎◌, inl, inr, ℕ, zero, suc, ◌<◌, ◌≤◌, Bool, true, List, [], ◌∷◌, ◌++◌, length, set, refl, sym, ap, ◌∙◌, subst, ⊎_elim, arith}
 use mathlib.Core.Option.{some, some-ne-none, some-injective}
 use mathlib.Core.Logic.{dite}
 use mathlib.Core.List.{IsPrefix}
@@ -7,17 +7,12 @@ use native.Mathlib.Decide.{ℕ_discrete}
 use lib.ListN.{get_elem?}
 use Rattle.atomic_table.proofs.Lists.{at_set, set_here, set_else}
 use Rattle.cd_legal.specs.declared.entry.Signed.{Signed}
-use Rattle.cd_legal.specs.declared.state.State.{State}
 use Rattle.cd_legal.specs.declared.limits.TheConstants.{MAX_PASSES}
 use Rattle.cd_legal.specs.Entry.{mine}
-use Rattle.cd_legal.specs.State.{has_number}
 use Rattle.cd_legal.specs.Owing.{owes_of, owes_nothing}
 use Rattle.cd_gate.specs.declared.view.View.{View}
 use Rattle.cd_gate.specs.declared.view.Gone.{Gone}
-use Rattle.cd_gate.specs.Rule.{Numbered, HasLeft, Dutiful}
-
-pub off : false ≡ true → ⊥
-off e = true≢false (sym e)
+use Rattle.cd_gate.specs.Rule.{Numbered, HasLeft}
 
 pub in_range : {A : Type 0} (l : List A) (i : ℕ) (a : A) → get_elem? l i ≡ some a → i < length l
 in_range [] i a e = absurd (some-ne-none a (sym e))
@@ -112,19 +107,6 @@ module _ {T : Type 0} where
             (λ h. let a = will face views id v w at same h.0 h.1 h.2 in inl (h.0, a.0, a.1, sym (ap (λ z. z.0) a.2) ∙ h.3, sym (ap (λ z. z.1) a.2) ∙ h.4))
             (λ h. inr (h.0, h.1, subst (λ (l : List Gone). get_elem? l h.0 ≡ some h.1) (sym left_is) h.2, h.3)) (n.known k (subst (λ (z : ℕ). k < z) count low));
         unmade = λ k le. none k (subst (λ (z : ℕ). z ≤ k) count le);
-      }
-
-  -- the duties stay where a view keeps its own
-  pub duties_stay : (s : State) (views : List (View T)) (id : ℕ) (v w : View T) → get_elem? views id ≡ some v → dues w ≡ dues v → Dutiful s views → Dutiful s (set views id w)
-  duties_stay s views id v w at same d =
-      let old = was dues views id v w at same in
-      let there = λ (n : ℕ) (x u : View T) (is : dues u ≡ dues x) (h : has_number n u.duties ≡ true).
-      (let g : has_number n x.duties ≡ true = ap (λ z. has_number n z.1) (sym is) ∙ h in g) in
-      record {
-        sound = λ i x n e lx h. let a = old i x e in d.sound i a.0 n a.1 (sym (ap (λ z. z.0) a.2) ∙ lx) (there n a.0 x a.2 h);
-        one = λ i j x y n ex ey lx ly hx hy. let a = old i x ex in let b = old j y ey in
-            d.one i j a.0 b.0 n a.1 b.1 (sym (ap (λ z. z.0) a.2) ∙ lx) (sym (ap (λ z. z.0) b.2) ∙ ly) (there n a.0 x a.2 hx) (there n b.0 y b.2 hy);
-        whole = λ n may. let h = d.whole n may in let a = will dues views id v w at same h.0 h.1 h.2 in (h.0, a.0, a.1, sym (ap (λ z. z.0) a.2) ∙ h.3, there n a.0 h.1 a.2 h.4);
       }
 
   -- the seat that has the turn has it still, where its view does and the others are as they were

@@ -6,6 +6,7 @@ use lib.ListN.{get_elem?}
 use Rattle.atomic_table.specs.Seated.{TableId}
 use Rattle.cd_legal.specs.declared.entry.Signed.{Signed}
 use Rattle.cd_legal.specs.Entry.{mine}
+use Rattle.cd_legal.specs.Laws.{core_at}
 use Rattle.cd_legal.specs.Legal.{state_at, may_retire}
 use Rattle.cd_legal.specs.Owing.{owes_of, owes_nothing}
 use Rattle.cd_legal.specs.Signing.{IsHistory}
@@ -36,16 +37,17 @@ module _ {T : Type 0} where
   pub record AreFree (passes : List (Pass T)) : Type 0 where
     pub each : (i : ℕ) (p : Pass T) → get_elem? passes i ≡ some p → IsFree p
 
-  -- the passes have seen nothing and made nothing
+  -- the passes have seen nothing and made nothing, and none of them has looked for room for a request
   pub record AreNew (passes : List (Pass T)) : Type 0 where
     pub each : (i : ℕ) (p : Pass T) → get_elem? passes i ≡ some p → ((view p).seen ≡ []) × ((view p).mine ≡ []) × IsFree p
+    pub unchecked : (i : ℕ) (p : Pass T) → get_elem? passes i ≡ some p → (view p).checked ≡ false
 
   -- what is known of a board when its passes have come together
   pub record Closes (stands : T → T → List Signed → Type 0) (o : T) (passes : List (Pass T)) (b : T) : Type 0 where
     pub log : List Signed
     pub history : IsHistory log
-    -- the board stands for the history
-    pub board : stands o b log
+    -- the board stands for the history without Begin and Finish
+    pub board : stands o b (core_at log)
     -- which begins with what each pass has seen, and has its entries
     pub each : (i : ℕ) (p : Pass T) → get_elem? passes i ≡ some p → IsPrefix (view p).seen log × (mine i log ≡ (view p).mine)
     -- and those of no others

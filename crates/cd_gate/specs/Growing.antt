@@ -10,7 +10,6 @@ use Rattle.cd_legal.specs.Placed.{Placed, placed, placed_entries, through}
 use Rattle.cd_legal.specs.Signing.{IsHistory}
 use Rattle.cd_gate.specs.declared.view.View.{View}
 use Rattle.cd_gate.specs.Words.{owed}
-use Rattle.cd_gate.specs.Steps.{with_turn, noted}
 
 -- the entries, signed by the pass
 abbrev pub all_signed : ℕ → List Entry → List Signed
@@ -54,17 +53,3 @@ module _ {T : Type 0} where
     -- what the pass knows of its own entries has grown by these, and all else but what it owes is as it was
     pub adds : w.mine ≡ v.mine ++ all_signed v.number (placed_entries added)
     pub same : w ≡ record v { seen = w.seen; mine = w.mine; ticket = w.ticket; draft = w.draft; duties = w.duties }
-
-  -- the view with these entries of its own more
-  abbrev pub noted_all : View T → List Entry → View T
-  noted_all v [] = v
-  noted_all v (e ∷ es) = noted_all (noted v e) es
-
-  -- a pass that had the view v when it took the turn has made these entries in it, and has the view w
-  pub record Since (v : View T) (entries : List Entry) (w : View T) : Type 0 where
-    -- the history that it found: it begins with what the pass had seen, and has all of its entries
-    pub log : List Signed
-    pub seen : IsPrefix v.seen log
-    pub own : mine v.number log ≡ v.mine
-    pub own_seen : mine v.number v.seen ≡ v.mine
-    pub is : w ≡ noted_all (with_turn v log) entries

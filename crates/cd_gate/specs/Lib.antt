@@ -1,4 +1,5 @@
 pub mod Duties
+pub mod Counts
 pub mod Words
 pub mod Rule
 pub mod Steps
@@ -7,3 +8,4 @@ pub mod Passes
 pub mod Ends
 pub mod Growing
 pub mod Knowing
+pub mod Cores

@@ -4,10 +4,13 @@ ghost use Rattle.std.specs.Vec.{vec_capacity};
 ghost use Rattle.cd_legal.specs.declared.limits.TheConstants.{MAX_SEATS};
 ghost use Rattle.cd_gate.specs.Ends.{IsRowOf, AreFree, AreNew, Closes, Gathers};
 ghost use Rattle.cd_gate.specs.Passes.{opening_of};
+ghost use Rattle.cd_gate.specs.Tables.{first_words};
 
 use crate::gate::Gate;
 use crate::pass::Pass;
-use crate::table::{BOARD_SLOT, SLOT_COUNT, WORD_COUNT};
+use crate::table::{
+    BOARD_SLOT, FULL_BALANCE, HISTORY_WORD, SERIAL_WORD, SLOT_COUNT, TURN_WORD, WORD_COUNT,
+};
 use atomic_table::{Refused, Table};
 use cd_legal::Stands;
 use std::alloc::Global;
@@ -16,6 +19,17 @@ use std::snapshot::Snapshot;
 /// There was no memory. The value comes back.
 pub struct NoGate<T> {
     pub value: T,
+}
+
+// The words of a new table.
+fn opening_words() -> [u64; WORD_COUNT]
+    ensures { result ≡ first_words }
+{
+    let mut words = [FULL_BALANCE; WORD_COUNT];
+    words[SERIAL_WORD] = 0;
+    words[TURN_WORD] = 0;
+    words[HISTORY_WORD] = 0;
+    words
 }
 
 // The only slot's value.
@@ -46,7 +60,7 @@ impl<T: Stands> Gate<T> {
         };
         let opening = Snapshot::of(&value);
         slots.push_reserved(Some(value));
-        match Table::new(alloc, &[0; WORD_COUNT], slots, &opening) {
+        match Table::new(alloc, &opening_words(), slots, &opening) {
             Ok((table, seat)) => {
                 let gate = Gate { table };
                 passes.push_reserved(Pass { number: 0, seat });

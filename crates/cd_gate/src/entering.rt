@@ -1,11 +1,14 @@
 //! The turn is entered, entries are noted in it, and it is left.
-ghost use Rattle.std.specs.Prelude.{◌≡◌, ◌+◌, ◌∷◌, [], List, Some, true, IsTrue};
+ghost use Rattle.std.specs.Prelude.{◌≡◌, ◌+◌, ◌++◌, ◌∷◌, [], List, Some, None, true, IsTrue};
 ghost use Rattle.cd_legal.specs.declared.entry.Signed.{Signed};
+ghost use Rattle.cd_legal.specs.Entry.{signed};
+ghost use Rattle.cd_legal.specs.Laws.{core_at};
 ghost use Rattle.cd_legal.specs.Legal.{state_at};
+ghost use Rattle.cd_legal.specs.Signing.{IsHistory};
 ghost use Rattle.cd_legal.specs.Whole.{nothing_left};
 ghost use Rattle.cd_gate.specs.declared.table.TheConstants.{BOARD_SLOT, WORD_COUNT, SLOT_COUNT};
 ghost use Rattle.cd_gate.specs.Steps.{may_note, with_turn, without_turn, noted};
-ghost use Rattle.cd_gate.specs.Tables.{Finds};
+ghost use Rattle.cd_gate.specs.Tables.{Finds, FoundInTurn};
 ghost use Rattle.cd_gate.specs.Passes.{view, IsIdleOf, HasTurnOf, opening_of};
 
 use crate::gate::Gate;
@@ -54,7 +57,7 @@ fn sleep_while_held<T: Stands, R: Wait>(rt: &R, top: &Top<T>, holder: u64)
 }
 
 impl<T: Stands> Gate<T> {
-    /// Waits for the turn. The pass has then seen the whole history, for which the board stands.
+    /// Waits for the turn. The pass has then seen the whole history; the board stands for it without Begin and Finish.
     pub fn enter<R: Wait>(&self, rt: &R, pass: &mut Pass<T>) -> Turn<T>
         requires { IsIdleOf self.now pass.old }
         ensures pass { HasTurnOf self.now pass.new }
@@ -71,7 +74,7 @@ impl<T: Stands> Gate<T> {
         requires pass { HasTurnOf self.now pass.old }
         requires may { IsTrue (may_note (view pass.old) (M.entry about.now)) }
         ensures pass { HasTurnOf self.now pass.new }
-        ensures seen { view pass.new ≡ noted (view pass.old) (M.entry about.now) }
+        ensures noted { (log : List Signed) × FoundInTurn (view pass.old) log × (view pass.new ≡ noted (view pass.old) log (M.entry about.now)) × IsHistory (log ++ signed (view pass.old).number (M.entry about.now) ∷ []) }
         ensures same { turn.new ≡ turn.old }
     {
         let _ = turn;
@@ -82,7 +85,7 @@ impl<T: Stands> Gate<T> {
         requires pass { HasTurnOf self.now pass.old }
         requires may { IsTrue (may_note (view pass.old) E.said) }
         ensures pass { HasTurnOf self.now pass.new }
-        ensures seen { view pass.new ≡ noted (view pass.old) E.said }
+        ensures noted { (log : List Signed) × FoundInTurn (view pass.old) log × (view pass.new ≡ noted (view pass.old) log E.said) × IsHistory (log ++ signed (view pass.old).number E.said ∷ []) }
     {
         let _ = about;
         self.table
@@ -90,10 +93,11 @@ impl<T: Stands> Gate<T> {
             .fetch_add::<Note<E>>(&mut pass.seat, HISTORY_WORD, 1);
     }
 
-    /// Gives the turn back.
+    /// Gives the turn back, with each superseded serial settled.
     pub fn leave(&self, turn: Turn<T>, pass: &mut Pass<T>)
         requires pass { HasTurnOf self.now pass.old }
-        requires board { T.stands (opening_of self.now) turn.value (view pass.old).seen }
+        requires settled { (view pass.old).unsettled ≡ None }
+        requires board { T.stands (opening_of self.now) turn.value (core_at (view pass.old).seen) }
         requires left { IsTrue (nothing_left (state_at (view pass.old).seen)) }
         ensures pass { IsIdleOf self.now pass.new }
         ensures seen { view pass.new ≡ without_turn (view pass.old) }

@@ -10,7 +10,7 @@ ghost use Rattle.cd_gate.specs.Passes.{view, IsIdleOf};
 use crate::gate::Gate;
 use crate::pass::Pass;
 use crate::plays::{Compare, Copy, HandOut, HandOver, TakeIn};
-use crate::table::TURN_WORD;
+use crate::table::SERIAL_WORD;
 use cd_legal::Stands;
 
 impl<T> Pass<T> {
@@ -56,6 +56,6 @@ impl<T: Stands> Gate<T> {
         let top = &self.table.shared;
         let messenger = top.split_seat::<Copy>(&mut from.seat);
         top.join_seat::<HandOver>(&mut to.seat, messenger);
-        top.load::<Compare>(&mut to.seat, TURN_WORD);
+        top.load::<Compare>(&mut to.seat, SERIAL_WORD);
     }
 }

@@ -4,7 +4,7 @@ use atomic_table::{Join, Play, Split};
 use cd_legal::Stands;
 use std::marker::{Brand, PhantomData};
 
-/// Which entry a note is about, by what the caller hands in.
+/// Which entry a step is about, by what the caller hands in.
 pub trait Names<X> {
     ghost use Rattle.cd_legal.specs.declared.entry.Entry.{Entry};
 
@@ -23,6 +23,8 @@ impl Says for Brand {
 
     ghost said = { Finish 0 };
 }
+
+// ---- the turn
 
 pub(crate) struct Acquire;
 
@@ -49,6 +51,72 @@ impl<T> Play<Option<T>, View<T>> for Release {
 
     ghost then = { released };
 }
+
+// ---- requests
+
+pub(crate) struct Check;
+
+impl<T> Play<Option<T>, View<T>> for Check {
+    ghost use Rattle.cd_gate.specs.Tables.{has_checked};
+
+    ghost then = { has_checked };
+}
+
+pub(crate) struct BeginRequest;
+
+impl<T> Play<Option<T>, View<T>> for BeginRequest {
+    ghost use Rattle.cd_gate.specs.Tables.{has_begun};
+
+    ghost then = { has_begun };
+}
+
+pub(crate) struct EndRequest;
+
+impl<T> Play<Option<T>, View<T>> for EndRequest {
+    ghost use Rattle.cd_gate.specs.Tables.{has_ended};
+
+    ghost then = { has_ended };
+}
+
+// ---- serials
+
+pub(crate) struct MakeReady;
+
+impl<T> Play<Option<T>, View<T>> for MakeReady {
+    ghost use Rattle.cd_gate.specs.Tables.{has_readied};
+
+    ghost then = { has_readied };
+}
+
+pub(crate) struct SupersedeBy<E> {
+    entry: PhantomData<E>,
+}
+
+impl<T, E: Says> Play<Option<T>, View<T>> for SupersedeBy<E> {
+    ghost use Rattle.cd_gate.specs.Tables.{has_superseded};
+
+    ghost then = { has_superseded (λ _. E.said) };
+}
+
+pub(crate) struct SupersedeForGood;
+
+impl<T> Play<Option<T>, View<T>> for SupersedeForGood {
+    ghost use Rattle.std.specs.Prelude.{◌+◌};
+    ghost use Rattle.cd_legal.specs.declared.entry.Entry.TheVariants.{Halt};
+    ghost use Rattle.cd_gate.specs.Tables.{has_superseded};
+
+    ghost then = { has_superseded (λ n. Halt (n + 1)) };
+}
+
+pub(crate) struct Settle;
+
+impl<T> Play<Option<T>, View<T>> for Settle {
+    ghost use Rattle.cd_gate.specs.Tables.{has_settled};
+
+    ghost then = { has_settled };
+}
+
+// ---- seats
 
 pub(crate) struct HandOut;
 

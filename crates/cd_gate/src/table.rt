@@ -5,14 +5,27 @@ use cd_legal::Stands;
 use std::alloc::Global;
 use std::snapshot::Snapshot;
 
-/// The word of the turn: 0 where it is free, else one more than the number of its holder.
-pub const TURN_WORD: usize = 0;
+/// The word of the serial: the current serial times `SERIAL_STEP`, and how many requests began under it.
+pub const SERIAL_WORD: usize = 0;
 
-/// The word that counts the entries of the history.
-pub const HISTORY_WORD: usize = 1;
+/// What one serial adds to its word: more requests than may begin under one.
+pub const SERIAL_STEP: u64 = 1_099_511_627_776;
+
+/// The word of the turn: 0 where it is free, else one more than the number of its holder.
+pub const TURN_WORD: usize = 1;
+
+/// The word that counts the entries of the history which are noted.
+pub const HISTORY_WORD: usize = 2;
+
+/// The first of the balances, that of the serial of the halt. Those of the other serials follow, each at its serial modulo
+/// `MAX_UNRETIRED`.
+pub const BALANCE_WORD: usize = 3;
+
+/// The balance of a serial that is not settled, before any request under it has ended.
+pub const FULL_BALANCE: u64 = 4_611_686_018_427_387_904;
 
 /// How many words there are.
-pub const WORD_COUNT: usize = 2;
+pub const WORD_COUNT: usize = 1_028;
 
 /// The slot of the board.
 pub const BOARD_SLOT: usize = 0;

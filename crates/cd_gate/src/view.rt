@@ -7,6 +7,12 @@ pub struct View<T> {
     pub live: bool,
     pub number: u32,
     pub turn: bool,
+    /// It has found room for one request more under the current serial.
+    pub checked: bool,
+    /// It has made the balance of the coming serial ready.
+    pub ready: bool,
+    /// The serial that it has superseded and not settled.
+    pub unsettled: Option<Unsettled>,
     /// What it has seen of the history.
     pub seen: LinkedList<Signed>,
     /// The entries that it has signed.
@@ -25,6 +31,12 @@ pub struct View<T> {
     pub joined: LinkedList<Gone>,
     /// The value that the gate began with. Only a live pass has it.
     pub opening: Option<T>,
+}
+
+/// A serial that is superseded and not settled, and how many requests began under it. No value of it is made.
+pub struct Unsettled {
+    pub serial: u32,
+    pub begins: u64,
 }
 
 /// What a pass knew when it was joined. No value of it is made.

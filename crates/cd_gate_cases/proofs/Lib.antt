@@ -1,3 +1,2 @@
-pub mod Boards
-pub mod Own
+pub mod Turns
 pub mod Both

@@ -1,19 +1,18 @@
 -- What a board stands for.
-use Rattle.std.specs.Prelude.{◌≡◌, ◌+◌, ◌%◌, ◌^◌, true, List, length}
-use Rattle.cd_legal.specs.declared.entry.Entry.{Entry}
+use Rattle.std.specs.Prelude.{◌≡◌, true, List, [], ◌∷◌}
 use Rattle.cd_legal.specs.declared.entry.Signed.{Signed}
-use Rattle.cd_legal.specs.Legal.{allowed, after, state_at, IsLegal}
+use Rattle.cd_legal.specs.declared.state.State.{State}
+use Rattle.cd_legal.specs.Legal.{state_at}
+use Rattle.cd_legal.specs.State.{opening_state}
 use Rattle.cd_gate_cases.specs.declared.board.Board.{Board}
+use Rattle.cd_gate_cases.specs.declared.board.Board.TheVariants.{Running, Halted, Retired}
 
--- the history is legal, it leaves the state, under the opening configuration, and its entries are counted
-pub record StandsFor (board : Board) (log : List Signed) : Type 0 where
-  pub legal : IsLegal log
-  pub state : board.state ≡ state_at log
-  pub serial : board.state.serial ≡ 0
-  pub counted : board.entries ≡ length log % 2 ^ 64
+-- the state of the host
+abbrev pub state_on : Board → State
+state_on Running = opening_state
+state_on Halted = record opening_state { serial = 1; halted = true }
+state_on Retired = record opening_state { serial = 1; halted = true; retired = 0 ∷ [] }
 
--- the entry is allowed, its change is made, and it is counted
-pub record Takes (v w : Board) (e : Entry) : Type 0 where
-  pub may : allowed v.state e ≡ true
-  pub state : w.state ≡ after v.state e
-  pub counted : w.entries ≡ (v.entries + 1) % 2 ^ 64
+-- the history leaves it
+abbrev pub StandsFor : Board → List Signed → Type 0
+StandsFor board log = state_at log ≡ state_on board

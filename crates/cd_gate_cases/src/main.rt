@@ -1,27 +1,30 @@
-//! Two threads that meet in a gate, each with a pass of its own.
+//! Two threads that meet in a gate, each with a pass of its own, before the halt of a host and after it.
 //!
-//! The board (board.rt) has the state of the opening configuration and counts its entries. Each pass begins and finishes requests of
-//! its own, a turn for each (turns.rt). Afterwards the passes come together, and the gate is closed (meeting.rt). What is printed is
-//! the same whatever the order of the turns: how many entries the board has counted, and how many requests are open in its state.
+//! Each pass begins requests in turns of its own, and ends each by one step, which waits for nobody (requests.rt). Half-way it asks for
+//! the halt: the pass whose turn comes first halts the host, and settles the serial that the halt supersedes (halting.rt). That serial
+//! is due once its last request has ended: the pass that finds it so retires it. Afterwards the passes come together, and the gate is
+//! closed (meeting.rt). The board (board.rt) sees no requests. What is printed is the same whatever the order of the steps.
 #![tactic(auto)]
 
 mod board;
+mod halting;
 mod meeting;
-mod turns;
+mod requests;
 
+use board::Board;
 use meeting::meet;
 use std::process::ExitCode;
 
-// How many requests each pass begins and finishes.
+// How many requests each pass begins and ends before it asks for the halt, and as many after it.
 const REQUESTS: u32 = 5_000;
 
 fn main(rt: HostRuntime) -> ExitCode {
-    let Ok(board) = meet(&rt, rt.alloc(), REQUESTS) else {
+    let Ok(ended) = meet(&rt, rt.alloc(), REQUESTS) else {
         return ExitCode::from(2);
     };
-    let entries = board.entries;
-    let running = board.state.tickets.len();
-    match println!(rt; "{entries} entries, {running} open requests") {
+    let duties = ended.duties;
+    let retired = ended.board == Board::Retired;
+    match println!(rt; "duties {duties}, retired {retired}") {
         Ok(()) => ExitCode::SUCCESS,
         Err(_) => ExitCode::from(2),
     }

@@ -21,9 +21,10 @@ use Rattle.cd_legal.specs.declared.plan.Plan.{Plan}
 use Rattle.cd_legal.specs.declared.state.State.{State}
 use Rattle.cd_legal.specs.declared.state.Drafted.{Drafted}
 use Rattle.cd_legal.specs.Entry.{signed}
+use Rattle.cd_legal.specs.Laws.{core_at}
 use Rattle.cd_legal.specs.State.{holds, keys_at, part_keys, new_draft, one_opened}
 use Rattle.cd_legal.specs.Legal.{allowed, after, state_at, keys_fit, may_open}
-use Rattle.cd_legal.specs.Signing.{may_sign}
+use Rattle.cd_legal.proofs.Cores.{is_apart, bare-core}
 use Rattle.cd_legal.proofs.Facts.{opens, can, is-false}
 use Rattle.cd_legal.proofs.Histories.{both, first, second}
 use Rattle.cd_legal.proofs.Logs.{state-snoc}
@@ -35,7 +36,7 @@ use Rattle.cd_gate.specs.declared.pass.Turn.{Turn}
 use Rattle.cd_gate.specs.declared.view.View.{View}
 use Rattle.cd_gate.specs.Passes.{view, opening_of}
 use Rattle.cd_gate.specs.Steps.{may_note, with_turn, without_turn, noted}
-use Rattle.cd_gate.specs.Words.{owed}
+use Rattle.cd_gate.proofs.Entries.{allowed_same, bare_same}
 use Rattle.cd_desk.specs.declared.left.Left.{Left}
 use Rattle.cd_desk.specs.Instances.{failed_in}
 use Rattle.cd_desk.specs.Lefts.{IsLeft, left_of, one_made as left_made, one_started as left_started}
@@ -141,6 +142,16 @@ started_live s h failed live = record {
   failed = refl;
 }
 
+-- tickets are nothing to it
+live_by : (s t : State) (h : Held) → t.drafts ≡ s.drafts → IsLiveAs s h → IsLiveAs t h
+live_by s t h same l = record { drafted = l.drafted; there = ap (λ (xs : List Drafted). slice_get xs h.number) same ∙ l.there; live = l.live; tree = l.tree; plan = l.plan; made = l.made; started = l.started; failed = l.failed }
+
+live_alike : (one other : List Signed) (h : Held) → core_at other ≡ core_at one → IsLiveAs (state_at one) h → IsLiveAs (state_at other) h
+live_alike one other h same l = live_by (state_at one) (state_at other) h (ap (λ (s : State). s.drafts) (bare_same one other same)) l
+
+pub live_core : (log : List Signed) (h : Held) → IsLiveAs (state_at log) h → IsLiveAs (state_at (core_at log)) h
+live_core log h l = live_by (state_at log) (state_at (core_at log)) h (ap (λ (s : State). s.drafts) (sym (bare-core log))) l
+
 -- ---- a draft and how far it has come
 
 module _ {A B : Type 0} {k : _} (d : HeldDraft A B k) where
@@ -175,51 +186,51 @@ owns n o is = ap (holds (λ own. own == n)) is ∙ eq-eqb n n refl
 
 module _ {T : Type 0} where
   pub may_draft : (v : View T) (h : Held) → v.draft ≡ None → allowed (state_at v.seen) (draft_entry h) ≡ true → may_note v (draft_entry h) ≡ true
-  may_draft v h free may = both (allowed (state_at v.seen) (draft_entry h)) _ may (both (may_sign v.number (owed v) (draft_entry h)) true (ap is_none free) refl)
+  may_draft v h free may = both (allowed (state_at v.seen) (draft_entry h)) _ may (ap is_none free)
 
   pub may_make : (v : View T) (h : Held) (failed : Option Key) → v.draft ≡ Some h.number → allowed (state_at v.seen) (made_entry h failed) ≡ true → may_note v (made_entry h failed) ≡ true
-  may_make v h failed has may = both (allowed (state_at v.seen) (made_entry h failed)) _ may (both (may_sign v.number (owed v) (made_entry h failed)) true (owns h.number v.draft has) refl)
+  may_make v h failed has may = both (allowed (state_at v.seen) (made_entry h failed)) _ may (owns h.number v.draft has)
 
   pub may_start : (v : View T) (h : Held) (failed : Option Key) → v.draft ≡ Some h.number → allowed (state_at v.seen) (started_entry h failed) ≡ true → may_note v (started_entry h failed) ≡ true
-  may_start v h failed has may = both (allowed (state_at v.seen) (started_entry h failed)) _ may (both (may_sign v.number (owed v) (started_entry h failed)) true (owns h.number v.draft has) refl)
+  may_start v h failed has may = both (allowed (state_at v.seen) (started_entry h failed)) _ may (owns h.number v.draft has)
 
 module _ {T A B : Type 0} {k : _} where
   -- the draft after its entry
-  pub drafted : (v w : View T) (d : HeldDraft A B k) (modules apps : ℕ) → allowed (state_at v.seen) (draft_entry (held d)) ≡ true → d.left ≡ fresh d modules apps
-      → modules ≡ length (held d).plan.modules → apps ≡ length (held d).plan.apps → w ≡ noted v (draft_entry (held d)) → IsDraftOf w d
-  drafted v w d modules apps may l m a seen =
+  pub drafted : (v w : View T) (log : List Signed) (d : HeldDraft A B k) (modules apps : ℕ) → core_at log ≡ core_at v.seen → allowed (state_at v.seen) (draft_entry (held d)) ≡ true → d.left ≡ fresh d modules apps
+      → modules ≡ length (held d).plan.modules → apps ≡ length (held d).plan.apps → w ≡ noted v log (draft_entry (held d)) → IsDraftOf w d
+  drafted v w log d modules apps core may l m a seen =
       let h : Held = held d in
       let new : h ≡ new_held h.number h.tree h.plan = held_new d h.tree h.plan modules apps l refl refl in
       record {
         own = ap (λ (z : View T). z.draft) seen;
-        live = subst (λ (z : View T). IsLiveAs (state_at z.seen) h) (sym seen) (subst (λ (s : State). IsLiveAs s h) (sym (state-snoc v.seen (signed v.number (draft_entry h)))) (new_live (state_at v.seen) h may new));
+        live = subst (λ (z : View T). IsLiveAs (state_at z.seen) h) (sym seen) (subst (λ (s : State). IsLiveAs s h) (sym (state-snoc log (signed v.number (draft_entry h)))) (new_live (state_at log) h (allowed_same v.seen log (draft_entry h) refl core ∙ may) new));
         modules = ap (λ (z : Left). z.modules) l ∙ m;
         apps = ap (λ (z : Left). z.apps) l ∙ a;
       }
 
   -- and after those of its next instance, and of its next app
-  pub draft_made : (v w : View T) (d e : HeldDraft A B k) (failed : Option Key) (err : Bool) → IsDraftOf v d → w ≡ noted v (made_entry (held d) failed) → e.left ≡ left_made d.left err → e.loaded ≡ d.loaded → err ≡ is_some failed → IsDraftOf w e
-  draft_made v w d e failed err has seen l o same =
+  pub draft_made : (v w : View T) (log : List Signed) (d e : HeldDraft A B k) (failed : Option Key) (err : Bool) → core_at log ≡ core_at v.seen → IsDraftOf v d → w ≡ noted v log (made_entry (held d) failed) → e.left ≡ left_made d.left err → e.loaded ≡ d.loaded → err ≡ is_some failed → IsDraftOf w e
+  draft_made v w log d e failed err core has seen l o same =
       let h : Held = held d in
       let is : held e ≡ one_made h err = held_made d e err l o in
       record {
         own = ap (λ (z : View T). z.draft) seen ∙ (has.own ∙ ap (λ (z : Left). Some z.number) (sym l));
         live = subst (λ (z : Held). IsLiveAs (state_at w.seen) z) (sym (is ∙ ap (one_made h) same))
             (subst (λ (z : View T). IsLiveAs (state_at z.seen) (one_made h (is_some failed))) (sym seen)
-            (subst (λ (s : State). IsLiveAs s (one_made h (is_some failed))) (sym (state-snoc v.seen (signed v.number (made_entry h failed)))) (made_live (state_at v.seen) h failed has.live)));
+            (subst (λ (s : State). IsLiveAs s (one_made h (is_some failed))) (sym (state-snoc log (signed v.number (made_entry h failed)))) (made_live (state_at log) h failed (live_alike v.seen log h core has.live))));
         modules = ap (λ (z : Left). z.modules) l ∙ (has.modules ∙ ap (λ (z : Held). length z.plan.modules) (sym is));
         apps = ap (λ (z : Left). z.apps) l ∙ (has.apps ∙ ap (λ (z : Held). length z.plan.apps) (sym is));
       }
 
-  pub draft_started : (v w : View T) (d e : HeldDraft A B k) (failed : Option Key) (err : Bool) → IsDraftOf v d → w ≡ noted v (started_entry (held d) failed) → e.left ≡ left_started d.left err → e.loaded ≡ d.loaded → err ≡ is_some failed → IsDraftOf w e
-  draft_started v w d e failed err has seen l o same =
+  pub draft_started : (v w : View T) (log : List Signed) (d e : HeldDraft A B k) (failed : Option Key) (err : Bool) → core_at log ≡ core_at v.seen → IsDraftOf v d → w ≡ noted v log (started_entry (held d) failed) → e.left ≡ left_started d.left err → e.loaded ≡ d.loaded → err ≡ is_some failed → IsDraftOf w e
+  draft_started v w log d e failed err core has seen l o same =
       let h : Held = held d in
       let is : held e ≡ one_started h err = held_started d e err l o in
       record {
         own = ap (λ (z : View T). z.draft) seen ∙ (has.own ∙ ap (λ (z : Left). Some z.number) (sym l));
         live = subst (λ (z : Held). IsLiveAs (state_at w.seen) z) (sym (is ∙ ap (one_started h) same))
             (subst (λ (z : View T). IsLiveAs (state_at z.seen) (one_started h (is_some failed))) (sym seen)
-            (subst (λ (s : State). IsLiveAs s (one_started h (is_some failed))) (sym (state-snoc v.seen (signed v.number (started_entry h failed)))) (started_live (state_at v.seen) h failed has.live)));
+            (subst (λ (s : State). IsLiveAs s (one_started h (is_some failed))) (sym (state-snoc log (signed v.number (started_entry h failed)))) (started_live (state_at log) h failed (live_alike v.seen log h core has.live))));
         modules = ap (λ (z : Left). z.modules) l ∙ (has.modules ∙ ap (λ (z : Held). length z.plan.modules) (sym is));
         apps = ap (λ (z : Left). z.apps) l ∙ (has.apps ∙ ap (λ (z : Held). length z.plan.apps) (sym is));
       }
@@ -240,6 +251,11 @@ module _ {T A B : Type 0} {k : _} where
       let left : IsDraftOf (without_turn x) d = record { own = has.own; live = has.live; modules = has.modules; apps = has.apps } in
       subst (λ (z : View T). IsDraftOf z d) (sym is) left
 
+  -- the draft that was handed back
+  pub draft_kept : (v w x y : View T) (d e : HeldDraft A B k) → w ≡ with_turn v w.seen → ((n : ℕ) → v.draft ≡ Some n → slice_get (state_at w.seen).drafts n ≡ slice_get (state_at v.seen).drafts n) → x ≡ w → y ≡ without_turn x → e ≡ d → IsDraftOf v d → IsDraftOf y e
+  draft_kept v w x y d e same stays none is kept has =
+      subst (λ (z : HeldDraft A B k). IsDraftOf y z) (sym kept) (draft_after x y d is (subst (λ (z : View T). IsDraftOf z d) (sym none) (draft_in v w d same stays has)))
+
 module _ {A F B : Type 0} {k : _} (calls : F → Option (List FixtureCall)) (faults : F → ℕ) (plan : Tree → Result Plan LoadFault) (makes : Tree → Request → Option Tree) (g : Gate (Board A F B k)) (t : Turn (Board A F B k)) (p : Pass (Board A F B k)) (h : InTurn (Stood calls faults plan makes) g t p) where
   -- what is left of the draft is in the books
   pub left_here : (d : HeldDraft A B k) → IsDraftOf (view p) d → IsLeft t.value.desk.books (arc_value d.loaded).tree d.left
@@ -247,43 +263,43 @@ module _ {A F B : Type 0} {k : _} (calls : F → Option (List FixtureCall)) (fau
       let x = has.live.drafted in
       subst (λ (l : Left). IsLeft t.value.desk.books (arc_value d.loaded).tree l) (left_same d (view p) has)
       (subst (λ (tree : Tree). IsLeft t.value.desk.books tree (left_of d.left.number x)) has.live.tree
-      (left_there calls (opening_of g).desk t.value.desk (view p).seen h.board.desk d.left.number x has.live.there has.live.live))
+      (left_there calls (opening_of g).desk t.value.desk (core_at (view p).seen) h.board.desk d.left.number x (ap (λ (s : State). slice_get s.drafts d.left.number) (sym (bare-core (view p).seen)) ∙ has.live.there) has.live.live))
 
   -- the entry that was made is allowed, and the board stands for it
   abbrev IsMade : Board A F B k → Entry → Type 0
-  IsMade b e = (allowed (state_at (view p).seen) e ≡ true) × Stood calls faults plan makes (opening_of g) b ((view p).seen ++ signed (view p).number e ∷ [])
+  IsMade b e = (allowed (state_at (view p).seen) e ≡ true) × Stood calls faults plan makes (opening_of g) b (core_at (view p).seen ++ signed (view p).number e ∷ [])
 
-  made_by : (b : Board A F B k) (e : Entry) → Adds calls faults plan makes t.value b e → IsMade b e
-  made_by b e adds = (allows calls faults plan makes g t p h b e adds, stands_on calls faults plan makes g t p h b e adds)
+  made_by : (b : Board A F B k) (e : Entry) → is_apart e ≡ true → Adds calls faults plan makes t.value b e → IsMade b e
+  made_by b e apart adds = (allows calls faults plan makes g t p h b e apart adds, stands_on calls faults plan makes g t p h b e adds)
 
   pub drafted_here : (b : Board A F B k) (d : HeldDraft A B k) (tree : Tree) (planned : Plan) → (arc_value d.loaded).tree ≡ tree → (arc_value d.loaded).plan ≡ planned → Adds calls faults plan makes t.value b (Draft d.left.number tree planned) → IsMade b (draft_entry (held d))
-  drafted_here b d tree planned one two adds = subst (IsMade b) (sym (entry_new d tree planned one two)) (made_by b (Draft d.left.number tree planned) adds)
+  drafted_here b d tree planned one two adds = subst (IsMade b) (sym (entry_new d tree planned one two)) (made_by b (Draft d.left.number tree planned) refl adds)
 
   pub made_here : (b : Board A F B k) (d : HeldDraft A B k) (failed : Option Key) → IsDraftOf (view p) d → ((taken : ℕ) × Adds calls faults plan makes t.value b (Made d.left.number d.left.made taken failed)) → IsMade b (made_entry (held d) failed)
   made_here b d failed has adds =
-      let is = made_by b (Made d.left.number d.left.made adds.0 failed) adds.1 in
+      let is = made_by b (Made d.left.number d.left.made adds.0 failed) refl adds.1 in
       subst (IsMade b) (made_is (state_at (view p).seen) (held d) adds.0 failed has.live is.0) is
 
   pub started_here : (b : Board A F B k) (d : HeldDraft A B k) (failed : Option Key) → IsDraftOf (view p) d → ((taken : ℕ) × Adds calls faults plan makes t.value b (Started d.left.number d.left.started taken failed)) → IsMade b (started_entry (held d) failed)
   started_here b d failed has adds =
-      let is = made_by b (Started d.left.number d.left.started adds.0 failed) adds.1 in
+      let is = made_by b (Started d.left.number d.left.started adds.0 failed) refl adds.1 in
       subst (IsMade b) (started_is (state_at (view p).seen) (held d) adds.0 failed has.live is.0) is
 
   -- as many drafts were made as the books say
   pub drafts_here : length (state_at (view p).seen).drafts ≡ t.value.desk.books.next
-  drafts_here = h.board.desk.agrees.drafts
+  drafts_here = ap (λ (s : State). length s.drafts) (bare-core (view p).seen) ∙ h.board.desk.agrees.drafts
 
 -- between the board that was found and the one that was left the faults rose, where the call failed
-pub fault_rose : {A F B S : Type 0} {k : _} (calls : F → Option (List FixtureCall)) (faults : F → ℕ) (plan : Tree → Result Plan LoadFault) (makes : Tree → Request → Option Tree) (o b c : Board A F B k) (found log seen : List Signed) (last : Signed) (r : Result S KeyFailed) (opened : Result S Key)
-    → Stood calls faults plan makes o b found → Stood calls faults plan makes o c log → seen ≡ log → seen ≡ found ++ last ∷ [] → IfErr r (λ failed. opened ≡ Err failed.key) → IfErr opened (λ key. Rose (faults b.desk.fixtures) (faults c.desk.fixtures))
+pub fault_rose : {A F B S : Type 0} {k : _} (calls : F → Option (List FixtureCall)) (faults : F → ℕ) (plan : Tree → Result Plan LoadFault) (makes : Tree → Request → Option Tree) (o b c : Board A F B k) (found before log seen : List Signed) (last : Signed) (r : Result S KeyFailed) (opened : Result S Key)
+    → Stood calls faults plan makes o b (core_at before) → core_at found ≡ core_at before → Stood calls faults plan makes o c (core_at log) → seen ≡ log → seen ≡ found ++ last ∷ [] → IfErr r (λ failed. opened ≡ Err failed.key) → IfErr opened (λ key. Rose (faults b.desk.fixtures) (faults c.desk.fixtures))
     → IfErr r (λ failed. FaultRose (Stood calls faults plan makes) (λ (z : Board A F B k). faults z.desk.fixtures) o seen last)
-fault_rose calls faults plan makes o b c found log seen last (Ok a) opened was is same made told rose = tt
-fault_rose calls faults plan makes o b c found log seen last (Err failed) opened was is same made told rose = record {
+fault_rose calls faults plan makes o b c found before log seen last (Ok a) opened was alike is same made told rose = tt
+fault_rose calls faults plan makes o b c found before log seen last (Err failed) opened was alike is same made told rose = record {
   found = found;
   before = b;
   now = c;
   made = made;
-  was = was;
-  is = subst (λ (l : List Signed). Stood calls faults plan makes o c l) (sym same) is;
+  was = subst (λ (l : List Signed). Stood calls faults plan makes o b l) (sym alike) was;
+  is = subst (λ (l : List Signed). Stood calls faults plan makes o c (core_at l)) (sym same) is;
   rose = subst (λ z. IfErr z (λ key. Rose (faults b.desk.fixtures) (faults c.desk.fixtures))) told rose;
 }

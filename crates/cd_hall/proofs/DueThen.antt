@@ -1,23 +1,25 @@
--- Which duty comes with the end of a request, by the state that its Finish meets.
-use Rattle.std.proofs.Common.{◌≡◌, ◌+◌, inr, ℕ, ◌==◌, Bool, true, false, nat_lt, cond, List, [], ◌∷◌, ◌++◌, Some, refl, sym, ap, subst, ◌∙◌, eq-eqb, arith}
+-- The end of a request is one entry, and which duty comes with it by the state that this meets.
+use Rattle.std.proofs.Common.{◌≡◌, inl, inr, ℕ, ◌+◌, ◌≤◌, ◌==◌, Bool, true, false, not, nat_lt, cond, List, [], ◌∷◌, ◌++◌, Option, Some, None, refl, sym, ap, subst, ◌∙◌, ⊎_elim, eq-eqb, arith}
 use Rattle.std.specs.Prelude.{◌&&◌}
 use Rattle.std.proofs.lemmas.Bool.{eqb-true}
-use Rattle.std.proofs.lemmas.List.{append-nil, append_cancel_right}
 use Rattle.cd_legal.specs.declared.entry.Entry.TheVariants.{Finish}
 use Rattle.cd_legal.specs.declared.entry.Signed.{Signed}
 use Rattle.cd_legal.specs.declared.state.State.{State}
 use Rattle.cd_legal.specs.Entry.{signed, entries}
-use Rattle.cd_legal.specs.State.{ticket_of, open_at, without_ticket}
-use Rattle.cd_legal.specs.Legal.{after, state_at, may_retire}
-use Rattle.cd_legal.specs.Signing.{IsHistory}
-use Rattle.cd_legal.specs.Whole.{nothing_left}
-use Rattle.cd_legal.proofs.Logs.{state-snoc, history-front}
-use Rattle.cd_legal.proofs.Callers.{one_ticket, open_at-closed}
+use Rattle.cd_legal.specs.Legal.{state_at}
+use Rattle.cd_legal.specs.State.{has_number, is_ticketed, open_at, without_ticket}
+use Rattle.cd_legal.proofs.Callers.{one_ticket, open_at-closed, ticket_of-without_other, ticket-open}
+use Rattle.cd_legal.proofs.Histories.{both}
+use Rattle.cd_legal.proofs.Logs.{prefix_more, mine-own}
 use Rattle.cd_gate.specs.declared.view.View.{View}
-use Rattle.cd_gate.specs.Knowing.{due_at}
-use Rattle.cd_gate.proofs.Calm.{unretired_here, told_due}
-use Rattle.cd_hall.specs.Dues.{is_last_at, is_before_halt, DueBy, DueThen, DueLater}
+use Rattle.cd_gate.specs.Duties.{is_at, is_settled}
+use Rattle.cd_gate.specs.Tables.{Ends}
+use Rattle.cd_gate.proofs.Numbers.{tells, off}
+use Rattle.cd_gate.proofs.Tickets.{ticketed-is, retired-free}
+use Rattle.cd_hall.specs.Dues.{is_last_at, is_before_halt, DueBy, DueThen}
 use Rattle.cd_hall.specs.Turned.{Turned}
+
+-- ---- tests
 
 agree_on : (a b : Bool) → (a ≡ true → b ≡ true) → (b ≡ true → a ≡ true) → a ≡ b
 agree_on true b to back = sym (to refl)
@@ -25,49 +27,85 @@ agree_on false true to back = back refl
 agree_on false false to back = refl
 
 -- none is left where there was one
-last_one : (n x y : ℕ) → cond (n == n) 1 0 + x ≡ y → (x == 0) ≡ (y == 1)
-last_one n x y is =
-    let one : 1 + x ≡ y = ap (λ (b : Bool). cond {A = ℕ} b 1 0 + x) (sym (eq-eqb n n refl)) ∙ is in
-    agree_on (x == 0) (y == 1)
-    (λ e. let z = eqb-true x 0 e in eq-eqb y 1 (omega arith))
-    (λ e. let z = eqb-true y 1 e in eq-eqb x 0 (omega arith))
+last_one : (x y : ℕ) → 1 + x ≡ y → (x == 0) ≡ (y == 1)
+last_one x y is = agree_on (x == 0) (y == 1)
+    (λ e. let z = eqb-true x 0 e in eq-eqb y 1 (omega (arith, is, z)))
+    (λ e. let z = eqb-true y 1 e in eq-eqb x 0 (omega (arith, is, z)))
 
--- after a Finish its serial may be retired exactly where it is superseded, and this was its last request
-pub retirable_is : (log : List Signed) (k n : ℕ) → IsHistory (log ++ signed k (Finish k) ∷ []) → ticket_of k (state_at log).tickets ≡ Some n → nothing_left (state_at (log ++ signed k (Finish k) ∷ [])) ≡ true
-    → may_retire (state_at (log ++ signed k (Finish k) ∷ [])) n ≡ is_last_at (state_at log) n
-retirable_is log k n is has nothing =
-    let s : State = state_at log in
-    let t : State = after s (Finish k) in
-    let end : state_at (log ++ signed k (Finish k) ∷ []) ≡ t = state-snoc log (signed k (Finish k)) in
-    let before : IsHistory log = history-front log (log ++ signed k (Finish k) ∷ []) (signed k (Finish k) ∷ [], refl) is in
-    ap (λ (z : State). may_retire z n) end
-    ∙ (sym (told_due t n (unretired_here (entries log) k n before.is_legal has) (ap nothing_left (sym end) ∙ nothing))
-    ∙ ap (λ (b : Bool). nat_lt n s.serial && b) (last_one n (open_at n (without_ticket k s.tickets)) (open_at n s.tickets) (open_at-closed k n n s.tickets (one_ticket (entries log) k before.is_legal) has)))
+twice : (b z : Bool) → (b && (not false && not (not z))) ≡ (b && z)
+twice true true = refl
+twice true false = refl
+twice false z = refl
 
-due_by : (last by_halt : Bool) (n : ℕ) (ds : List ℕ) → ds ≡ cond last (n ∷ []) [] → DueBy last by_halt n ds
-due_by false by_halt n ds is = is
-due_by true false n ds is = is
-due_by true true n ds is = inr is
+at_is : (n : ℕ) (o : Option ℕ) → is_at n o ≡ true → o ≡ Some n
+at_is n None is = absurd (off is)
+at_is n (Some m) is = ap (λ (z : ℕ). Some z) (eqb-true m n is)
 
--- what comes with a halt comes by what is seen then
-pub due_later : (seen log : List Signed) (n : ℕ) (ds : List ℕ) → log ≡ seen → IsHistory log → ds ≡ cond (open_at n (state_at seen).tickets == 0) (n ∷ []) [] → DueLater log n ds
-due_later seen log n ds same history is = record {
-  later = log;
-  history = history;
-  seen_first = ([], append-nil log);
-  same = refl;
-  due = is ∙ ap (λ (l : List Signed). cond (open_at n (state_at l).tickets == 0) (n ∷ []) []) (sym same);
-}
+-- superseded, unsettled, and the last that runs: only after a halt these come together
+by_tests : (low late last by_halt : Bool) (n : ℕ) → (low ≡ true → late ≡ true → last ≡ true → by_halt ≡ true) → DueBy (low && last) by_halt n (cond ((low && not late) && last) (n ∷ []) [])
+by_tests false late last by_halt n only = refl
+by_tests true true false by_halt n only = refl
+by_tests true false false by_halt n only = refl
+by_tests true false true false n only = refl
+by_tests true false true true n only = inr refl
+by_tests true true true false n only = absurd (off (only refl refl refl))
+by_tests true true true true n only = inl refl
 
--- the duty by the state after the Finish is that by the state before it
-pub due_then : {T : Type 0} (v y : View T) (log found : List Signed) (n : ℕ) (ds : List ℕ) → Turned v y log (Finish v.number ∷ []) → ticket_of v.number (state_at log).tickets ≡ Some n → nothing_left (state_at y.seen) ≡ true → ds ≡ due_at (state_at y.seen) n
-    → Turned v y found (Finish v.number ∷ []) → DueThen (state_at found) n ds
-due_then v y log found n ds t has left due u =
-    let k = v.number in
-    let end : List Signed = signed k (Finish k) ∷ [] in
-    let same : log ≡ found = append_cancel_right log found end (sym t.is ∙ u.is) in
-    let history : IsHistory (log ++ end) = subst IsHistory t.is t.grows.history in
-    let may : may_retire (state_at y.seen) n ≡ is_last_at (state_at log) n =
-    ap (λ (l : List Signed). may_retire (state_at l) n) t.is ∙ retirable_is log k n history has (ap (λ (l : List Signed). nothing_left (state_at l)) (sym t.is) ∙ left) in
-    subst (λ (l : List Signed). DueThen (state_at l) n ds) same
-    (due_by (is_last_at (state_at log) n) (is_before_halt (state_at log) n) n ds (due ∙ ap (λ (b : Bool). cond b (n ∷ []) []) may))
+module _ {T : Type 0} (v w : View T) (n : ℕ) (due : Bool) (log : List Signed) (is : Ends v w n due log) where
+  abbrev s : State
+  s = state_at log
+
+  abbrev rest : ℕ
+  rest = open_at n (without_ticket v.number s.tickets)
+
+  one_fewer : 1 + rest ≡ open_at n s.tickets
+  one_fewer = ap (λ (b : Bool). cond {A = ℕ} b 1 0 + rest) (sym (eq-eqb n n refl))
+      ∙ open_at-closed v.number n n s.tickets (one_ticket (entries log) v.number is.found.history.is_legal) is.running
+
+  unretired : has_number n s.retired ≡ false
+  unretired = ⊎_elim (λ q. absurd (wrong rest (open_at n s.tickets) one_fewer (retired-free (entries log) n is.found.history.is_legal q).1)) (λ q. q) (tells (has_number n s.retired))
+    where
+      wrong : (x y : ℕ) → 1 + x ≡ y → y ≡ 0 → ⊥
+      wrong x y e f = absurd (omega arith)
+
+  due_test : due ≡ ((nat_lt n s.serial && not (is_at n is.unsettled)) && (rest == 0))
+  due_test = is.due_is
+      ∙ (ap (λ (q : Bool). is_settled s is.unsettled n && (not q && not (is_ticketed n (without_ticket v.number s.tickets)))) unretired
+      ∙ (ap (λ (q : Bool). is_settled s is.unsettled n && (not false && not q)) (ticketed-is n (without_ticket v.number s.tickets)) ∙ twice (is_settled s is.unsettled n) (rest == 0)))
+
+  last_test : is_last_at s n ≡ (nat_lt n s.serial && (rest == 0))
+  last_test = ap (λ (b : Bool). nat_lt n s.serial && b) (sym (last_one rest (open_at n s.tickets) one_fewer))
+
+  -- where the last request ends under a serial that is not settled, the host was halted
+  after_halt : nat_lt n s.serial ≡ true → is_at n is.unsettled ≡ true → (rest == 0) ≡ true → is_before_halt s n ≡ true
+  after_halt low late last =
+      let at : is.unsettled ≡ Some n = at_is n is.unsettled late in
+      both s.halted (n + 1 == s.serial) (⊎_elim (λ q. q) (λ q. absurd (another at q)) (tells s.halted)) (eq-eqb (n + 1) s.serial (is.unsettled_then.last n at))
+    where
+      some_left : (x : ℕ) → 1 ≤ x → x ≡ 0 → ⊥
+      some_left x le e = absurd (omega arith)
+
+      another : is.unsettled ≡ Some n → s.halted ≡ false → ⊥
+      another at on =
+          let t = is.unsettled_then.lent n at on in
+          some_left rest (ticket-open t.0 n (without_ticket v.number s.tickets) (ticket_of-without_other t.0 v.number s.tickets (λ e. t.1 (sym e)) ∙ t.2)) (eqb-true rest 0 last)
+
+  pub due_then : DueThen s n (cond due (n ∷ []) [])
+  due_then = subst (λ (z : Bool × Bool). DueBy z.0 (is_before_halt s n) n (cond z.1 (n ∷ []) [])) (λ i. (sym last_test i, sym due_test i))
+      (by_tests (nat_lt n s.serial) (is_at n is.unsettled) (rest == 0) (is_before_halt s n) n after_halt)
+
+  pub turned_by_finish : Turned v w log (Finish v.number ∷ [])
+  turned_by_finish = subst (λ (z : View T). Turned v z log (Finish v.number ∷ [])) (sym is.is) record {
+    seen = is.found.seen;
+    is = refl;
+    grows = record {
+      seen = prefix_more v.seen log (signed v.number (Finish v.number) ∷ []) is.found.seen;
+      history = is.history;
+      before = is.found.own_seen;
+      own = mine-own log v.number (Finish v.number) ∙ ap (λ (l : List Signed). l ++ signed v.number (Finish v.number) ∷ []) is.found.own;
+      adds = refl;
+      last = (log, refl);
+      owes = refl;
+      same = refl;
+    };
+  }

@@ -1,21 +1,28 @@
 -- When all passes have come together after the halt nothing is left.
-use Rattle.std.proofs.Common.{◌≡◌, ◌<◌, ℕ, zero, suc, Bool, true, false, not, cond, List, [], ◌∷◌, ◌+◌, ◌-◌, length, slice_get, Some, None, refl, sym, ap, ◌∙◌, ⊎_elim, eq-eqb, arith}
+use Rattle.std.proofs.Common.{◌≡◌, ◌<◌, ℕ, zero, suc, Bool, true, false, not, cond, List, [], ◌∷◌, ◌+◌, ◌-◌, length, slice_get, Some, None, refl, sym, ap, subst, ◌∙◌, ⊎_elim, eq-eqb, arith}
 use Rattle.std.specs.List.{list_all}
 use Rattle.std.proofs.lemmas.Bool.Decides.{eqb_tells}
 use mathlib.Core.List.{IsPrefix}
+use Rattle.std.specs.Prelude.{Result, Option, IfSome}
+use Rattle.cd_tree.specs.declared.tree.Tree.{Tree}
+use Rattle.cd_wire.specs.declared.request.Request.{Request}
+use Rattle.cd_module.specs.declared.fault.LoadFault.{LoadFault}
+use Rattle.cd_legal.specs.declared.plan.Plan.{Plan}
 use Rattle.cd_legal.specs.declared.entry.Entry.{Entry}
-use Rattle.cd_legal.specs.declared.entry.Entry.TheVariants.{Halt}
+use Rattle.cd_legal.specs.declared.entry.Entry.TheVariants.{Publish, Begin, Finish, Halt}
 use Rattle.cd_legal.specs.declared.entry.Signed.{Signed}
 use Rattle.cd_legal.specs.declared.state.State.{State}
 use Rattle.cd_legal.specs.declared.state.Drafted.{Drafted}
 use Rattle.cd_legal.specs.declared.state.OpenTicket.{OpenTicket}
 use Rattle.cd_legal.specs.Entry.{entries}
-use Rattle.cd_legal.specs.State.{holds, has_number, is_live, apps_stopped, is_ticketed, ticket_of}
+use Rattle.cd_legal.specs.State.{opening_state, Conf, conf_of, holds, has_number, is_live, apps_stopped, is_ticketed, ticket_of}
 use Rattle.cd_legal.specs.Legal.{after, state_from, state_at, may_retire}
+use Rattle.cd_legal.specs.Laws.{core, core_at, bare}
 use Rattle.cd_legal.specs.Owing.{Owes, owes_of, owes_nothing}
 use Rattle.cd_legal.specs.Serials.{publishings}
 use Rattle.cd_legal.specs.Signing.{IsHistory}
-use Rattle.cd_legal.specs.Whole.{all_apps_stopped, nothing_left, all_retired, IsOver, IsWhole}
+use Rattle.cd_legal.specs.Whole.{all_apps_stopped, nothing_left, nothing_left_of, all_retired, IsOver, IsWhole}
+use Rattle.cd_legal.proofs.Cores.{bare-core, entries-core}
 use Rattle.cd_legal.proofs.Histories.{both, first, second}
 use Rattle.cd_legal.proofs.Logs.{state-append}
 use Rattle.cd_legal.proofs.Over.{over-whole}
@@ -27,8 +34,12 @@ use Rattle.cd_gate.specs.Ends.{Closes}
 use Rattle.cd_gate.specs.Passes.{view}
 use Rattle.cd_gate.proofs.Retiring.{retirable}
 use Rattle.cd_desk.specs.Emptying.{IsEnded}
+use Rattle.cd_life.specs.Fits.{Fits, FitFrom, AllFit, Suits}
+use Rattle.cd_life.specs.Standing.{last_published}
 use Rattle.cd_life.proofs.Laws.{over_ended}
 use Rattle.cd_hall.specs.Ends.{IsHalted, EndsAs}
+use Rattle.cd_hall.proofs.Bare.{serial_core, halted_core, conf_bare}
+use Rattle.cd_hall.proofs.Cores.{history-core}
 
 -- ---- the halt stays
 
@@ -118,13 +129,45 @@ module _ {T : Type 0} (stands : T → T → List Signed → Type 0) (o b : T) (p
   pub ends_as : EndsAs passes end.log
   ends_as = record { history = end.history; each = end.each; others = end.others; over = is_over; whole = is_whole end.log end.history end.owes end.due end.left halted_at }
 
-  -- so nothing is left of a board that stands for it
-  pub has_ended : IsEnded (state_at end.log)
-  has_ended = over_ended end.log end.history.is_legal is_over (tickets_closed end.log end.history end.owes end.due end.left)
+  over_core : IsOver (state_at (core_at end.log))
+  over_core = record {
+    halted = halted_core end.log ∙ is_over.halted;
+    drafts = ap (λ (s : State). list_all (λ x. not (is_live x.life)) s.drafts) (sym (bare-core end.log)) ∙ is_over.drafts;
+    retired = ap (λ (s : State). all_retired s.serial s.retired) (sym (bare-core end.log)) ∙ is_over.retired;
+    finished = ap (λ (s : State). list_all (nothing_left_of s.retired) s.drafts) (sym (bare-core end.log)) ∙ is_over.finished;
+  }
+
+  -- so nothing is left of a board that stands for it without Begin and Finish
+  pub has_ended : IsEnded (state_at (core_at end.log))
+  has_ended = over_ended (core_at end.log) (history-core end.log end.history).is_legal over_core (λ k. ap (λ (s : State). ticket_of k s.tickets) (sym (bare-core end.log)))
 
   -- and its serial, but for that of the halt, counts what was published
-  pub published_is : (serial n : ℕ) → serial ≡ (state_at end.log).serial → n ≡ serial - 1 → n ≡ publishings (entries end.log)
-  published_is serial n is less =
+  pub published_is : (serial n : ℕ) → serial ≡ (state_at (core_at end.log)).serial → n ≡ serial - 1 → n ≡ publishings (entries end.log)
+  published_is serial n here less =
+      let is : serial ≡ (state_at end.log).serial = here ∙ serial_core end.log in
       let count = publishes-count (entries end.log) in
       let all : length (state_at end.log).published + 1 ≡ (state_at end.log).serial = ap (λ (c : Bool). length (state_at end.log).published + cond {A = ℕ} c 1 0) (sym halted_at) ∙ published-count (entries end.log) end.history.is_legal in
       omega (arith, is, less, count, all)
+
+-- ---- which trees fit
+
+fits_bare : (plan : Tree → Result Plan LoadFault) (makes : Tree → Request → Option Tree) (s : State) (e : Entry) → Fits plan makes (bare s) e → Fits plan makes s e
+fits_bare plan makes s (Publish d n from way) is = some_fits (slice_get s.drafts d) is
+  where
+    some_fits : (o : Option Drafted) → IfSome o (λ x. Suits makes (conf_of (bare s) from) way x.tree) → IfSome o (λ x. Suits makes (conf_of s from) way x.tree)
+    some_fits None f = tt
+    some_fits (Some x) f = subst (λ (z : Conf). Suits makes z way x.tree) (conf_bare from s) f
+fits_bare plan makes s e is = is
+
+fit_core : (plan : Tree → Result Plan LoadFault) (makes : Tree → Request → Option Tree) (s : State) (es : List Entry) → FitFrom plan makes (bare s) (core es) → FitFrom plan makes s es
+fit_core plan makes s [] is = tt
+fit_core plan makes s (Begin k n ∷ es) is = (tt, fit_core plan makes (after s (Begin k n)) es is)
+fit_core plan makes s (Finish k ∷ es) is = (tt, fit_core plan makes (after s (Finish k)) es is)
+fit_core plan makes s (e ∷ es) is = (fits_bare plan makes s e is.0, fit_core plan makes (after s e) es is.1)
+
+-- where each entry but the requests fits, each of the history does
+pub all_fit : (plan : Tree → Result Plan LoadFault) (makes : Tree → Request → Option Tree) (log : List Signed) → AllFit plan makes (entries (core_at log)) → AllFit plan makes (entries log)
+all_fit plan makes log is = fit_core plan makes opening_state (entries log) (subst (λ (l : List Entry). AllFit plan makes l) (entries-core log) is)
+
+pub last_core : (log : List Signed) → last_published (state_at (core_at log)) ≡ last_published (state_at log)
+last_core log = ap last_published (sym (bare-core log))

@@ -1,9 +1,9 @@
 -- What the board in hand says of the history that a pass has seen, and what is made of it in a turn that supersedes or retires a serial.
-use Rattle.std.proofs.Common.{◌≡◌, ◌≢◌, ◌≤◌, ◌<◌, ℕ, ◌+◌, ◌-◌, ◌^◌, ◌==◌, Bool, true, false, not, nat_lt, nat_le, cond, List, [], ◌∷◌, ◌++◌, Option, Some, None, Result, refl, sym, ap, subst, ◌∙◌, arith, ne_eqb}
-use Rattle.std.specs.Prelude.{◌&&◌}
-use Rattle.std.proofs.lemmas.Bool.{lt-ltb}
+use Rattle.std.proofs.Common.{◌≡◌, ◌≢◌, ◌≤◌, ◌<◌, ℕ, ◌+◌, ◌-◌, ◌^◌, ◌==◌, Bool, true, false, not, nat_lt, nat_le, cond, List, [], ◌∷◌, ◌++◌, length, slice_get, Option, Some, None, Result, refl, sym, ap, subst, ◌∙◌, arith, eq-eqb, ne_eqb}
+use Rattle.std.specs.Prelude.{◌&&◌, is_some, is_none}
 use Rattle.std.proofs.lemmas.Bool.Decides.{nat_tests}
 use Rattle.cd_outside.specs.declared.fixtures.FixtureCall.{FixtureCall}
+use Rattle.cd_outside.specs.declared.key.Key.{Key}
 use Rattle.cd_tree.specs.declared.tree.Tree.{Tree}
 use Rattle.cd_wire.specs.declared.request.Request.{Request}
 use Rattle.cd_module.specs.declared.fault.LoadFault.{LoadFault}
@@ -14,26 +14,24 @@ use Rattle.cd_legal.specs.declared.entry.Entry.TheVariants.{Publish, Retire, Hal
 use Rattle.cd_legal.specs.declared.entry.Signed.{Signed}
 use Rattle.cd_legal.specs.declared.limits.TheConstants.{LAST_SERIAL, MAX_UNRETIRED}
 use Rattle.cd_legal.specs.declared.state.State.{State}
-use Rattle.cd_legal.specs.Entry.{signed, entries}
-use Rattle.cd_legal.specs.State.{Conf, conf_of, has_number, draft_of, apps_stopped, open_at}
-use Rattle.cd_legal.specs.Legal.{allowed, after, state_at}
+use Rattle.cd_legal.specs.declared.state.Drafted.{Drafted}
+use Rattle.cd_legal.specs.Entry.{entries}
+use Rattle.cd_legal.specs.Laws.{core_at}
+use Rattle.cd_legal.specs.State.{Conf, conf_of, has_number, holds, is_live, draft_of, apps_stopped}
+use Rattle.cd_legal.specs.Legal.{allowed, after, state_at, is_open, is_complete}
 use Rattle.cd_legal.specs.Runs.{stopped_all, cleaned_all, stopped_of, cleaned_of, block_of}
 use Rattle.cd_legal.specs.Serials.{is_halted}
 use Rattle.cd_legal.specs.Whole.{nothing_left}
 use Rattle.cd_legal.proofs.Confs.{conf-halted}
-use Rattle.cd_legal.proofs.Facts.{Retires, can}
-use Rattle.cd_legal.proofs.Histories.{first}
-use Rattle.cd_legal.proofs.Logs.{state-snoc}
-use Rattle.cd_legal.proofs.Serials.{retired-below}
+use Rattle.cd_legal.proofs.Facts.{Retires, can, not-false}
+use Rattle.cd_legal.proofs.Histories.{both, first}
 use Rattle.cd_gate.specs.declared.gate.Gate.{Gate}
 use Rattle.cd_gate.specs.declared.pass.Pass.{Pass}
 use Rattle.cd_gate.specs.declared.pass.Turn.{Turn}
 use Rattle.cd_gate.specs.declared.view.View.{View}
-use Rattle.cd_gate.specs.Growing.{noted_all}
-use Rattle.cd_gate.specs.Knowing.{Knows, due_at}
+use Rattle.cd_gate.specs.Knowing.{Knows}
 use Rattle.cd_gate.specs.Passes.{view, opening_of}
-use Rattle.cd_gate.specs.Steps.{noted}
-use Rattle.cd_gate.proofs.Calm.{told_due}
+use Rattle.cd_gate.proofs.Numbers.{has_append, has_this, right}
 use Rattle.cd_gate.proofs.Retiring.{retirable-low}
 use Rattle.cd_desk.specs.declared.closing.Closing.{Closing}
 use Rattle.cd_desk.specs.Closings.{Leaves, CanRetire}
@@ -42,25 +40,36 @@ use Rattle.cd_life.specs.Changes.{conf_here}
 use Rattle.cd_life.specs.Fits.{Suits}
 use Rattle.cd_life.specs.Standing.{Stood, Adds}
 use Rattle.cd_life.proofs.Laws.{conf_is, current_unretired}
-use Rattle.cd_hall.specs.Calls.{StaysCalm}
+use Rattle.cd_hall.specs.Drafts.{Held, IsLiveAs, IsWholeDraft}
+use Rattle.cd_hall.specs.GoesOn.{GoesOn}
 use Rattle.cd_hall.specs.Publishing.{Refusal, refusal}
 use Rattle.cd_hall.specs.Turns.{InTurn}
-use Rattle.cd_hall.proofs.Dues.{retired_here}
-use Rattle.cd_hall.proofs.Endings.{rest_along}
-use Rattle.cd_hall.proofs.Leftovers.{stopped_of_ends, stops_are, cleans_are, publish_draft, publish_stays}
-use Rattle.cd_hall.proofs.Noted.{agrees, unended_at, legal_noted, state_noted, published, halted}
+use Rattle.cd_hall.proofs.Bare.{serial_core, halted_core, retired_core, conf_core, stopped_core, retires_core}
+use Rattle.cd_hall.proofs.Goes.{goes_both, goes_as}
+use Rattle.cd_hall.proofs.Leftovers.{stops_are, cleans_are, publish_draft, publish_stays}
+use Rattle.cd_hall.proofs.Noted.{agrees, unended_at, left_at, legal_goes, state_goes}
 use Rattle.cd_hall.proofs.Retirable.{can_retire}
 
 module _ {A F B : Type 0} {k : _} (calls : F → Option (List FixtureCall)) (faults : F → ℕ) (plan : Tree → Result Plan LoadFault) (makes : Tree → Request → Option Tree) (g : Gate (Board A F B k)) (t : Turn (Board A F B k)) (p : Pass (Board A F B k)) (h : InTurn (Stood calls faults plan makes) g t p) where
+  abbrev core : List Signed
+  core = core_at (view p).seen
+
   pub serial_here : (n : ℕ) → n ≡ (state_at (view p).seen).serial → n ≡ t.value.desk.serial
-  serial_here n is = is ∙ h.board.desk.agrees.serial
+  serial_here n is = is ∙ (sym (serial_core (view p).seen) ∙ h.board.desk.agrees.serial)
+
+  -- what the board says of its serial
+  pub serial_told : (n : ℕ) → n ≡ (state_at core).serial → n ≡ (state_at (view p).seen).serial
+  serial_told n is = is ∙ serial_core (view p).seen
+
+  pub halted_told : (b : Bool) → b ≡ (state_at core).halted → b ≡ (state_at (view p).seen).halted
+  halted_told b is = is ∙ halted_core (view p).seen
 
   pub running_here : (state_at (view p).seen).halted ≡ false → t.value.desk.halted ≡ false
-  running_here is = sym h.board.desk.agrees.halted ∙ is
+  running_here is = sym h.board.desk.agrees.halted ∙ (halted_core (view p).seen ∙ is)
 
   -- another serial fits
-  pub bound_here : (state_at (view p).seen).serial ≤ LAST_SERIAL → t.value.desk.serial + 1 < 2 ^ 32
-  bound_here room = let same = h.board.desk.agrees.serial in omega (arith, room, same)
+  pub bound_here : (n : ℕ) → n ≡ (state_at (view p).seen).serial → n ≤ LAST_SERIAL → t.value.desk.serial + 1 < 2 ^ 32
+  bound_here n is room = let same = serial_here n is in omega (arith, room, same)
 
   -- the halt has the next serial
   pub halts_here : (n : ℕ) → n ≡ (state_at (view p).seen).serial → (b : Board A F B k) → Adds calls faults plan makes t.value b (Halt (t.value.desk.serial + 1)) → Adds calls faults plan makes t.value b (Halt (n + 1))
@@ -69,21 +78,42 @@ module _ {A F B : Type 0} {k : _} (calls : F → Option (List FixtureCall)) (fau
   -- the current configuration is the board's
   pub suits_here : (n : ℕ) (way : Change) (tree : Tree) → n ≡ (state_at (view p).seen).serial → Suits makes (conf_of (state_at (view p).seen) n) way tree → Suits makes (conf_here t.value n) way tree
   suits_here n way tree current suits =
-      let same : conf_here t.value n ≡ conf_of (state_at (view p).seen) n =
-      conf_is calls faults plan makes (opening_of g) t.value (view p).seen h.board n (omega (arith, current)) (ap (λ (z : ℕ). has_number z (state_at (view p).seen).retired) current ∙ current_unretired calls faults plan makes (opening_of g) t.value (view p).seen h.board) in
-      subst (λ (z : Conf). Suits makes z way tree) (sym same) suits
+      let here : n ≡ (state_at core).serial = current ∙ sym (serial_core (view p).seen) in
+      let same : conf_here t.value n ≡ conf_of (state_at core) n =
+      conf_is calls faults plan makes (opening_of g) t.value core h.board n (omega (arith, here)) (ap (λ (z : ℕ). has_number z (state_at core).retired) here ∙ current_unretired calls faults plan makes (opening_of g) t.value core h.board) in
+      subst (λ (z : Conf). Suits makes z way tree) (sym (same ∙ conf_core (view p).seen n)) suits
 
   -- a serial that the pass is to retire can be
   pub retires_here : (n : ℕ) → has_number n (view p).duties ≡ true → CanRetire t.value.desk n
-  retires_here n due = can_retire calls (opening_of g).desk t.value.desk (view p).seen h.board.desk n (h.knows.duties n due)
+  retires_here n due = can_retire calls (opening_of g).desk t.value.desk core h.board.desk n (retires_core (view p).seen n (h.knows.duties n due))
 
-pub below_last : (n : ℕ) (log : List Signed) → n ≡ (state_at log).serial → (state_at log).serial < LAST_SERIAL → n + 1 < 2 ^ 32
-below_last n log current room = omega (arith, current, room)
+pub below_last : (n : ℕ) → n < LAST_SERIAL → n + 1 < 2 ^ 32
+below_last n room = omega (arith, room)
 
 not_after : (makes : Tree → Request → Option Tree) (conf : Conf) (halted : Bool) (way : Change) (tree : Tree) → is_halted conf ≡ halted → Suits makes conf way tree → halted ≡ false
 not_after makes Conf.Opening halted way tree is suits = sym is
 not_after makes Conf.Halted halted way tree is suits = absurd suits
 not_after makes (Conf.Of before) halted way tree is suits = sym is
+
+-- a draft of which all is there may be published
+unfailed_none : (o : Option Key) → is_some o ≡ false → is_none o ≡ true
+unfailed_none None is = refl
+unfailed_none (Some key) is = absurd (let h : true ≡ false = is in cc)
+
+pub may_be_published : (s : State) (h : Held) (n : ℕ) (c : Change) → IsLiveAs s h → IsWholeDraft h → s.halted ≡ false → n ≡ s.serial → allowed s (Publish h.number (n + 1) n c) ≡ true
+may_be_published s h n c live whole on current =
+    let x : Drafted = live.drafted in
+    let open_now : is_open x ≡ true = both (is_live x.life) (is_none x.failed) (ap is_live live.live) (unfailed_none x.failed (live.failed ∙ whole.unfailed)) in
+    let made = eq-eqb x.made (length x.plan.modules) (live.made ∙ (whole.made ∙ ap (λ (q : Plan). length q.modules) (sym live.plan))) in
+    let started = eq-eqb x.started (length x.plan.apps) (live.started ∙ (whole.started ∙ ap (λ (q : Plan). length q.apps) (sym live.plan))) in
+    both (not s.halted) _ (not-false s.halted on)
+    (both (holds is_complete (slice_get s.drafts h.number)) _
+    (ap (holds is_complete) live.there ∙ both (is_open x) _ open_now (both (x.made == length x.plan.modules) _ made started))
+    (both (n == s.serial) _ (eq-eqb n s.serial current) (eq-eqb (n + 1) (n + 1) refl)))
+
+-- what is retired here
+retired_here : (n : ℕ) (ns : List ℕ) → has_number n (ns ++ n ∷ []) ≡ true
+retired_here n ns = has_append n ns (n ∷ []) ∙ right (has_number n ns) (has_number n (n ∷ [])) (has_this n [])
 
 module _ {T : Type 0} where
   -- after the halt nothing suits
@@ -91,112 +121,82 @@ module _ {T : Type 0} where
   still_runs makes v n way tree knows current suits =
       not_after makes (conf_of (state_at v.seen) n) (state_at v.seen).halted way tree (ap (λ (z : ℕ). is_halted (conf_of (state_at v.seen) z)) current ∙ conf-halted (entries v.seen) knows.history.is_legal) suits
 
-  state_after : (v a : View T) (e : Entry) → a ≡ noted v e → state_at a.seen ≡ after (state_at v.seen) e
-  state_after v a e is = ap (λ (z : View T). state_at z.seen) is ∙ state-snoc v.seen (signed v.number e)
-
   -- what is left of the serial n
   abbrev pub StopsOf : View T → ℕ → View T → Type 0
-  StopsOf a n w = (c : Closing) × Leaves (state_at a.seen) n c × (w ≡ noted_all a (stopped_all c.number c.apps))
+  StopsOf a n w = (c : Closing) × Leaves (state_at (core_at a.seen)) n c × GoesOn a w (stopped_all c.number c.apps)
 
   abbrev pub CleansOf : View T → ℕ → View T → Type 0
-  CleansOf a n w = (c : Closing) × Leaves (state_at a.seen) n c × (w ≡ noted_all a (cleaned_all c.number c.instances))
+  CleansOf a n w = (c : Closing) × Leaves (state_at (core_at a.seen)) n c × GoesOn a w (cleaned_all c.number c.instances)
+
+  serial_then : (v a : View T) (e : Entry) → GoesOn v a (e ∷ []) → (state_at a.seen).serial ≡ (after (state_at (core_at v.seen)) e).serial
+  serial_then v a e g = sym (serial_core a.seen) ∙ ap (λ (z : State). z.serial) (state_goes v a (e ∷ []) g)
 
   -- ---- the halt
 
-  pub halt_low : (v a : View T) (n : ℕ) → a ≡ noted v (Halt (n + 1)) → n < (state_at a.seen).serial
-  halt_low v a n is = let e : (state_at a.seen).serial ≡ n + 1 = ap (λ (z : State). z.serial) (state_after v a (Halt (n + 1)) is) in omega (arith, e)
+  pub halt_low : (v a : View T) (n : ℕ) → GoesOn v a (Halt (n + 1) ∷ []) → n < (state_at a.seen).serial
+  halt_low v a n g = let e : (state_at a.seen).serial ≡ n + 1 = serial_then v a (Halt (n + 1)) g in omega (arith, e)
 
-  pub halt_seen : (v a w : View T) (n : ℕ) → Knows v → nothing_left (state_at v.seen) ≡ true → n ≡ (state_at v.seen).serial → a ≡ noted v (Halt (n + 1)) → StopsOf a n w → w ≡ noted_all v (Halt ((state_at v.seen).serial + 1) ∷ stopped_of (state_at v.seen) (state_at v.seen).serial)
-  halt_seen v a w n knows left current is stops =
-      let s : State = state_at v.seen in
+  -- the apps that were stopped are all of the serial
+  pub halt_stops : (v a w : View T) (n : ℕ) → Knows v → nothing_left (state_at v.seen) ≡ true → n ≡ (state_at v.seen).serial → GoesOn v a (Halt (n + 1) ∷ []) → (stops : StopsOf a n w) → stopped_all stops.0.number stops.0.apps ≡ stopped_of (state_at (core_at v.seen)) n
+  halt_stops v a w n knows left current g stops =
+      let s : State = state_at (core_at v.seen) in
       let u : State = after s (Halt (n + 1)) in
-      let leaves : Leaves u n stops.0 = subst (λ (z : State). Leaves z n stops.0) (state_after v a (Halt (n + 1)) is) stops.1 in
-      let same : stopped_all stops.0.number stops.0.apps ≡ stopped_of s n = stops_are s (agrees v knows) (unended_at v knows) left u n current (draft_of n s.published) refl refl (λ d x o there has. there) stops.0 leaves in
-      stops.2
-      ∙ (ap (λ (z : List Entry). noted_all a z) same
-      ∙ (ap (λ (z : View T). noted_all z (stopped_of s n)) is ∙ ap (λ (m : ℕ). noted_all v (Halt (m + 1) ∷ stopped_of s m)) current))
+      let leaves : Leaves u n stops.0 = subst (λ (z : State). Leaves z n stops.0) (state_goes v a (Halt (n + 1) ∷ []) g) stops.1 in
+      stops_are s (agrees v knows) (unended_at v knows) (left_at v left) u n (current ∙ sym (serial_core v.seen)) (draft_of n s.published) refl refl (λ d x o there has. there) stops.0 leaves
 
-  -- whether the serial is due, as the board tells it
-  pub halt_due : (v w : View T) (n : ℕ) (due : Bool) → Knows v → Knows w → nothing_left (state_at v.seen) ≡ true → n ≡ (state_at v.seen).serial → w ≡ noted_all v (Halt ((state_at v.seen).serial + 1) ∷ stopped_of (state_at v.seen) (state_at v.seen).serial)
-      → due ≡ (nat_lt n (state_at w.seen).serial && (open_at n (state_at w.seen).tickets == 0)) → cond due (n ∷ []) [] ≡ due_at (state_at w.seen) (state_at v.seen).serial
-  halt_due v w n due knows known left current is told =
-      let s : State = state_at v.seen in
-      let after_all = halted v w (s.serial + 1) knows known is refl left in
-      let unretired : has_number n (state_at w.seen).retired ≡ false =
-      ap (λ (z : State). has_number n z.retired) (state_noted v w (Halt (s.serial + 1) ∷ stopped_of s s.serial) is)
-      ∙ (ap (has_number n) (rest_along (after s (Halt (s.serial + 1))) (stopped_of s s.serial) (stopped_of_ends s (agrees v knows) (unended_at v knows) left s.serial)).retired ∙ never (has_number n s.retired) (λ has. absurd (let low = retired-below (entries v.seen) n knows.history.is_legal has in omega (arith, low, current)))) in
-      ap (λ (b : Bool). cond b (n ∷ []) []) (told ∙ told_due (state_at w.seen) n unretired after_all.1) ∙ ap (due_at (state_at w.seen)) current
-    where
-      never : (b : Bool) → (b ≡ true → ⊥) → b ≡ false
-      never true refuted = absurd (refuted refl)
-      never false refuted = refl
-
-  -- it is due exactly where no request runs under it
-  pub halt_free : (v w : View T) (n : ℕ) (due : Bool) → Knows v → nothing_left (state_at v.seen) ≡ true → n ≡ (state_at v.seen).serial → w ≡ noted_all v (Halt ((state_at v.seen).serial + 1) ∷ stopped_of (state_at v.seen) (state_at v.seen).serial)
-      → due ≡ (nat_lt n (state_at w.seen).serial && (open_at n (state_at w.seen).tickets == 0)) → cond due (n ∷ []) [] ≡ cond (open_at (state_at v.seen).serial (state_at w.seen).tickets == 0) ((state_at v.seen).serial ∷ []) []
-  halt_free v w n due knows left current is told =
-      let s : State = state_at v.seen in
-      let ends = stopped_of_ends s (agrees v knows) (unended_at v knows) left s.serial in
-      let serial : (state_at w.seen).serial ≡ s.serial + 1 =
-      ap (λ (z : State). z.serial) (state_noted v w (Halt (s.serial + 1) ∷ stopped_of s s.serial) is) ∙ (rest_along (after s (Halt (s.serial + 1))) (stopped_of s s.serial) ends).serial in
-      let less : nat_lt n (state_at w.seen).serial ≡ true = lt-ltb n (state_at w.seen).serial (omega (arith, serial, current)) in
-      ap (λ (b : Bool). cond b (n ∷ []) []) (told ∙ ap (λ (b : Bool). b && (open_at n (state_at w.seen).tickets == 0)) less)
-      ∙ ap (λ (m : ℕ). cond (open_at m (state_at w.seen).tickets == 0) (m ∷ []) []) current
-
-  pub halt_duties : (v w : View T) (ds : List ℕ) → Knows v → Knows w → nothing_left (state_at v.seen) ≡ true → w ≡ noted_all v (Halt ((state_at v.seen).serial + 1) ∷ stopped_of (state_at v.seen) (state_at v.seen).serial) → ds ≡ due_at (state_at w.seen) (state_at v.seen).serial
-      → (w.duties ≡ v.duties ++ ds) × (nothing_left (state_at w.seen) ≡ true)
-  halt_duties v w ds knows known left is due =
-      let all = halted v w ((state_at v.seen).serial + 1) knows known is refl left in
-      (all.0 ∙ ap (λ (l : List ℕ). v.duties ++ l) (sym due), all.1)
+  pub halt_goes : (v a w : View T) (n : ℕ) → Knows v → nothing_left (state_at v.seen) ≡ true → n ≡ (state_at v.seen).serial → GoesOn v a (Halt (n + 1) ∷ []) → StopsOf a n w → GoesOn v w (Halt (n + 1) ∷ stopped_of (state_at (core_at v.seen)) n)
+  halt_goes v a w n knows left current g stops =
+      goes_as v w _ _ (ap (λ (l : List Entry). Halt (n + 1) ∷ l) (halt_stops v a w n knows left current g stops))
+      (goes_both v a w (Halt (n + 1) ∷ []) (stopped_all stops.0.number stops.0.apps) g stops.2)
 
   -- ---- a publishing
 
-  pub publish_low : (v a : View T) (d n : ℕ) (c : Change) → a ≡ noted v (Publish d (n + 1) n c) → n < (state_at a.seen).serial
-  publish_low v a d n c is = let e : (state_at a.seen).serial ≡ n + 1 = ap (λ (z : State). z.serial) (state_after v a (Publish d (n + 1) n c) is) in omega (arith, e)
+  pub publish_low : (v a : View T) (d n : ℕ) (c : Change) → GoesOn v a (Publish d (n + 1) n c ∷ []) → n < (state_at a.seen).serial
+  publish_low v a d n c g = let e : (state_at a.seen).serial ≡ n + 1 = serial_then v a (Publish d (n + 1) n c) g in omega (arith, e)
 
-  publish_current : (v a w : View T) (d : ℕ) (c : Change) → Knows v → Knows a → nothing_left (state_at v.seen) ≡ true → a ≡ noted v (Publish d ((state_at v.seen).serial + 1) (state_at v.seen).serial c) → StopsOf a (state_at v.seen).serial w
-      → w ≡ noted_all v (Publish d ((state_at v.seen).serial + 1) (state_at v.seen).serial c ∷ stopped_of (state_at v.seen) (state_at v.seen).serial)
-  publish_current v a w d c knows known left is stops =
-      let s : State = state_at v.seen in
+  publish_current : (v a w : View T) (d : ℕ) (c : Change) → Knows v → nothing_left (state_at v.seen) ≡ true → GoesOn v a (Publish d ((state_at (core_at v.seen)).serial + 1) (state_at (core_at v.seen)).serial c ∷ []) → (stops : StopsOf a (state_at (core_at v.seen)).serial w)
+      → stopped_all stops.0.number stops.0.apps ≡ stopped_of (state_at (core_at v.seen)) (state_at (core_at v.seen)).serial
+  publish_current v a w d c knows left g stops =
+      let s : State = state_at (core_at v.seen) in
       let e : Entry = Publish d (s.serial + 1) s.serial c in
-      let may : allowed s e ≡ true = first (allowed s e) true (legal_noted v a (e ∷ []) known is) in
-      let leaves : Leaves (after s e) s.serial stops.0 = subst (λ (z : State). Leaves z s.serial stops.0) (state_after v a e is) stops.1 in
-      let same : stopped_all stops.0.number stops.0.apps ≡ stopped_of s s.serial =
-      stops_are s (agrees v knows) (unended_at v knows) left (after s e) s.serial refl (draft_of s.serial s.published) refl
-      (publish_draft s (agrees v knows) (unended_at v knows) left d (s.serial + 1) c may)
-      (λ j x o there has. publish_stays s (agrees v knows) (unended_at v knows) left d (s.serial + 1) c may j x there has) stops.0 leaves in
-      stops.2 ∙ (ap (λ (z : List Entry). noted_all a z) same ∙ ap (λ (z : View T). noted_all z (stopped_of s s.serial)) is)
+      let may : allowed s e ≡ true = first (allowed s e) true (legal_goes v a (e ∷ []) g) in
+      let leaves : Leaves (after s e) s.serial stops.0 = subst (λ (z : State). Leaves z s.serial stops.0) (state_goes v a (e ∷ []) g) stops.1 in
+      stops_are s (agrees v knows) (unended_at v knows) (left_at v left) (after s e) s.serial refl (draft_of s.serial s.published) refl
+      (publish_draft s (agrees v knows) (unended_at v knows) (left_at v left) d (s.serial + 1) c may)
+      (λ j x o there has. publish_stays s (agrees v knows) (unended_at v knows) (left_at v left) d (s.serial + 1) c may j x there has) stops.0 leaves
 
-  pub publish_seen : (v a w : View T) (d n : ℕ) (c : Change) → Knows v → Knows a → nothing_left (state_at v.seen) ≡ true → n ≡ (state_at v.seen).serial → a ≡ noted v (Publish d (n + 1) n c) → StopsOf a n w → w ≡ noted_all v (Publish d (n + 1) n c ∷ stopped_of (state_at v.seen) n)
-  publish_seen v a w d n c knows known left current =
-      subst (λ (m : ℕ). a ≡ noted v (Publish d (m + 1) m c) → StopsOf a m w → w ≡ noted_all v (Publish d (m + 1) m c ∷ stopped_of (state_at v.seen) m)) (sym current) (publish_current v a w d c knows known left)
+  pub publish_stops : (v a w : View T) (d n : ℕ) (c : Change) → Knows v → nothing_left (state_at v.seen) ≡ true → n ≡ (state_at (core_at v.seen)).serial → GoesOn v a (Publish d (n + 1) n c ∷ []) → (stops : StopsOf a n w) → stopped_all stops.0.number stops.0.apps ≡ stopped_of (state_at (core_at v.seen)) n
+  publish_stops v a w d n c knows left current =
+      subst (λ (m : ℕ). GoesOn v a (Publish d (m + 1) m c ∷ []) → (stops : StopsOf a m w) → stopped_all stops.0.number stops.0.apps ≡ stopped_of (state_at (core_at v.seen)) m) (sym current) (publish_current v a w d c knows left)
 
-  pub publish_calm : (v w : View T) (d n : ℕ) (c : Change) → Knows v → Knows w → nothing_left (state_at v.seen) ≡ true → v.ticket ≡ Some n → n ≡ (state_at v.seen).serial → w ≡ noted_all v (Publish d (n + 1) n c ∷ stopped_of (state_at v.seen) n) → StaysCalm v w
-  publish_calm v w d n c knows known left has current is =
-      published v w d ((state_at v.seen).serial + 1) c knows known (is ∙ ap (λ (m : ℕ). noted_all v (Publish d (m + 1) m c ∷ stopped_of (state_at v.seen) m)) current) refl (has ∙ ap (λ (m : ℕ). Some m) current) left
+  pub publish_goes : (v a w : View T) (d n : ℕ) (c : Change) → Knows v → nothing_left (state_at v.seen) ≡ true → n ≡ (state_at v.seen).serial → GoesOn v a (Publish d (n + 1) n c ∷ []) → StopsOf a n w → GoesOn v w (Publish d (n + 1) n c ∷ stopped_of (state_at (core_at v.seen)) n)
+  publish_goes v a w d n c knows left current g stops =
+      goes_as v w _ _ (ap (λ (l : List Entry). Publish d (n + 1) n c ∷ l) (publish_stops v a w d n c knows left (current ∙ sym (serial_core v.seen)) g stops))
+      (goes_both v a w (Publish d (n + 1) n c ∷ []) (stopped_all stops.0.number stops.0.apps) g stops.2)
 
   -- ---- a retiring
 
-  pub retire_low : (v a : View T) (n : ℕ) → Knows v → has_number n v.duties ≡ true → a ≡ noted v (Retire n) → n < (state_at a.seen).serial
-  retire_low v a n knows due is =
-      let low = retirable-low (state_at v.seen) n (knows.duties n due) in
-      let same : (state_at a.seen).serial ≡ (state_at v.seen).serial = ap (λ (z : State). z.serial) (state_after v a (Retire n) is) in omega (arith, low, same)
+  retires_it : (v : View T) (n : ℕ) → Knows v → has_number n v.duties ≡ true → Retires (state_at (core_at v.seen)) n
+  retires_it v n knows due = can (state_at (core_at v.seen)) (Retire n) (retires_core v.seen n (knows.duties n due))
 
-  pub retire_retired : (v a : View T) (n : ℕ) → a ≡ noted v (Retire n) → has_number n (state_at a.seen).retired ≡ true
-  retire_retired v a n is = ap (λ (z : State). has_number n z.retired) (state_after v a (Retire n) is) ∙ retired_here n (state_at v.seen).retired
+  pub retire_low : (v a : View T) (n : ℕ) → Knows v → has_number n v.duties ≡ true → GoesOn v a (Retire n ∷ []) → n < (state_at a.seen).serial
+  retire_low v a n knows due g =
+      let low = retirable-low (state_at (core_at v.seen)) n (retires_core v.seen n (knows.duties n due)) in
+      let same : (state_at a.seen).serial ≡ (state_at (core_at v.seen)).serial = serial_then v a (Retire n) g in omega (arith, low, same)
 
-  pub retire_stopped : (v a : View T) (n : ℕ) → Knows v → has_number n v.duties ≡ true → a ≡ noted v (Retire n) → apps_stopped (state_at a.seen) n ≡ true
-  retire_stopped v a n knows due is =
-      let f : Retires (state_at v.seen) n = can (state_at v.seen) (Retire n) (knows.duties n due) in
-      ap (λ (z : State). apps_stopped z n) (state_after v a (Retire n) is) ∙ f.stopped
+  pub retire_retired : (v a : View T) (n : ℕ) → GoesOn v a (Retire n ∷ []) → has_number n (state_at a.seen).retired ≡ true
+  retire_retired v a n g = sym (retired_core a.seen n) ∙ (ap (λ (z : State). has_number n z.retired) (state_goes v a (Retire n ∷ []) g) ∙ retired_here n (state_at (core_at v.seen)).retired)
 
-  pub retire_seen : (v a w : View T) (n : ℕ) → Knows v → nothing_left (state_at v.seen) ≡ true → has_number n v.duties ≡ true → a ≡ noted v (Retire n) → CleansOf a n w → w ≡ noted_all v (block_of (state_at v.seen) n)
-  retire_seen v a w n knows left due is cleans =
-      let s : State = state_at v.seen in
-      let f : Retires s n = can s (Retire n) (knows.duties n due) in
-      let leaves : Leaves (after s (Retire n)) n cleans.0 = subst (λ (z : State). Leaves z n cleans.0) (state_after v a (Retire n) is) cleans.1 in
-      let same : cleaned_all cleans.0.number cleans.0.instances ≡ cleaned_of s n = cleans_are s (agrees v knows) (unended_at v knows) left n f.unretired (draft_of n s.published) refl cleans.0 leaves in
-      cleans.2 ∙ (ap (λ (z : List Entry). noted_all a z) same ∙ ap (λ (z : View T). noted_all z (cleaned_of s n)) is)
+  pub retire_stopped : (v a : View T) (n : ℕ) → Knows v → has_number n v.duties ≡ true → GoesOn v a (Retire n ∷ []) → apps_stopped (state_at a.seen) n ≡ true
+  retire_stopped v a n knows due g = sym (stopped_core a.seen n) ∙ (ap (λ (z : State). apps_stopped z n) (state_goes v a (Retire n ∷ []) g) ∙ (retires_it v n knows due).stopped)
+
+  pub retire_goes : (v a w : View T) (n : ℕ) → Knows v → nothing_left (state_at v.seen) ≡ true → has_number n v.duties ≡ true → GoesOn v a (Retire n ∷ []) → CleansOf a n w → GoesOn v w (block_of (state_at (core_at v.seen)) n)
+  retire_goes v a w n knows left due g cleans =
+      let s : State = state_at (core_at v.seen) in
+      let f : Retires s n = retires_it v n knows due in
+      let leaves : Leaves (after s (Retire n)) n cleans.0 = subst (λ (z : State). Leaves z n cleans.0) (state_goes v a (Retire n ∷ []) g) cleans.1 in
+      let same : cleaned_all cleans.0.number cleans.0.instances ≡ cleaned_of s n = cleans_are s (agrees v knows) (unended_at v knows) (left_at v left) n f.unretired (draft_of n s.published) refl cleans.0 leaves in
+      goes_as v w _ _ (ap (λ (l : List Entry). Retire n ∷ l) same) (goes_both v a w (Retire n ∷ []) (cleaned_all cleans.0.number cleans.0.instances) g cleans.2)
 
 -- the serial of a request is the current one where no later one is
 pub is_current : (n m serial : ℕ) → m ≡ serial → n ≤ serial → m ≤ n → n ≡ serial

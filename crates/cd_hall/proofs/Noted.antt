@@ -1,73 +1,71 @@
--- Several entries that a pass makes in one turn.
-use Rattle.std.proofs.Common.{◌≡◌, ◌<◌, ℕ, ◌+◌, ◌==◌, true, false, nat_lt, List, [], ◌∷◌, ◌++◌, slice_get, Some, refl, sym, ap, subst, ◌∙◌, eq-eqb}
-use Rattle.std.proofs.lemmas.List.{append-nil, append_assoc}
+-- What the entries that a pass makes in its turn leave.
+use Rattle.std.proofs.Common.{◌≡◌, ◌<◌, ◌≤◌, ℕ, ◌+◌, ◌==◌, Bool, true, false, cond, List, [], ◌∷◌, ◌++◌, slice_get, Some, None, refl, sym, ap, subst, ◌∙◌, eq-eqb, ne_eqb, arith}
+use Rattle.std.specs.List.{list_all}
+use mathlib.Core.List.{IsPrefix}
 use Rattle.cd_legal.specs.declared.entry.Entry.{Entry}
 use Rattle.cd_legal.specs.declared.entry.Entry.TheVariants.{Publish, Abandon, Stopped, Retire, Cleaned, Halt}
 use Rattle.cd_legal.specs.declared.entry.Change.{Change}
 use Rattle.cd_legal.specs.declared.entry.Signed.{Signed}
-use Rattle.cd_legal.specs.declared.limits.TheConstants.{LAST_SERIAL}
 use Rattle.cd_legal.specs.declared.state.State.{State}
 use Rattle.cd_legal.specs.declared.state.Drafted.{Drafted}
 use Rattle.cd_legal.specs.declared.state.Life.TheVariants.{Live}
-use Rattle.cd_legal.specs.Entry.{signed, entries}
-use Rattle.cd_legal.specs.State.{holds, has_number, ticket_of}
-use Rattle.cd_legal.specs.Legal.{allowed, after, legal_from, state_from, state_at, may_retire, IsLegal}
+use Rattle.cd_legal.specs.Entry.{entries}
+use Rattle.cd_legal.specs.Laws.{core_at}
+use Rattle.cd_legal.specs.State.{holds, has_number, ticket_of, open_at, apps_stopped}
+use Rattle.cd_legal.specs.Legal.{allowed, legal_from, state_from, state_at, IsLegal}
+use Rattle.cd_legal.specs.Owing.{Owes, owes_by}
 use Rattle.cd_legal.specs.Runs.{ended_all, stopped_of, cleaned_of, block_of}
 use Rattle.cd_legal.specs.Signing.{may_sign}
-use Rattle.cd_legal.specs.Whole.{nothing_left}
-use Rattle.cd_legal.proofs.Histories.{both, first}
-use Rattle.cd_legal.proofs.Facts.{less-is}
-use Rattle.cd_legal.proofs.Logs.{state-snoc, state-append, legal-back}
-use Rattle.cd_legal.proofs.Serials.{Agree, legal-agree, retired-below}
+use Rattle.cd_legal.specs.Whole.{all_apps_stopped, nothing_left}
+use Rattle.cd_legal.proofs.Callers.{ticket-open}
+use Rattle.cd_legal.proofs.Histories.{both, first, second}
+use Rattle.cd_legal.proofs.Logs.{prefix_trans, state-append, legal-back}
+use Rattle.cd_legal.proofs.Owed.{owed-ticket}
+use Rattle.cd_legal.proofs.Serials.{Agree, legal-agree, retired-below, serial-rises}
 use Rattle.cd_gate.specs.declared.view.View.{View}
-use Rattle.cd_gate.specs.Growing.{all_signed, noted_all}
-use Rattle.cd_gate.specs.Knowing.{Knows, due_at}
-use Rattle.cd_gate.specs.Steps.{may_note, noted}
+use Rattle.cd_gate.specs.Duties.{duties_after, more_due, without_number}
+use Rattle.cd_gate.specs.Growing.{all_signed, owes_after}
+use Rattle.cd_gate.specs.Knowing.{Knows}
+use Rattle.cd_gate.specs.Steps.{may_note, settled}
+use Rattle.cd_gate.specs.Tables.{FoundInTurn}
 use Rattle.cd_gate.specs.Words.{owed}
-use Rattle.cd_gate.proofs.InTurn.{ticket_at}
-use Rattle.cd_hall.specs.Calls.{StaysCalm}
-use Rattle.cd_hall.specs.Publishing.{without_number}
+use Rattle.cd_hall.specs.Dues.{DueLater}
+use Rattle.cd_hall.specs.GoesOn.{GoesOn, Settles, duties_left}
+use Rattle.cd_hall.proofs.Bare.{left_core}
+use Rattle.cd_hall.proofs.Cores.{history-core}
+use Rattle.cd_hall.proofs.Ended.{stopped_at}
+use Rattle.cd_hall.proofs.Endings.{is_ending, all_end}
+use Rattle.cd_hall.proofs.Leftovers.{abandon_left, publish_left, halt_left, retire_left, cleaned_of_ends}
 use Rattle.cd_hall.proofs.Unended.{are_unended, legal-unended}
-use Rattle.cd_hall.proofs.Endings.{is_ending, rest_along, all_end}
-use Rattle.cd_hall.proofs.Dues.{duties_from, IsDue, due_now, due_turn, none_due, not_current, not_ticketed, publish_leaves, halt_leaves, abandon_leaves, retire_turn}
-use Rattle.cd_hall.proofs.Leftovers.{abandon_left, publish_left, halt_left, retire_left, stopped_of_ends, cleaned_of_ends}
 
 entries_signed : (k : ℕ) (es : List Entry) → entries (all_signed k es) ≡ es
 entries_signed k [] = refl
 entries_signed k (e ∷ es) = ap (λ (l : List Entry). e ∷ l) (entries_signed k es)
 
+-- what stops apps or cleans instances leaves duties, and what the pass owes
+ending_duties : (ds : List ℕ) (e : Entry) → is_ending e ≡ true → duties_after ds e ≡ ds
+ending_duties ds (Stopped d a) is = refl
+ending_duties ds (Cleaned d i) is = refl
+ending_duties ds e is = absurd (let h : false ≡ true = is in cc)
+
+pub endings_duties : (ds : List ℕ) (es : List Entry) → list_all is_ending es ≡ true → duties_left ds es ≡ ds
+endings_duties ds [] all = refl
+endings_duties ds (e ∷ es) all = ap (λ (l : List ℕ). duties_left l es) (ending_duties ds e (first (is_ending e) _ all)) ∙ endings_duties ds es (second (is_ending e) _ all)
+
+ending_owes : (o : Owes) (e : Entry) → is_ending e ≡ true → owes_by o e ≡ o
+ending_owes o (Stopped d a) is = refl
+ending_owes o (Cleaned d i) is = refl
+ending_owes o e is = absurd (let h : false ≡ true = is in cc)
+
+endings_owe : (o : Owes) (es : List Entry) → list_all is_ending es ≡ true → owes_after o es ≡ o
+endings_owe o [] all = refl
+endings_owe o (e ∷ es) all = ap (λ (p : Owes). owes_after p es) (ending_owes o e (first (is_ending e) _ all)) ∙ endings_owe o es (second (is_ending e) _ all)
+
+pub more_is : (b : Bool) (n : ℕ) (ds : List ℕ) → more_due b n ds ≡ cond b (n ∷ []) [] ++ ds
+more_is true n ds = refl
+more_is false n ds = refl
+
 module _ {T : Type 0} where
-  -- some, and then others
-  pub noted_append : (v : View T) (xs ys : List Entry) → noted_all (noted_all v xs) ys ≡ noted_all v (xs ++ ys)
-  noted_append v [] ys = refl
-  noted_append v (x ∷ xs) ys = noted_append (noted v x) xs ys
-
-  pub noted_seen : (v : View T) (es : List Entry) → (noted_all v es).seen ≡ v.seen ++ all_signed v.number es
-  noted_seen v [] = sym (append-nil v.seen)
-  noted_seen v (e ∷ es) = noted_seen (noted v e) es ∙ append_assoc v.seen (signed v.number e ∷ []) (all_signed v.number es)
-
-  noted_duties : (v : View T) (es : List Entry) → (noted_all v es).duties ≡ duties_from (state_at v.seen) v.duties es
-  noted_duties v [] = refl
-  noted_duties v (e ∷ es) = noted_duties (noted v e) es ∙ ap (λ (z : State). duties_from z (noted v e).duties es) (state-snoc v.seen (signed v.number e))
-
-  pub noted_number : (v : View T) (es : List Entry) → (noted_all v es).number ≡ v.number
-  noted_number v [] = refl
-  noted_number v (e ∷ es) = noted_number (noted v e) es
-
-  -- what such a pass has seen, and its duties
-  pub state_noted : (v w : View T) (es : List Entry) → w ≡ noted_all v es → state_at w.seen ≡ state_from (state_at v.seen) es
-  state_noted v w es is =
-      ap (λ (z : View T). state_at z.seen) is
-      ∙ (ap state_at (noted_seen v es) ∙ (state-append v.seen (all_signed v.number es) ∙ ap (state_from (state_at v.seen)) (entries_signed v.number es)))
-
-  pub legal_noted : (v w : View T) (es : List Entry) → Knows w → w ≡ noted_all v es → legal_from (state_at v.seen) es ≡ true
-  legal_noted v w es k is =
-      ap (legal_from (state_at v.seen)) (sym (entries_signed v.number es))
-      ∙ legal-back v.seen (all_signed v.number es) (subst (λ (l : List Signed). IsLegal l) (ap (λ (z : View T). z.seen) is ∙ noted_seen v es) k.history.is_legal)
-
-  duties_noted : (v w : View T) (es : List Entry) → w ≡ noted_all v es → w.duties ≡ duties_from (state_at v.seen) v.duties es
-  duties_noted v w es is = ap (λ (z : View T). z.duties) is ∙ noted_duties v es
-
   -- ---- what a pass may note
 
   pub may_end : (v : View T) (e : Entry) → is_ending e ≡ true → allowed (state_at v.seen) e ≡ true → may_note v e ≡ true
@@ -75,87 +73,115 @@ module _ {T : Type 0} where
   may_end v (Cleaned d i) is may = both (allowed (state_at v.seen) (Cleaned d i)) true may refl
   may_end v e is may = absurd (let h : false ≡ true = is in cc)
 
-  pub may_halt : (v : View T) (n : ℕ) → allowed (state_at v.seen) (Halt n) ≡ true → may_note v (Halt n) ≡ true
-  may_halt v n may = both (allowed (state_at v.seen) (Halt n)) true may refl
+  pub may_retire_it : (v : View T) (n : ℕ) → has_number n v.duties ≡ true → may_note v (Retire n) ≡ true
+  may_retire_it v n due = both (has_number n v.duties) true due refl
 
-  pub may_retire_it : (v : View T) (n : ℕ) → allowed (state_at v.seen) (Retire n) ≡ true → has_number n v.duties ≡ true → may_note v (Retire n) ≡ true
-  may_retire_it v n may due = both (allowed (state_at v.seen) (Retire n)) _ may due
-
-  owns : (v : View T) (d : ℕ) → v.draft ≡ Some d → may_sign v.number (owed v) (Abandon d) ≡ true
+  pub owns : (v : View T) (d : ℕ) → v.draft ≡ Some d → may_sign v.number (owed v) (Abandon d) ≡ true
   owns v d own = ap (holds (λ z. z == d)) own ∙ eq-eqb d d refl
 
   pub may_abandon : (v : View T) (d : ℕ) → allowed (state_at v.seen) (Abandon d) ≡ true → v.draft ≡ Some d → may_note v (Abandon d) ≡ true
-  may_abandon v d may own = both (allowed (state_at v.seen) (Abandon d)) _ may (both (may_sign v.number (owed v) (Abandon d)) true (owns v d own) refl)
+  may_abandon v d may own = both (allowed (state_at v.seen) (Abandon d)) _ may (owns v d own)
 
-  pub may_publish : (v : View T) (d n from : ℕ) (c : Change) → allowed (state_at v.seen) (Publish d n from c) ≡ true → v.draft ≡ Some d → (state_at v.seen).serial < LAST_SERIAL → may_note v (Publish d n from c) ≡ true
-  may_publish v d n from c may own room =
-      both (allowed (state_at v.seen) (Publish d n from c)) _ may
-      (both (may_sign v.number (owed v) (Publish d n from c)) _ (owns v d own) (both (nat_lt (state_at v.seen).serial LAST_SERIAL) true (less-is (state_at v.seen).serial LAST_SERIAL room) refl))
+  -- ---- what a pass knows, without requests
+
+  pub agrees : (v : View T) → Knows v → Agree (state_at (core_at v.seen))
+  agrees v k = legal-agree (entries (core_at v.seen)) (history-core v.seen k.history).is_legal
+
+  pub unended_at : (v : View T) → Knows v → are_unended (state_at (core_at v.seen)) ≡ true
+  unended_at v k = legal-unended (entries (core_at v.seen)) (history-core v.seen k.history).is_legal
+
+  pub left_at : (v : View T) → nothing_left (state_at v.seen) ≡ true → nothing_left (state_at (core_at v.seen)) ≡ true
+  left_at v left = left_core v.seen ∙ left
+
+  pub state_goes : (v w : View T) (es : List Entry) → GoesOn v w es → state_at (core_at w.seen) ≡ state_from (state_at (core_at v.seen)) es
+  state_goes v w es g = ap state_at g.core_is ∙ (state-append (core_at v.seen) (all_signed v.number es) ∙ ap (state_from (state_at (core_at v.seen))) (entries_signed v.number es))
+
+  pub legal_goes : (v w : View T) (es : List Entry) → GoesOn v w es → legal_from (state_at (core_at v.seen)) es ≡ true
+  legal_goes v w es g =
+      ap (legal_from (state_at (core_at v.seen))) (sym (entries_signed v.number es))
+      ∙ legal-back (core_at v.seen) (all_signed v.number es) (subst (λ (l : List Signed). IsLegal l) g.core_is (history-core w.seen g.since.history).is_legal)
+
+  left_goes : (v w : View T) (es : List Entry) → GoesOn v w es → nothing_left (state_from (state_at (core_at v.seen)) es) ≡ true → nothing_left (state_at w.seen) ≡ true
+  left_goes v w es g left = sym (left_core w.seen) ∙ (ap nothing_left (state_goes v w es g) ∙ left)
+
+  front_goes : (v w : View T) (es : List Entry) → GoesOn v w es → IsPrefix v.seen w.seen
+  front_goes v w es g = prefix_trans v.seen g.found w.seen g.since.seen g.since.after
+
+  pub rises : (v w : View T) (es : List Entry) (n : ℕ) → GoesOn v w es → n < (state_at v.seen).serial → n < (state_at w.seen).serial
+  rises v w es n g low = let up = serial-rises v.seen w.seen (front_goes v w es g) g.since.history.is_legal in omega (arith, up, low)
+
+  -- the apps of a superseded serial are stopped where nothing is left
+  pub stopped_then : (v : View T) (n : ℕ) → n < (state_at v.seen).serial → nothing_left (state_at v.seen) ≡ true → apps_stopped (state_at v.seen) n ≡ true
+  stopped_then v n low left = stopped_at (state_at v.seen) (state_at v.seen).serial n low (first (all_apps_stopped (state_at v.seen) (state_at v.seen).serial) _ left)
 
   -- ---- whole turns
 
-  pub agrees : (v : View T) → Knows v → Agree (state_at v.seen)
-  agrees v k = legal-agree (entries v.seen) k.history.is_legal
-
-  pub unended_at : (v : View T) → Knows v → are_unended (state_at v.seen) ≡ true
-  unended_at v k = legal-unended (entries v.seen) k.history.is_legal
-
-  is_due : (v : View T) → Knows v → nothing_left (state_at v.seen) ≡ true → IsDue (state_at v.seen).serial (state_at v.seen) v.duties
-  is_due v k left = due_now (state_at v.seen) v.duties (agrees v k) left k.duties
-
   -- a draft was given up
-  pub abandoned : (v w : View T) (d made started : ℕ) (x : Drafted) → Knows v → Knows w → w ≡ noted_all v (Abandon d ∷ ended_all d made started) → slice_get (state_at v.seen).drafts d ≡ Some x → x.life ≡ Live → made ≡ x.made → started ≡ x.started
-      → nothing_left (state_at v.seen) ≡ true → StaysCalm v w
-  abandoned v w d made started x k l is there live its_made its_started left =
-      let s : State = state_at v.seen in
-      let es : List Entry = ended_all d made started in
-      let legal = legal_noted v w (Abandon d ∷ es) l is in
-      let due = is_due v k left in
-      let t : State = state_from s (Abandon d ∷ es) in
-      let same : t.serial ≡ s.serial = (rest_along (after s (Abandon d)) es (all_end d made started)).serial in (
-        duties_noted v w (Abandon d ∷ es) is
-            ∙ (due_turn s v.duties (Abandon d) es due (abandon_leaves s v.duties d due (first (allowed s (Abandon d)) _ legal)) (λ m low ne. low) (all_end d made started) legal
-            ∙ none_due t s.serial v.duties (ap (may_retire t) (sym same) ∙ not_current t)),
-        ap nothing_left (state_noted v w (Abandon d ∷ es) is) ∙ abandon_left s (agrees v k) (unended_at v k) left d made started x there live its_made its_started legal,
-      )
+  pub abandoned_left : (v w : View T) (d made started : ℕ) (x : Drafted) → Knows v → GoesOn v w (Abandon d ∷ ended_all d made started) → slice_get (state_at (core_at v.seen)).drafts d ≡ Some x → x.life ≡ Live → made ≡ x.made → started ≡ x.started
+      → nothing_left (state_at v.seen) ≡ true → nothing_left (state_at w.seen) ≡ true
+  abandoned_left v w d made started x k g there live its_made its_started left =
+      let es : List Entry = Abandon d ∷ ended_all d made started in
+      left_goes v w es g (abandon_left (state_at (core_at v.seen)) (agrees v k) (unended_at v k) (left_at v left) d made started x there live its_made its_started (legal_goes v w es g))
 
-  -- a draft was published, while the pass has a request under the serial that it superseded
-  pub published : (v w : View T) (d n : ℕ) (c : Change) → Knows v → Knows w → w ≡ noted_all v (Publish d n (state_at v.seen).serial c ∷ stopped_of (state_at v.seen) (state_at v.seen).serial) → n ≡ (state_at v.seen).serial + 1 → v.ticket ≡ Some (state_at v.seen).serial
-      → nothing_left (state_at v.seen) ≡ true → StaysCalm v w
-  published v w d n c k l is next has left =
-      let s : State = state_at v.seen in
-      let e : Entry = Publish d n s.serial c in
-      let es : List Entry = stopped_of s s.serial in
-      let legal = legal_noted v w (e ∷ es) l is in
-      let due = is_due v k left in
-      let leaves = publish_leaves s v.duties d n s.serial c due (first (allowed s e) _ legal) in
-      let ends = stopped_of_ends s (agrees v k) (unended_at v k) left s.serial in
-      let t : State = state_from s (e ∷ es) in
-      let ticket : ticket_of v.number t.tickets ≡ Some s.serial = ap (ticket_of v.number) (rest_along (after s e) es ends).tickets ∙ (ticket_at v k ∙ has) in (
-        duties_noted v w (e ∷ es) is ∙ (due_turn s v.duties e es due leaves.0 leaves.1 ends legal ∙ none_due t s.serial v.duties (not_ticketed t v.number s.serial ticket)),
-        ap nothing_left (state_noted v w (e ∷ es) is) ∙ publish_left s (agrees v k) (unended_at v k) left d n c next (λ m gone. retired-below (entries v.seen) m k.history.is_legal gone) legal,
-      )
+  pub abandoned_duties : (v w : View T) (d made started : ℕ) → GoesOn v w (Abandon d ∷ ended_all d made started) → w.duties ≡ v.duties
+  abandoned_duties v w d made started g = g.duties ∙ endings_duties v.duties (ended_all d made started) (all_end d made started)
+
+  -- a draft was published
+  pub published_left : (v w : View T) (d n : ℕ) (c : Change) → Knows v → GoesOn v w (Publish d n (state_at (core_at v.seen)).serial c ∷ stopped_of (state_at (core_at v.seen)) (state_at (core_at v.seen)).serial) → n ≡ (state_at (core_at v.seen)).serial + 1
+      → nothing_left (state_at v.seen) ≡ true → nothing_left (state_at w.seen) ≡ true
+  published_left v w d n c k g next left =
+      let s : State = state_at (core_at v.seen) in
+      let es : List Entry = Publish d n s.serial c ∷ stopped_of s s.serial in
+      left_goes v w es g
+      (publish_left s (agrees v k) (unended_at v k) (left_at v left) d n c next (λ m gone. retired-below (entries (core_at v.seen)) m (history-core v.seen k.history).is_legal gone) (legal_goes v w es g))
 
   -- the host was halted
-  pub halted : (v w : View T) (n : ℕ) → Knows v → Knows w → w ≡ noted_all v (Halt n ∷ stopped_of (state_at v.seen) (state_at v.seen).serial) → n ≡ (state_at v.seen).serial + 1 → nothing_left (state_at v.seen) ≡ true
-      → (w.duties ≡ v.duties ++ due_at (state_at w.seen) (state_at v.seen).serial) × (nothing_left (state_at w.seen) ≡ true)
-  halted v w n k l is next left =
-      let s : State = state_at v.seen in
-      let es : List Entry = stopped_of s s.serial in
-      let legal = legal_noted v w (Halt n ∷ es) l is in
-      let due = is_due v k left in
-      let leaves = halt_leaves s v.duties n due (first (allowed s (Halt n)) _ legal) in
-      let ends = stopped_of_ends s (agrees v k) (unended_at v k) left s.serial in
-      let now = state_noted v w (Halt n ∷ es) is in (
-        duties_noted v w (Halt n ∷ es) is ∙ (due_turn s v.duties (Halt n) es due leaves.0 leaves.1 ends legal ∙ ap (λ (z : State). v.duties ++ due_at z s.serial) (sym now)),
-        ap nothing_left now ∙ halt_left s (agrees v k) (unended_at v k) left n next legal,
-      )
+  pub halted_left : (v w : View T) (n : ℕ) → Knows v → GoesOn v w (Halt n ∷ stopped_of (state_at (core_at v.seen)) (state_at (core_at v.seen)).serial) → n ≡ (state_at (core_at v.seen)).serial + 1 → nothing_left (state_at v.seen) ≡ true → nothing_left (state_at w.seen) ≡ true
+  halted_left v w n k g next left =
+      let s : State = state_at (core_at v.seen) in
+      let es : List Entry = Halt n ∷ stopped_of s s.serial in
+      left_goes v w es g (halt_left s (agrees v k) (unended_at v k) (left_at v left) n next (legal_goes v w es g))
 
   -- a serial was retired
-  pub retired : (v w : View T) (n : ℕ) → Knows v → Knows w → w ≡ noted_all v (block_of (state_at v.seen) n) → nothing_left (state_at v.seen) ≡ true → (w.duties ≡ without_number n v.duties) × (nothing_left (state_at w.seen) ≡ true)
-  retired v w n k l is left =
-      let s : State = state_at v.seen in
-      let legal = legal_noted v w (block_of s n) l is in (
-        duties_noted v w (block_of s n) is ∙ retire_turn s n v.duties (cleaned_of s n) (is_due v k left) (cleaned_of_ends s (agrees v k) (unended_at v k) left n) legal,
-        ap nothing_left (state_noted v w (block_of s n) is) ∙ retire_left s (agrees v k) (unended_at v k) left n legal,
-      )
+  pub retired_left : (v w : View T) (n : ℕ) → Knows v → GoesOn v w (block_of (state_at (core_at v.seen)) n) → nothing_left (state_at v.seen) ≡ true → nothing_left (state_at w.seen) ≡ true
+  retired_left v w n k g left =
+      let s : State = state_at (core_at v.seen) in
+      left_goes v w (block_of s n) g (retire_left s (agrees v k) (unended_at v k) (left_at v left) n (legal_goes v w (block_of s n) g))
+
+  pub retired_duties : (v w : View T) (n : ℕ) → Knows v → nothing_left (state_at v.seen) ≡ true → GoesOn v w (block_of (state_at (core_at v.seen)) n) → w.duties ≡ without_number n v.duties
+  retired_duties v w n k left g =
+      let s : State = state_at (core_at v.seen) in
+      g.duties ∙ endings_duties (without_number n v.duties) (cleaned_of s n) (cleaned_of_ends s (agrees v k) (unended_at v k) (left_at v left) n)
+
+  -- ---- a serial is settled
+
+  pub still_owes : (v w : View T) (es : List Entry) → list_all is_ending es ≡ true → GoesOn v w es → w.ticket ≡ v.ticket
+  still_owes v w es ends g = ap (λ (o : Owes). o.ticket) (g.since.owes ∙ (ap (λ (l : List Entry). owes_after (owed v) l) g.are ∙ endings_owe (owed v) es ends))
+
+  -- the serial is not due while the request of the pass runs under it
+  pub lent : (w : View T) (n : ℕ) (due : Bool) (log : List Signed) → FoundInTurn w log → w.ticket ≡ Some n → due ≡ (open_at n (state_at log).tickets == 0) → due ≡ false
+  lent w n due log f has is =
+      let ticket : ticket_of w.number (state_at log).tickets ≡ Some n = sym (owed-ticket log w.number f.found.history) ∙ (ap (λ (o : Owes). o.ticket) f.found.owes ∙ has) in
+      is ∙ ne_eqb (open_at n (state_at log).tickets) 0 (not_zero (open_at n (state_at log).tickets) (ticket-open w.number n (state_at log).tickets ticket))
+    where
+      not_zero : (x : ℕ) → 1 ≤ x → x ≡ 0 → ⊥
+      not_zero x le e = absurd (omega arith)
+
+  -- the pass has settled it
+  pub settles_with : (v w x : View T) (es : List Entry) (n : ℕ) (due : Bool) (ds : List ℕ) → GoesOn v w es → w.duties ≡ v.duties → x ≡ settled w n due → ds ≡ cond due (n ∷ []) [] → Settles v x es ds
+  settles_with v w x es n due ds g same is duties = record {
+    unsettled = w;
+    goes = g;
+    settled = subst (λ (z : View T). x ≡ record w { unsettled = None; duties = z.duties }) (sym is) is;
+    more = ap (λ (z : View T). z.duties) is ∙ (more_is due n w.duties ∙ (λ i. sym duties i ++ same i));
+  }
+
+  -- and knows the duty by what it then met
+  pub due_later : (w x : View T) (n m : ℕ) (due : Bool) (log : List Signed) (ds : List ℕ) → FoundInTurn w log → x.seen ≡ w.seen → due ≡ (open_at n (state_at log).tickets == 0) → ds ≡ cond due (n ∷ []) [] → n ≡ m → DueLater x.seen m ds
+  due_later w x n m due log ds f same is duties at = record {
+    later = log;
+    history = f.found.history;
+    seen_first = subst (λ (l : List Signed). IsPrefix l log) (sym same) f.found.seen;
+    same = f.core_is ∙ ap core_at (sym same);
+    due = duties ∙ (ap (λ (b : Bool). cond b (n ∷ []) []) is ∙ ap (λ (j : ℕ). cond (open_at j (state_at log).tickets == 0) (j ∷ []) []) at);
+  }

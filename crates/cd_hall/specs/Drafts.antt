@@ -13,6 +13,7 @@ use Rattle.cd_legal.specs.declared.entry.Signed.{Signed}
 use Rattle.cd_legal.specs.declared.state.State.{State}
 use Rattle.cd_legal.specs.declared.state.Drafted.{Drafted}
 use Rattle.cd_legal.specs.declared.state.Life.TheVariants.{Live}
+use Rattle.cd_legal.specs.Laws.{core_at}
 use Rattle.cd_legal.specs.State.{keys_at, part_keys}
 use Rattle.cd_legal.specs.Legal.{state_at}
 use Rattle.cd_gate.specs.declared.view.View.{View}
@@ -92,13 +93,13 @@ made_entry h failed = Made h.number h.made (taken_of (keys_at (part_keys Instanc
 abbrev pub started_entry : Held → Option Key → Entry
 started_entry h failed = Started h.number h.started (taken_of (keys_at (part_keys App h.plan) h.started) failed) failed
 
--- the last entry was made between a board that stood for the history before it and one that stands for it, and from the one to the
--- other the faults of the fixtures rose
+-- the last entry was made between a board that stood for the history before it and one that stands for it, both without Begin and
+-- Finish, and from the one to the other the faults of the fixtures rose
 pub record FaultRose {T : Type 0} (stands : T → T → List Signed → Type 0) (faults : T → ℕ) (opening : T) (seen : List Signed) (last : Signed) : Type 0 where
   pub found : List Signed
   pub before : T
   pub now : T
   pub made : seen ≡ found ++ last ∷ []
-  pub was : stands opening before found
-  pub is : stands opening now seen
+  pub was : stands opening before (core_at found)
+  pub is : stands opening now (core_at seen)
   pub rose : Rose (faults before) (faults now)

@@ -1,10 +1,13 @@
 pub mod Turned
 pub mod Spread
+pub mod Since
+pub mod Dues
+pub mod GoesOn
 pub mod Turns
+pub mod Requests
 pub mod Tickets
+pub mod Caches
 pub mod Drafts
 pub mod Calls
 pub mod Ends
 pub mod Publishing
-pub mod Dues
-pub mod Halting

@@ -1,6 +1,6 @@
 -- When a configuration may follow that of a ticket.
-use Rattle.std.specs.Prelude.{ℕ, ◌+◌, ◌-◌, ◌==◌, ◌&&◌, not, cond, nat_lt, nat_le, List, [], ◌∷◌, Option, Some, None}
-use Rattle.cd_legal.specs.declared.limits.TheConstants.{MAX_UNRETIRED, LAST_SERIAL}
+use Rattle.std.specs.Prelude.{ℕ, ◌+◌, ◌-◌, ◌==◌, ◌&&◌, not, cond, nat_lt, nat_le, Option, Some, None}
+use Rattle.cd_legal.specs.declared.limits.TheConstants.{LAST_SERIAL, MAX_UNRETIRED}
 use Rattle.cd_legal.specs.declared.state.State.{State}
 use Rattle.cd_legal.specs.State.{has_number}
 use Rattle.cd_life.specs.declared.board.Draft.{Draft}
@@ -20,11 +20,6 @@ refusal s serial =
     cond (nat_lt serial s.serial) (Some (Refusal.superseded s.serial))
     (cond (nat_le MAX_UNRETIRED (s.serial + 1) && not (has_number (s.serial + 1 - MAX_UNRETIRED) s.retired)) (Some (Refusal.full (s.serial + 1 - MAX_UNRETIRED)))
     (cond (s.serial == LAST_SERIAL) (Some Refusal.exhausted) None))
-
--- the serials but this one
-abbrev pub without_number : ℕ → List ℕ → List ℕ
-without_number n [] = []
-without_number n (m ∷ ms) = cond (n == m) (without_number n ms) (m ∷ without_number n ms)
 
 -- why a draft was not published
 abbrev pub refusal_in : {A B : Type 0} {g : _} → Kept A B g → Refusal

@@ -8,7 +8,7 @@ use Rattle.cd_legal.specs.Entry.{signed}
 use Rattle.cd_legal.specs.Legal.{state_at}
 use Rattle.cd_legal.specs.Placed.{Placed}
 use Rattle.cd_gate.specs.declared.view.View.{View}
-use Rattle.cd_gate.specs.Growing.{all_signed, Grows, Since}
+use Rattle.cd_gate.specs.Growing.{all_signed, Grows}
 
 -- the entries that follow a history, each where it stands
 abbrev pub placed_behind : ℕ → List Signed → List Entry → List Placed
@@ -25,10 +25,3 @@ module _ {T : Type 0} where
   -- the call made these entries, by the state that it met
   abbrev pub Makes : View T → View T → (State → List Entry) → Type 0
   Makes v w made = (found : List Signed) × Turned v w found (made (state_at found))
-
-  -- a pass that had the view v found this history when it took the turn, has made these entries in it, and has the view w
-  pub record SinceFound (v : View T) (found : List Signed) (made : List Entry) (w : View T) : Type 0 where
-    pub since : Since v made w
-    pub seen : IsPrefix v.seen found
-    pub is : w.seen ≡ found ++ all_signed v.number made
-    pub number : w.number ≡ v.number

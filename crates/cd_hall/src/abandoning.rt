@@ -1,18 +1,16 @@
 //! Drafts are given up.
-ghost use Rattle.std.specs.Prelude.{◌≡◌, ◌∷◌, None, true};
+ghost use Rattle.std.specs.Prelude.{◌≡◌, ◌∷◌, [], None, true};
 ghost use Rattle.cd_legal.specs.declared.entry.Entry.TheVariants.{Abandon};
 ghost use Rattle.cd_legal.specs.Legal.{state_at};
 ghost use Rattle.cd_legal.specs.Runs.{ended_all};
 ghost use Rattle.cd_legal.specs.Whole.{nothing_left};
-ghost use Rattle.cd_gate.specs.Growing.{noted_all};
 ghost use Rattle.cd_gate.specs.Passes.{view};
-ghost use Rattle.cd_gate.specs.Steps.{noted};
 ghost use Rattle.cd_desk.specs.Closings.{IsClosing, MayClean};
 ghost use Rattle.cd_life.specs.Standing.{Stood};
 ghost use Rattle.cd_hall.specs.Calls.{IsPassOf, StaysCalm};
 ghost use Rattle.cd_hall.specs.Drafts.{IsDraftOf, held};
+ghost use Rattle.cd_hall.specs.GoesOn.{GoesOn};
 ghost use Rattle.cd_hall.specs.Spread.{Spreads};
-ghost use Rattle.cd_hall.specs.Turned.{Makes};
 ghost use Rattle.cd_hall.specs.Turns.{InTurn};
 
 use crate::hall::Hall;
@@ -31,7 +29,6 @@ impl<M: ModuleSet, F: Fixtures> Hall<M, F> {
         requires pass { IsPassOf self.now pass.old }
         requires draft { IsDraftOf (view pass.old) draft }
         ensures pass { IsPassOf self.now pass.new }
-        ensures abandons { Makes (view pass.old) (view pass.new) (λ s. Abandon (held draft).number ∷ ended_all (held draft).number (held draft).made (held draft).started) }
         ensures spreads { Spreads (view pass.old) (view pass.new) (λ s. Abandon (held draft).number ∷ ended_all (held draft).number (held draft).made (held draft).started) }
         ensures duties { (view pass.new).duties ≡ (view pass.old).duties }
     {
@@ -52,7 +49,7 @@ pub(crate) fn abandon_in_turn<M: ModuleSet, F: Fixtures>(
     requires draft { IsDraftOf (view pass.old) draft }
     requires left { nothing_left (state_at (view pass.old).seen) ≡ true }
     ensures turn { InTurn (Stood F.calls F.faults M.plan M.change) gate.now turn.new pass.new }
-    ensures seen { view pass.new ≡ noted_all (view pass.old) (Abandon draft.left.number ∷ ended_all draft.left.number draft.left.made draft.left.started) }
+    ensures goes { GoesOn (view pass.old) (view pass.new) (Abandon draft.left.number ∷ ended_all draft.left.number draft.left.made draft.left.started) }
     ensures calm { StaysCalm (view pass.old) (view pass.new) }
 {
     let mut closing = note_abandon(gate, turn, pass, draft);
@@ -71,7 +68,8 @@ fn note_abandon<M: ModuleSet, F: Fixtures>(
     requires turn { InTurn (Stood F.calls F.faults M.plan M.change) gate.now turn.old pass.old }
     requires draft { IsDraftOf (view pass.old) draft }
     ensures turn { InTurn (Stood F.calls F.faults M.plan M.change) gate.now turn.new pass.new }
-    ensures seen { view pass.new ≡ noted (view pass.old) (Abandon draft.left.number) }
+    ensures goes { GoesOn (view pass.old) (view pass.new) (Abandon draft.left.number ∷ []) }
+    ensures unsettled { (view pass.new).unsettled ≡ (view pass.old).unsettled }
     ensures closing { result ≡ record { number = draft.left.number; serial = None; apps = draft.left.started; instances = draft.left.made } }
     ensures at { IsClosing turn.new.value.desk result }
     ensures clean { MayClean turn.new.value.desk.books draft.left.number }

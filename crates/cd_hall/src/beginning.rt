@@ -12,6 +12,9 @@ use cd_module_set::ModuleSet;
 use cd_outside::Fixtures;
 use std::alloc::Global;
 
+// The board sees no requests, so it has a place for one caller alone.
+const BOARD_CALLERS: u32 = 1;
+
 /// Out of memory for a hall. It hands the fixtures back.
 pub struct NoHall<F> {
     pub fixtures: F,
@@ -31,7 +34,7 @@ impl<M: ModuleSet, F: Fixtures> Hall<M, F> {
         ensures passes { IfOk result (λ r. ArePassesOf r.0 r.1.items) }
         ensures err { IfErr result (λ none. none.fixtures ≡ fixtures) }
     {
-        let board = match Board::new(alloc, fixtures, seats) {
+        let board = match Board::new(alloc, fixtures, BOARD_CALLERS) {
             Ok(board) => board,
             Err(NoBoard { fixtures }) => return Err(NoHall { fixtures }),
         };

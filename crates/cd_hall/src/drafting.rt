@@ -8,13 +8,13 @@ ghost use Rattle.cd_legal.specs.Entry.{signed};
 ghost use Rattle.cd_legal.specs.Legal.{state_at};
 ghost use Rattle.cd_legal.specs.Whole.{nothing_left};
 ghost use Rattle.cd_gate.specs.Passes.{view, opening_of};
-ghost use Rattle.cd_gate.specs.Steps.{noted};
 ghost use Rattle.cd_desk.specs.declared.drafts.DraftFault.TheVariants as fault;
 ghost use Rattle.cd_desk.specs.Instances.{failed_in};
 ghost use Rattle.cd_desk.specs.Lefts.{step_at};
 ghost use Rattle.cd_life.specs.Standing.{Stood};
 ghost use Rattle.cd_hall.specs.Calls.{IsPassOf, StaysCalm};
 ghost use Rattle.cd_hall.specs.Drafts.{IsDraftOf, FaultRose, held, new_held, one_made, one_started, key_in, made_entry, started_entry};
+ghost use Rattle.cd_hall.specs.GoesOn.{GoesOn};
 ghost use Rattle.cd_hall.specs.Turned.{Turned, Makes};
 ghost use Rattle.cd_hall.specs.Turns.{InTurn};
 
@@ -70,12 +70,12 @@ impl<M: ModuleSet, F: Fixtures> Hall<M, F> {
         requires free { (view pass.old).draft ≡ None }
         requires left { nothing_left (state_at (view pass.old).seen) ≡ true }
         ensures turn { InTurn (Stood F.calls F.faults M.plan M.change) self.now.gate turn.new pass.new }
-        ensures seen { IfOk result (λ draft. view pass.new ≡ noted (view pass.old) (entry.Draft draft.left.number loaded.tree loaded.plan)) }
+        ensures goes { IfOk result (λ draft. GoesOn (view pass.old) (view pass.new) (entry.Draft draft.left.number loaded.tree loaded.plan ∷ [])) }
         ensures draft { IfOk result (λ draft. IsDraftOf (view pass.new) draft) }
         ensures new { IfOk result (λ draft. held draft ≡ new_held draft.left.number loaded.tree loaded.plan) }
         ensures err { OnErr result (view pass.new ≡ view pass.old) }
+        ensures checked { (view pass.new).checked ≡ (view pass.old).checked }
         ensures spent { result ≡ Err fault.Spent → length (state_at (view pass.new).seen).drafts ≡ MAX_DRAFTS }
-        ensures number { (view pass.new).number ≡ (view pass.old).number }
         ensures calm { StaysCalm (view pass.old) (view pass.new) }
     {
         let draft = match turn.value.draft(alloc, loaded) {
@@ -129,7 +129,7 @@ impl<M: ModuleSet, F: Fixtures> Hall<M, F> {
         requires unfailed { (held draft.old).failed ≡ false }
         requires left { nothing_left (state_at (view pass.old).seen) ≡ true }
         ensures turn { InTurn (Stood F.calls F.faults M.plan M.change) self.now.gate turn.new pass.new }
-        ensures seen { view pass.new ≡ noted (view pass.old) (made_entry (held draft.old) (failed_in result)) }
+        ensures goes { GoesOn (view pass.old) (view pass.new) (made_entry (held draft.old) (failed_in result) ∷ []) }
         ensures held { held draft.new ≡ one_made (held draft.old) (is_err result) }
         ensures draft { IsDraftOf (view pass.new) draft.new }
         ensures step { IfOk result (λ step. step ≡ step_at (held draft.new).made (length (held draft.new).plan.modules)) }
@@ -191,7 +191,7 @@ impl<M: ModuleSet, F: Fixtures> Hall<M, F> {
         requires unfailed { (held draft.old).failed ≡ false }
         requires left { nothing_left (state_at (view pass.old).seen) ≡ true }
         ensures turn { InTurn (Stood F.calls F.faults M.plan M.change) self.now.gate turn.new pass.new }
-        ensures seen { view pass.new ≡ noted (view pass.old) (started_entry (held draft.old) (failed_in result)) }
+        ensures goes { GoesOn (view pass.old) (view pass.new) (started_entry (held draft.old) (failed_in result) ∷ []) }
         ensures held { held draft.new ≡ one_started (held draft.old) (is_err result) }
         ensures draft { IsDraftOf (view pass.new) draft.new }
         ensures step { IfOk result (λ step. step ≡ step_at (held draft.new).started (length (held draft.new).plan.apps)) }

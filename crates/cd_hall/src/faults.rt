@@ -1,3 +1,4 @@
+use crate::duty::Duty;
 use cd_outside::Key;
 
 /// Why no request was begun.
@@ -17,3 +18,8 @@ pub struct KeyFailed {
 /// The host was halted before.
 #[derive(Clone, Copy, Debug, PartialEq, Eq)]
 pub struct Halted;
+
+/// Out of memory for the configuration under which a request began. The request has ended, and this duty came with its end.
+pub struct NoFetch {
+    pub duty: Option<Duty>,
+}

@@ -1,19 +1,79 @@
-//! What calls in a turn of their own have made, and that tickets stay as they are, each as a call that does nothing.
-ghost use Rattle.std.specs.Prelude.{◌≡◌, ◌++◌, ℕ, List};
+//! What a pass has made in a turn, step by step, and what the beginning and the end of a request are; each as a call that does nothing.
+ghost use Rattle.std.specs.Prelude.{◌≡◌, ◌++◌, ◌∷◌, [], ℕ, Bool, List, Some, cond, false};
 ghost use mathlib.Core.List.{IsPrefix};
 ghost use Rattle.cd_legal.specs.declared.entry.Entry.{Entry};
+ghost use Rattle.cd_legal.specs.declared.entry.Entry.TheVariants.{Begin, Finish};
 ghost use Rattle.cd_legal.specs.declared.entry.Signed.{Signed};
-ghost use Rattle.cd_legal.specs.Placed.{placed_entries};
+ghost use Rattle.cd_legal.specs.Begins.{begins_now};
+ghost use Rattle.cd_legal.specs.Calls.{fixture_calls, failures};
+ghost use Rattle.cd_legal.specs.Entry.{signed, entries};
+ghost use Rattle.cd_legal.specs.Laws.{core_at};
+ghost use Rattle.cd_legal.specs.Legal.{state_at};
+ghost use Rattle.cd_legal.specs.Placed.{Placed, placed_entries};
+ghost use Rattle.cd_legal.specs.Serials.{last_conf, publishings};
 ghost use Rattle.cd_legal.specs.Signing.{IsHistory};
 ghost use Rattle.cd_gate.specs.declared.view.View.{View};
+ghost use Rattle.cd_gate.specs.Counts.{begins_in};
 ghost use Rattle.cd_gate.specs.Growing.{Places, all_signed};
+ghost use Rattle.cd_gate.specs.Steps.{with_turn, without_turn, checking, worn, noted, superseded, settled};
+ghost use Rattle.cd_gate.specs.Tables.{Found, FoundInTurn, Begins, Ends};
+ghost use Rattle.cd_hall.specs.Caches.{IsCacheOf};
+ghost use Rattle.cd_hall.specs.Dues.{DueThen};
+ghost use Rattle.cd_hall.specs.Requests.{BegunNow};
+ghost use Rattle.cd_hall.specs.Since.{Since};
 ghost use Rattle.cd_hall.specs.Spread.{Spread};
-ghost use Rattle.cd_hall.specs.Tickets.{HasConfiguration, IsTicketOf};
+ghost use Rattle.cd_hall.specs.Tickets.{HasConfiguration, IsTicketOf, HasBegun};
 ghost use Rattle.cd_hall.specs.Turned.{Turned, placed_behind};
 
+use crate::cache::Cache;
 use crate::hall::Ticket;
 use cd_legal::Stands;
 use cd_module_set::ModuleSet;
+
+/// A turn begins with no entry. Each step that adds one adds it right after the history that the step met.
+pub fn turns_go_on_by_steps<T: Stands>()
+    ensures entered { (v : View T) (log : List Signed) → Found v log → Since v (with_turn v log) log [] }
+    ensures checked { (v w : View T) (found log : List Signed) → Since v w found [] → Found w log → Since v (checking w log) log [] × Since v (worn w log) log [] }
+    ensures begun { (v w x : View T) (serial : ℕ) (found log : List Signed) (added : List Placed) → Since v w found added → Begins w x serial log →
+        (now : List Signed) × Since v x now (added ++ record { before = log; entry = Begin w.number serial } ∷ []) }
+    ensures noted { (v w : View T) (found log : List Signed) (added : List Placed) (e : Entry) → Since v w found added → FoundInTurn w log →
+        IsHistory (log ++ signed w.number e ∷ []) → (now : List Signed) × Since v (noted w log e) now (added ++ record { before = log; entry = e } ∷ []) }
+    ensures superseded { (v w : View T) (found log : List Signed) (added : List Placed) (e : Entry) (n begins : ℕ) → Since v w found added → FoundInTurn w log →
+        IsHistory (log ++ signed w.number e ∷ []) → (now : List Signed) × Since v (superseded w log e n begins) now (added ++ record { before = log; entry = e } ∷ []) }
+    ensures settled { (v w : View T) (found : List Signed) (added : List Placed) (n : ℕ) (due : Bool) → Since v w found added → Since v (settled w n due) found added }
+{}
+
+/// Once the turn is left, what was made in it is spread over the history by places, and begins right after what was found. One entry
+/// alone, or none, stands at its end.
+pub fn turns_spread_what_they_made<T: Stands>()
+    ensures spread { (v w : View T) (found : List Signed) (added : List Placed) → Since v w found added → v.turn ≡ false → w.checked ≡ v.checked → w.ready ≡ v.ready →
+        w.unsettled ≡ v.unsettled → Spread v (without_turn w) found (placed_entries added) }
+    ensures one { (v w : View T) (found : List Signed) (p : Placed) → Since v w found (p ∷ []) → Spread v (without_turn w) found (p.entry ∷ []) → Turned v (without_turn w) found (p.entry ∷ []) }
+    ensures none { (v w : View T) (found : List Signed) → Since v w found [] → Spread v (without_turn w) found [] → Turned v (without_turn w) found [] }
+{}
+
+/// The beginning of a request that waits for nobody is one entry, under the serial that is current then. A look that finds no room
+/// makes none, and what it has counted is what the history says.
+pub fn the_beginning_of_a_request_is_one_entry<T: Stands>()
+    ensures turned { (v w : View T) (serial : ℕ) (log : List Signed) → BegunNow v w serial log → v.checked ≡ false → Turned v w log (Begin v.number serial ∷ []) × (serial ≡ (state_at log).serial) }
+    ensures worn { (v w : View T) (log : List Signed) → Found v log → w ≡ worn v log → Turned v w log [] }
+    ensures counted { (log : List Signed) → IsHistory log → begins_in log (state_at log).serial ≡ begins_now (entries log) }
+{}
+
+/// The end of a request is one entry, and its duty is the one that the state before it asks for.
+pub fn the_end_of_a_request_is_one_entry<T: Stands>()
+    ensures turned { (v w : View T) (serial : ℕ) (due : Bool) (log : List Signed) → Ends v w serial due log → Turned v w log (Finish v.number ∷ []) }
+    ensures duty { (v w : View T) (serial : ℕ) (due : Bool) (log : List Signed) → Ends v w serial due log → DueThen (state_at log) serial (cond due (serial ∷ []) []) }
+{}
+
+/// Without Begin and Finish a history is one too, and has the same calls of fixtures, failed keys, publishings, and configuration.
+pub fn requests_leave_all_else()
+    ensures history { (log : List Signed) → IsHistory log → IsHistory (core_at log) }
+    ensures calls { (log : List Signed) → fixture_calls (entries (core_at log)) ≡ fixture_calls (entries log) }
+    ensures failures { (log : List Signed) → failures (entries (core_at log)) ≡ failures (entries log) }
+    ensures publishings { (log : List Signed) → publishings (entries (core_at log)) ≡ publishings (entries log) }
+    ensures conf { (log : List Signed) → last_conf (entries (core_at log)) ≡ last_conf (entries log) }
+{}
 
 /// The entries that a call made in a turn of its own stand one after another, right after the history that it found.
 pub fn turns_place_their_entries<T: Stands>()
@@ -35,4 +95,19 @@ pub fn tickets_keep_their_configurations<T: Stands, M: ModuleSet>(ticket: &Ticke
     ensures own { (v w : View T) → IsTicketOf v ticket.now → IsPrefix v.seen w.seen → IsHistory w.seen → w.ticket ≡ v.ticket → IsTicketOf w ticket.now }
 {
     let _ = ticket;
+}
+
+/// A request that began without waiting began under its ticket, whether it was had at once or later, when nothing was made since.
+pub fn requests_begin_under_their_tickets<T: Stands, M: ModuleSet>(ticket: &Ticket<M>)
+    ensures at_once { (v w : View T) (log : List Signed) → BegunNow v w ticket.now.serial log → v.checked ≡ false → IsTicketOf w ticket.now → (begin : Placed) × HasBegun v w ticket.now begin }
+    ensures later { (v w x : View T) (log found : List Signed) → BegunNow v w ticket.now.serial log → v.checked ≡ false → Turned w x found [] → IsTicketOf x ticket.now → (begin : Placed) × HasBegun v x ticket.now begin }
+{
+    let _ = ticket;
+}
+
+/// While the history grows, what a cache has is the configuration of its serial.
+pub fn caches_keep_their_configurations<T: Stands, M: ModuleSet>(cache: &Cache<M>)
+    ensures { (v w : View T) → IsCacheOf v cache.now → IsPrefix v.seen w.seen → IsHistory w.seen → IsCacheOf w cache.now }
+{
+    let _ = cache;
 }

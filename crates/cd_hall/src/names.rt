@@ -6,22 +6,6 @@ use cd_outside::Key;
 use std::marker::PhantomData;
 use std::snapshot::Snapshot;
 
-pub(crate) struct NamesBegin;
-
-impl Names<(u32, u32)> for NamesBegin {
-    ghost use Rattle.cd_legal.specs.declared.entry.Entry.TheVariants.{Begin};
-
-    ghost entry = { λ x. Begin x.0 x.1 };
-}
-
-pub(crate) struct NamesFinish;
-
-impl Names<u32> for NamesFinish {
-    ghost use Rattle.cd_legal.specs.declared.entry.Entry.TheVariants.{Finish};
-
-    ghost entry = { λ caller. Finish caller };
-}
-
 pub(crate) struct NamesDraft<M> {
     set: PhantomData<M>,
 }
@@ -94,13 +78,4 @@ impl Names<u32> for NamesRetire {
     ghost use Rattle.cd_legal.specs.declared.entry.Entry.TheVariants.{Retire};
 
     ghost entry = { λ serial. Retire serial };
-}
-
-pub(crate) struct NamesHalt;
-
-impl Names<u32> for NamesHalt {
-    ghost use Rattle.std.specs.Prelude.{◌+◌};
-    ghost use Rattle.cd_legal.specs.declared.entry.Entry.TheVariants.{Halt};
-
-    ghost entry = { λ serial. Halt (serial + 1) };
 }

@@ -1,32 +1,34 @@
 //! Drafts are published.
-ghost use Rattle.std.specs.Prelude.{◌≡◌, ◌≤◌, ◌<◌, ◌+◌, ◌-◌, ◌∷◌, ◌&&◌, [], List, Some, None, IfOk, IfErr, cond, not, nat_le, true, false};
+ghost use Rattle.std.specs.Prelude.{◌≡◌, ◌≤◌, ◌<◌, ◌+◌, ◌-◌, ◌∷◌, ◌&&◌, [], ℕ, List, Some, None, IfOk, IfErr, cond, not, nat_le, true, false};
 ghost use Rattle.cd_legal.specs.declared.entry.Entry.TheVariants.{Publish};
 ghost use Rattle.cd_legal.specs.declared.entry.Signed.{Signed};
 ghost use Rattle.cd_legal.specs.declared.limits.TheConstants.{LAST_SERIAL, MAX_UNRETIRED};
+ghost use Rattle.cd_legal.specs.Laws.{core_at};
 ghost use Rattle.cd_legal.specs.Legal.{state_at};
 ghost use Rattle.cd_legal.specs.Runs.{stopped_of};
+ghost use Rattle.cd_legal.specs.Signing.{IsHistory};
 ghost use Rattle.cd_legal.specs.State.{conf_of, has_number};
 ghost use Rattle.cd_legal.specs.Whole.{nothing_left};
-ghost use Rattle.cd_gate.specs.Growing.{noted_all};
-ghost use Rattle.cd_gate.specs.Passes.{view};
-ghost use Rattle.cd_gate.specs.Steps.{noted};
+ghost use Rattle.cd_gate.specs.declared.table.TheConstants.{SERIAL_STEP};
+ghost use Rattle.cd_gate.specs.Passes.{view, HasTurnOf, opening_of};
 ghost use Rattle.cd_life.specs.Fits.{Suits};
 ghost use Rattle.cd_life.specs.Origins.{change_of};
 ghost use Rattle.cd_life.specs.Shares.{conf_in};
 ghost use Rattle.cd_life.specs.Standing.{Stood};
 ghost use Rattle.cd_hall.specs.Calls.{IsPassOf, StaysCalm};
 ghost use Rattle.cd_hall.specs.Drafts.{IsDraftOf, IsWholeDraft, held};
+ghost use Rattle.cd_hall.specs.GoesOn.{GoesOn, Settles};
 ghost use Rattle.cd_hall.specs.Publishing.{refusal, refusal_in, draft_in};
 ghost use Rattle.cd_hall.specs.Spread.{Spread};
 ghost use Rattle.cd_hall.specs.Tickets.{IsTicketOf};
-ghost use Rattle.cd_hall.specs.Turned.{Turned, Makes};
+ghost use Rattle.cd_hall.specs.Turned.{Makes};
 ghost use Rattle.cd_hall.specs.Turns.{InTurn};
 
 use crate::hall::{Hall, Ticket};
 use crate::kept::Kept;
 use crate::names::NamesPublish;
 use crate::superseding::stop_superseded;
-use crate::turns::{add, leave_turn, take_turn};
+use crate::turns::{leave_turn, take_turn};
 use cd_gate::{Gate, Pass, Turn};
 use cd_legal::{LAST_SERIAL, MAX_UNRETIRED};
 use cd_life::{Board, Draft, Origin};
@@ -59,7 +61,6 @@ impl<M: ModuleSet, F: Fixtures> Hall<M, F> {
         requires whole { IsWholeDraft (held draft) }
         requires change { Suits M.change (conf_in ticket.now.share) (change_of origin) (held draft).tree }
         ensures pass { IsPassOf self.now pass.new }
-        ensures publishes { IfOk result (λ _. (found : List Signed) × Turned (view pass.old) (view pass.new) found (Publish (held draft).number (ticket.now.serial + 1) ticket.now.serial (change_of origin) ∷ stopped_of (state_at found) ticket.now.serial) × (refusal (state_at found) ticket.now.serial ≡ None)) }
         ensures spreads { IfOk result (λ _. (found : List Signed) × Spread (view pass.old) (view pass.new) found (Publish (held draft).number (ticket.now.serial + 1) ticket.now.serial (change_of origin) ∷ stopped_of (state_at found) ticket.now.serial) × (refusal (state_at found) ticket.now.serial ≡ None)) }
         ensures kept { IfErr result (λ kept. Makes (view pass.old) (view pass.new) (λ s. []) × (draft_in kept ≡ draft) × IsDraftOf (view pass.new) (draft_in kept) × (Some (refusal_in kept) ≡ refusal (state_at (view pass.new).seen) ticket.now.serial)) }
         ensures duties { (view pass.new).duties ≡ (view pass.old).duties }
@@ -81,18 +82,21 @@ pub(crate) fn publish_in_turn<M: ModuleSet, F: Fixtures>(
     origin: Origin,
 ) -> Result<(), Kept<M>>
     requires turn { InTurn (Stood F.calls F.faults M.plan M.change) gate.now turn.old pass.old }
+    requires settled { (view pass.old).unsettled ≡ None }
     requires draft { IsDraftOf (view pass.old) draft }
     requires whole { IsWholeDraft (held draft) }
     requires ticket { (view pass.old).ticket ≡ Some serial }
-    requires there { serial ≤ (state_at (view pass.old).seen).serial }
+    requires there { serial ≤ (state_at (core_at (view pass.old).seen)).serial }
     requires change { Suits M.change (conf_of (state_at (view pass.old).seen) serial) (change_of origin) (held draft).tree }
-    requires room { (state_at (view pass.old).seen).halted ≡ false → (state_at (view pass.old).seen).serial ≤ LAST_SERIAL }
+    requires room { (state_at (core_at (view pass.old).seen)).halted ≡ false → (state_at (core_at (view pass.old).seen)).serial ≤ LAST_SERIAL }
     requires left { nothing_left (state_at (view pass.old).seen) ≡ true }
-    ensures turn { InTurn (Stood F.calls F.faults M.plan M.change) gate.now turn.new pass.new }
-    ensures publishes { IfOk result (λ _. (view pass.new ≡ noted_all (view pass.old) (Publish draft.left.number (serial + 1) serial (change_of origin) ∷ stopped_of (state_at (view pass.old).seen) serial)) × (refusal (state_at (view pass.old).seen) serial ≡ None)) }
-    ensures number { (view pass.new).number ≡ (view pass.old).number }
-    ensures kept { IfErr result (λ kept. (view pass.new ≡ view pass.old) × (draft_in kept ≡ draft) × (Some (refusal_in kept) ≡ refusal (state_at (view pass.old).seen) serial)) }
+    ensures turn { HasTurnOf gate.now pass.new }
+    ensures board { Stood F.calls F.faults M.plan M.change (opening_of gate.now) turn.new.value (core_at (view pass.new).seen) }
+    ensures publishes { IfOk result (λ _. Settles (view pass.old) (view pass.new) (Publish draft.left.number (serial + 1) serial (change_of origin) ∷ stopped_of (state_at (core_at (view pass.old).seen)) serial) [] × (refusal (state_at (core_at (view pass.old).seen)) serial ≡ None)) }
+    ensures kept { IfErr result (λ kept. (view pass.new ≡ view pass.old) × (draft_in kept ≡ draft) × (Some (refusal_in kept) ≡ refusal (state_at (core_at (view pass.old).seen)) serial)) }
     ensures calm { StaysCalm (view pass.old) (view pass.new) }
+    ensures checked { (view pass.new).checked ≡ (view pass.old).checked }
+    ensures history { IsHistory (view pass.new).seen }
 {
     let current = turn.value.serial();
     if serial < current {
@@ -122,7 +126,8 @@ fn unretired_before<M: ModuleSet, F: Fixtures>(board: &Board<M, F>, current: u32
     Some(oldest)
 }
 
-// Publishes the pass's draft after the current configuration, and stops the apps of this.
+// Publishes the pass's draft after the current configuration, stops the apps of this, and settles its serial. No duty comes: the
+// request of the pass runs under it.
 fn publish_next<M: ModuleSet, F: Fixtures>(
     gate: &Gate<Board<M, F>>,
     turn: &mut Turn<Board<M, F>>,
@@ -132,23 +137,29 @@ fn publish_next<M: ModuleSet, F: Fixtures>(
     origin: Origin,
 )
     requires turn { InTurn (Stood F.calls F.faults M.plan M.change) gate.now turn.old pass.old }
+    requires settled { (view pass.old).unsettled ≡ None }
     requires draft { IsDraftOf (view pass.old) draft }
     requires whole { IsWholeDraft (held draft) }
     requires ticket { (view pass.old).ticket ≡ Some serial }
     requires current { serial ≡ (state_at (view pass.old).seen).serial }
     requires running { (state_at (view pass.old).seen).halted ≡ false }
     requires change { Suits M.change (conf_of (state_at (view pass.old).seen) serial) (change_of origin) (held draft).tree }
-    requires room { (state_at (view pass.old).seen).serial < LAST_SERIAL }
+    requires room { serial < LAST_SERIAL }
+    requires retired { (k : ℕ) → k + MAX_UNRETIRED ≡ serial + 1 → has_number k (state_at (view pass.old).seen).retired ≡ true }
     requires left { nothing_left (state_at (view pass.old).seen) ≡ true }
-    ensures turn { InTurn (Stood F.calls F.faults M.plan M.change) gate.now turn.new pass.new }
-    ensures seen { view pass.new ≡ noted_all (view pass.old) (Publish draft.left.number (serial + 1) serial (change_of origin) ∷ stopped_of (state_at (view pass.old).seen) serial) }
+    ensures turn { HasTurnOf gate.now pass.new }
+    ensures board { Stood F.calls F.faults M.plan M.change (opening_of gate.now) turn.new.value (core_at (view pass.new).seen) }
+    ensures settles { Settles (view pass.old) (view pass.new) (Publish draft.left.number (serial + 1) serial (change_of origin) ∷ stopped_of (state_at (core_at (view pass.old).seen)) serial) [] }
     ensures calm { StaysCalm (view pass.old) (view pass.new) }
+    ensures checked { (view pass.new).checked ≡ (view pass.old).checked }
+    ensures history { IsHistory (view pass.new).seen }
 {
-    note_publish(gate, turn, pass, draft, serial, origin);
+    let begins = note_publish(gate, turn, pass, draft, serial, origin);
     stop_superseded(gate, turn, pass, serial);
+    gate.settle_step(turn, pass, serial, begins);
 }
 
-// Publishes the pass's draft, and notes it.
+// Supersedes the serial by the Publish of the pass's draft, publishes this, and says how many requests began under the serial.
 fn note_publish<M: ModuleSet, F: Fixtures>(
     gate: &Gate<Board<M, F>>,
     turn: &mut Turn<Board<M, F>>,
@@ -156,24 +167,31 @@ fn note_publish<M: ModuleSet, F: Fixtures>(
     draft: Draft<M>,
     serial: u32,
     origin: Origin,
-)
+) -> u64
     requires turn { InTurn (Stood F.calls F.faults M.plan M.change) gate.now turn.old pass.old }
+    requires settled { (view pass.old).unsettled ≡ None }
     requires draft { IsDraftOf (view pass.old) draft }
     requires whole { IsWholeDraft (held draft) }
+    requires ticket { (view pass.old).ticket ≡ Some serial }
     requires current { serial ≡ (state_at (view pass.old).seen).serial }
     requires running { (state_at (view pass.old).seen).halted ≡ false }
     requires change { Suits M.change (conf_of (state_at (view pass.old).seen) serial) (change_of origin) (held draft).tree }
-    requires room { (state_at (view pass.old).seen).serial < LAST_SERIAL }
+    requires room { serial < LAST_SERIAL }
+    requires retired { (k : ℕ) → k + MAX_UNRETIRED ≡ serial + 1 → has_number k (state_at (view pass.old).seen).retired ≡ true }
     ensures turn { InTurn (Stood F.calls F.faults M.plan M.change) gate.now turn.new pass.new }
-    ensures seen { view pass.new ≡ noted (view pass.old) (Publish draft.left.number (serial + 1) serial (change_of origin)) }
+    ensures goes { GoesOn (view pass.old) (view pass.new) (Publish draft.left.number (serial + 1) serial (change_of origin) ∷ []) }
+    ensures ticket { (view pass.new).ticket ≡ Some serial }
+    ensures unsettled { (view pass.new).unsettled ≡ Some (record { serial = serial; begins = result }) }
+    ensures few { result < SERIAL_STEP }
 {
     let drafted = draft.number();
     let asked = Snapshot::of(&origin);
-    turn.value.publish(draft, serial, origin);
-    add::<Board<M, F>, (u64, u32, Snapshot<Origin>), NamesPublish>(
-        gate,
+    let begins = gate.publish_step::<(u64, u32, Snapshot<Origin>), NamesPublish>(
         turn,
         pass,
+        serial,
         &(drafted, serial, asked),
     );
+    turn.value.publish(draft, serial, origin);
+    begins
 }

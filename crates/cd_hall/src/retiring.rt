@@ -1,18 +1,16 @@
 //! Serials are retired.
-ghost use Rattle.std.specs.Prelude.{◌≡◌, true};
+ghost use Rattle.std.specs.Prelude.{◌≡◌, ◌∷◌, [], true};
 ghost use Rattle.cd_legal.specs.declared.entry.Entry.TheVariants.{Retire};
 ghost use Rattle.cd_legal.specs.Legal.{state_at};
 ghost use Rattle.cd_legal.specs.Runs.{block_of};
 ghost use Rattle.cd_legal.specs.State.{has_number};
 ghost use Rattle.cd_legal.specs.Whole.{nothing_left};
-ghost use Rattle.cd_gate.specs.Growing.{noted_all};
+ghost use Rattle.cd_gate.specs.Duties.{without_number};
 ghost use Rattle.cd_gate.specs.Passes.{view};
-ghost use Rattle.cd_gate.specs.Steps.{noted};
 ghost use Rattle.cd_life.specs.Standing.{Stood};
 ghost use Rattle.cd_hall.specs.Calls.{IsPassOf};
-ghost use Rattle.cd_hall.specs.Publishing.{without_number};
+ghost use Rattle.cd_hall.specs.GoesOn.{GoesOn};
 ghost use Rattle.cd_hall.specs.Spread.{Spreads};
-ghost use Rattle.cd_hall.specs.Turned.{Makes};
 ghost use Rattle.cd_hall.specs.Turns.{InTurn};
 
 use crate::duty::Duty;
@@ -32,7 +30,6 @@ impl<M: ModuleSet, F: Fixtures> Hall<M, F> {
         requires pass { IsPassOf self.now pass.old }
         requires duty { has_number duty.serial (view pass.old).duties ≡ true }
         ensures pass { IsPassOf self.now pass.new }
-        ensures retires { Makes (view pass.old) (view pass.new) (λ s. block_of s duty.serial) }
         ensures spreads { Spreads (view pass.old) (view pass.new) (λ s. block_of s duty.serial) }
         ensures duties { (view pass.new).duties ≡ without_number duty.serial (view pass.old).duties }
     {
@@ -54,7 +51,8 @@ pub(crate) fn retire_in_turn<M: ModuleSet, F: Fixtures>(
     requires duty { has_number serial (view pass.old).duties ≡ true }
     requires left { nothing_left (state_at (view pass.old).seen) ≡ true }
     ensures turn { InTurn (Stood F.calls F.faults M.plan M.change) gate.now turn.new pass.new }
-    ensures seen { view pass.new ≡ noted_all (view pass.old) (block_of (state_at (view pass.old).seen) serial) }
+    ensures goes { GoesOn (view pass.old) (view pass.new) (block_of (state_at (view pass.old).seen) serial) }
+    ensures unsettled { (view pass.new).unsettled ≡ (view pass.old).unsettled }
     ensures duties { (view pass.new).duties ≡ without_number serial (view pass.old).duties }
     ensures left { nothing_left (state_at (view pass.new).seen) ≡ true }
 {
@@ -72,7 +70,8 @@ fn note_retire<M: ModuleSet, F: Fixtures>(
     requires turn { InTurn (Stood F.calls F.faults M.plan M.change) gate.now turn.old pass.old }
     requires duty { has_number serial (view pass.old).duties ≡ true }
     ensures turn { InTurn (Stood F.calls F.faults M.plan M.change) gate.now turn.new pass.new }
-    ensures seen { view pass.new ≡ noted (view pass.old) (Retire serial) }
+    ensures goes { GoesOn (view pass.old) (view pass.new) (Retire serial ∷ []) }
+    ensures unsettled { (view pass.new).unsettled ≡ (view pass.old).unsettled }
 {
     turn.value.retire(serial);
     add::<Board<M, F>, u32, NamesRetire>(gate, turn, pass, &serial);

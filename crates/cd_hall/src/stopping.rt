@@ -1,12 +1,11 @@
 // What is left of a draft is ended in a turn, the last one first: its apps are stopped, and its instances are cleaned.
-ghost use Rattle.std.specs.Prelude.{◌≡◌, ◌<◌, ◌-◌};
+ghost use Rattle.std.specs.Prelude.{◌≡◌, ◌<◌, ◌-◌, ◌∷◌, []};
 ghost use Rattle.cd_legal.specs.declared.entry.Entry.TheVariants.{Stopped, Cleaned};
 ghost use Rattle.cd_legal.specs.Runs.{stopped_all, cleaned_all};
-ghost use Rattle.cd_gate.specs.Growing.{noted_all};
 ghost use Rattle.cd_gate.specs.Passes.{view};
-ghost use Rattle.cd_gate.specs.Steps.{noted};
 ghost use Rattle.cd_desk.specs.Closings.{IsClosing, MayClean};
 ghost use Rattle.cd_life.specs.Standing.{Stood};
+ghost use Rattle.cd_hall.specs.GoesOn.{GoesOn};
 ghost use Rattle.cd_hall.specs.Turns.{InTurn};
 
 use crate::names::{NamesCleaned, NamesStopped};
@@ -27,7 +26,8 @@ fn stop_next<M: ModuleSet, F: Fixtures>(
     requires at { IsClosing turn.old.value.desk closing.old }
     requires more { 0 < closing.old.apps }
     ensures turn { InTurn (Stood F.calls F.faults M.plan M.change) gate.now turn.new pass.new }
-    ensures seen { view pass.new ≡ noted (view pass.old) (Stopped closing.old.number (closing.old.apps - 1)) }
+    ensures goes { GoesOn (view pass.old) (view pass.new) (Stopped closing.old.number (closing.old.apps - 1) ∷ []) }
+    ensures unsettled { (view pass.new).unsettled ≡ (view pass.old).unsettled }
     ensures closing { closing.new ≡ record closing.old { apps = closing.old.apps - 1 } }
     ensures at { IsClosing turn.new.value.desk closing.new }
     ensures clean { MayClean turn.old.value.desk.books closing.old.number → MayClean turn.new.value.desk.books closing.old.number }
@@ -46,7 +46,8 @@ pub(crate) fn stop_all<M: ModuleSet, F: Fixtures>(
     requires turn { InTurn (Stood F.calls F.faults M.plan M.change) gate.now turn.old pass.old }
     requires at { IsClosing turn.old.value.desk closing.old }
     ensures turn { InTurn (Stood F.calls F.faults M.plan M.change) gate.now turn.new pass.new }
-    ensures seen { view pass.new ≡ noted_all (view pass.old) (stopped_all closing.old.number closing.old.apps) }
+    ensures goes { GoesOn (view pass.old) (view pass.new) (stopped_all closing.old.number closing.old.apps) }
+    ensures unsettled { (view pass.new).unsettled ≡ (view pass.old).unsettled }
     ensures closing { closing.new ≡ record closing.old { apps = 0 } }
     ensures at { IsClosing turn.new.value.desk closing.new }
     ensures clean { MayClean turn.old.value.desk.books closing.old.number → MayClean turn.new.value.desk.books closing.old.number }
@@ -71,7 +72,8 @@ fn clean_next<M: ModuleSet, F: Fixtures>(
     requires more { 0 < closing.old.instances }
     requires may { MayClean turn.old.value.desk.books closing.old.number }
     ensures turn { InTurn (Stood F.calls F.faults M.plan M.change) gate.now turn.new pass.new }
-    ensures seen { view pass.new ≡ noted (view pass.old) (Cleaned closing.old.number (closing.old.instances - 1)) }
+    ensures goes { GoesOn (view pass.old) (view pass.new) (Cleaned closing.old.number (closing.old.instances - 1) ∷ []) }
+    ensures unsettled { (view pass.new).unsettled ≡ (view pass.old).unsettled }
     ensures closing { closing.new ≡ record closing.old { instances = closing.old.instances - 1 } }
     ensures at { IsClosing turn.new.value.desk closing.new }
     ensures clean { MayClean turn.new.value.desk.books closing.old.number }
@@ -92,7 +94,8 @@ pub(crate) fn clean_all<M: ModuleSet, F: Fixtures>(
     requires stopped { closing.old.apps ≡ 0 }
     requires may { 0 < closing.old.instances → MayClean turn.old.value.desk.books closing.old.number }
     ensures turn { InTurn (Stood F.calls F.faults M.plan M.change) gate.now turn.new pass.new }
-    ensures seen { view pass.new ≡ noted_all (view pass.old) (cleaned_all closing.old.number closing.old.instances) }
+    ensures goes { GoesOn (view pass.old) (view pass.new) (cleaned_all closing.old.number closing.old.instances) }
+    ensures unsettled { (view pass.new).unsettled ≡ (view pass.old).unsettled }
     ensures closing { closing.new ≡ record closing.old { instances = 0 } }
 {
     let mut left = closing.instances_left();

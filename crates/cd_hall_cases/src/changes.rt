@@ -85,7 +85,8 @@ pub fn publish<R: Wait>(
 ) -> Result<(), Refused>
     requires has { Has hall.now pass.old number (Some ticket.now.serial) None [] }
     requires ticket { IsTicketOf (view pass.old) ticket.now }
-    ensures { Has hall.now pass.new number (Some ticket.now.serial) None [] }
+    ensures has { Has hall.now pass.new number (Some ticket.now.serial) None [] }
+    ensures ticket { IsTicketOf (view pass.new) ticket.now }
 {
     let Ok(origin) = origin_after(alloc, ticket, wide) else {
         return Err(Refused::NoMemory);
@@ -143,7 +144,8 @@ fn publish_draft<R: Wait>(
     requires draft { IsDraftOf (view pass.old) draft }
     requires new { IsNew (held draft) (held draft).tree }
     requires change { Suits fixed_change (conf_in ticket.now.share) (change_of origin) (held draft).tree }
-    ensures { Has hall.now pass.new number (Some ticket.now.serial) None [] }
+    ensures has { Has hall.now pass.new number (Some ticket.now.serial) None [] }
+    ensures ticket { IsTicketOf (view pass.new) ticket.now }
 {
     let mut draft = draft;
     match open(rt, hall, pass, ticket, &mut draft, number) {
@@ -166,7 +168,8 @@ pub fn open_and_give_up<R: Wait>(
 ) -> Result<(), Refused>
     requires has { Has hall.now pass.old number (Some ticket.now.serial) None [] }
     requires ticket { IsTicketOf (view pass.old) ticket.now }
-    ensures { Has hall.now pass.new number (Some ticket.now.serial) None [] }
+    ensures has { Has hall.now pass.new number (Some ticket.now.serial) None [] }
+    ensures ticket { IsTicketOf (view pass.new) ticket.now }
 {
     let Ok(mut draft) = draft(rt, alloc, hall, pass, ticket, true, number) else {
         return Err(Refused::NoMemory);
@@ -194,8 +197,10 @@ fn publish_whole<R: Wait>(
     requires draft { IsDraftOf (view pass.old) draft }
     requires whole { IsWholeDraft (held draft) }
     requires change { Suits fixed_change (conf_in ticket.now.share) (change_of origin) (held draft).tree }
-    ensures { Has hall.now pass.new number (Some ticket.now.serial) None [] }
+    ensures has { Has hall.now pass.new number (Some ticket.now.serial) None [] }
+    ensures ticket { IsTicketOf (view pass.new) ticket.now }
 {
+    tickets_keep_their_configurations::<Board<Fixed, MemoryFixtures>, Fixed>(ticket);
     match hall.publish(rt, draft, ticket, origin, pass) {
         Ok(()) => Ok(()),
         Err(kept) => give_back(rt, hall, pass, ticket, kept, number),
@@ -212,8 +217,10 @@ fn give_back<R: Wait>(
     number: u32,
 ) -> Result<(), Refused>
     requires has { Has hall.now pass.old number (Some ticket.now.serial) (Some (draft_in kept).left.number) [] }
+    requires ticket { IsTicketOf (view pass.old) ticket.now }
     requires draft { IsDraftOf (view pass.old) (draft_in kept) }
-    ensures { Has hall.now pass.new number (Some ticket.now.serial) None [] }
+    ensures has { Has hall.now pass.new number (Some ticket.now.serial) None [] }
+    ensures ticket { IsTicketOf (view pass.new) ticket.now }
 {
     let (draft, refused) = taken_back(kept);
     give_up(rt, hall, pass, ticket, draft, number);
@@ -241,11 +248,13 @@ fn give_up<R: Wait>(
     number: u32,
 )
     requires has { Has hall.now pass.old number (Some ticket.now.serial) (Some draft.left.number) [] }
+    requires ticket { IsTicketOf (view pass.old) ticket.now }
     requires draft { IsDraftOf (view pass.old) draft }
-    ensures { Has hall.now pass.new number (Some ticket.now.serial) None [] }
+    ensures has { Has hall.now pass.new number (Some ticket.now.serial) None [] }
+    ensures ticket { IsTicketOf (view pass.new) ticket.now }
 {
-    let _ = ticket;
     let _ = number;
+    tickets_keep_their_configurations::<Board<Fixed, MemoryFixtures>, Fixed>(ticket);
     hall.abandon(rt, draft, pass);
 }
 

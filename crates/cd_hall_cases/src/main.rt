@@ -1,11 +1,12 @@
 //! Requests, changes and the halt of a hall, and the openings of its drafts, under two configurations that never change.
 //!
-//! The set of modules (fixed.rt) has two configurations (plans.rt). The calls of a pass are in requests.rt, changes.rt, opening.rt and
-//! halting.rt: each spends its ticket, draft and duty, also where memory runs out. scenes.rt has what happens in a hall of two
+//! The set of modules (fixed.rt) has two configurations (plans.rt). The calls of a pass are in requests.rt, caching.rt, changes.rt,
+//! opening.rt and halting.rt: each spends its ticket, draft and duty, also where memory runs out. scenes.rt has what happens in a hall of two
 //! passes, meeting.rt makes the hall and ends it, and telling.rt prints what it came to. In threads.rt each of two passes has a
 //! thread of its own.
 #![tactic(auto)]
 
+mod caching;
 mod changes;
 mod counts;
 mod fixed;
@@ -24,10 +25,13 @@ use std::process::ExitCode;
 use telling::{tell, tell_threads};
 use threads::meet_in_threads;
 
-const SCENES: [Scene; 11] = [
+const SCENES: [Scene; 15] = [
     Scene::InUse,
     Scene::Superseded,
+    Scene::ChangerEndsLast,
+    Scene::ChangerEndsFirst,
     Scene::Halted,
+    Scene::HaltedAtRest,
     Scene::Fails(0),
     Scene::Fails(1),
     Scene::Fails(2),
@@ -36,6 +40,7 @@ const SCENES: [Scene; 11] = [
     Scene::Opens,
     Scene::GivenUp,
     Scene::Overlaps,
+    Scene::Cached,
 ];
 
 fn main(rt: HostRuntime) -> ExitCode {

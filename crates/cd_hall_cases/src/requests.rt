@@ -1,5 +1,6 @@
 // Requests begin and end, and what is due then is retired.
 ghost use Rattle.std.specs.Prelude.{◌≡◌, [], Some, None, IfOk, OnErr, true};
+ghost use mathlib.Core.List.{IsPrefix};
 ghost use Rattle.cd_legal.specs.Legal.{state_at};
 ghost use Rattle.cd_gate.specs.Passes.{view};
 ghost use Rattle.cd_hall.specs.Calls.{duties_in};
@@ -41,10 +42,11 @@ pub fn end<R: Wait>(
     ticket: Ticket<Fixed>,
     number: u32,
 ) -> u32
-    requires { Has hall.now pass.old number (Some ticket.serial) None [] }
+    requires has { Has hall.now pass.old number (Some ticket.serial) None [] }
+    requires ticket { IsTicketOf (view pass.old) ticket }
     ensures { Has hall.now pass.new number None None [] }
 {
-    let duty = hall.finish(rt, ticket, pass);
+    let duty = hall.finish(ticket, pass);
     retire(rt, hall, pass, duty, number)
 }
 
@@ -58,6 +60,7 @@ pub fn retire<R: Wait>(
 ) -> u32
     requires { Has hall.now pass.old number None None (duties_in duty) }
     ensures has { Has hall.now pass.new number None None [] }
+    ensures seen { IsPrefix (view pass.old).seen (view pass.new).seen }
     ensures halted { (state_at (view pass.old).seen).halted ≡ true → (state_at (view pass.new).seen).halted ≡ true }
 {
     let _ = number;

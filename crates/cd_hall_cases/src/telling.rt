@@ -1,4 +1,5 @@
 // What a hall came to is printed, as a line.
+use crate::caching::Asked;
 use crate::counts::{Counts, count};
 use crate::meeting::Ended;
 use crate::scenes::{Named, Scene};
@@ -13,6 +14,23 @@ pub fn tell(rt: &impl Print, scene: Scene, ended: &Ended) -> io::Result<()> {
     match &ended.named {
         Named::Number(number) => {
             print!(rt; ": {number}; published {published}, ")?;
+            tell_counts(rt, &ended.fixtures)
+        }
+        Named::Duties {
+            first,
+            second,
+            last,
+        } => {
+            print!(rt;
+                ": {first} and {second}, the last request under serial: {last}; published {published}, "
+            )?;
+            tell_counts(rt, &ended.fixtures)
+        }
+        Named::Asked(requests) => {
+            for asked in *requests {
+                tell_asked(rt, asked)?;
+            }
+            print!(rt; "; published {published}, ")?;
             tell_counts(rt, &ended.fixtures)
         }
         Named::Key(key) => {
@@ -32,11 +50,27 @@ fn tell_scene(rt: &impl Print, scene: Scene) -> io::Result<()> {
     match scene {
         Scene::InUse => print!(rt; "still in use, serial"),
         Scene::Superseded => print!(rt; "superseded by serial"),
+        Scene::ChangerEndsLast => print!(rt; "the changing request ends last, duties"),
+        Scene::ChangerEndsFirst => print!(rt; "the changing request ends first, duties"),
         Scene::Halted => print!(rt; "halted, duties at the last request"),
+        Scene::HaltedAtRest => {
+            print!(rt; "halted without a request, duties then and at a request after it")
+        }
         Scene::Fails(place) => print!(rt; "opening {place} fails, of"),
         Scene::Opens => print!(rt; "no opening fails"),
         Scene::GivenUp => print!(rt; "given up with all its keys"),
         Scene::Overlaps => print!(rt; "plain, wide and plain"),
+        Scene::Cached => print!(rt; "requests by a cache, under serials:"),
+    }
+}
+
+// The serial of a request, and whether its configuration was in the cache or had to be fetched.
+fn tell_asked(rt: &impl Print, asked: Asked) -> io::Result<()> {
+    let serial = asked.serial;
+    if asked.ready {
+        print!(rt; " {serial} ready")
+    } else {
+        print!(rt; " {serial} fetched")
     }
 }
 

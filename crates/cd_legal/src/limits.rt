@@ -4,8 +4,8 @@ ghost use Rattle.cd_legal.specs.declared.limits.TheConstants.{MAX_DRAFTS, MAX_UN
 /// How many drafts a history may have.
 pub const MAX_DRAFTS: u64 = 18_446_744_073_709_551_615;
 
-/// How many configurations may stand unretired at a time, the one that is to be published among them.
-pub const MAX_UNRETIRED: u32 = 256;
+/// How many configurations may stand unretired at a time, the one that is to be published among them. A gate has a balance for each.
+pub const MAX_UNRETIRED: u32 = 1_024;
 
 /// The largest serial that is published, 2^24 - 2, so that the serial of a halt after it still fits 24 bits.
 pub const LAST_SERIAL: u32 = 16_777_214;
@@ -14,10 +14,10 @@ pub const LAST_SERIAL: u32 = 16_777_214;
 pub const MAX_BEGINS: u64 = 549_755_813_888;
 
 /// How many passes a hall may have at a time.
-pub const MAX_SEATS: u32 = 64;
+pub const MAX_SEATS: u32 = 129;
 
 /// How many lanes a host may serve at a time, each by a pass of its own; one pass more is the host's.
-pub const MAX_LANES: u32 = 63;
+pub const MAX_LANES: u32 = 128;
 
 /// How many passes may ever be made of one history.
 pub const MAX_PASSES: u32 = 65_536;
@@ -28,10 +28,10 @@ pub const MAX_MODULES: usize = 65_536;
 /// The numbers of the limits.
 pub fn limits_are_these()
     ensures drafts { MAX_DRAFTS ≡ 2 ^ 64 - 1 }
-    ensures unretired { MAX_UNRETIRED ≡ 256 }
+    ensures unretired { MAX_UNRETIRED ≡ 1024 }
     ensures serials { LAST_SERIAL ≡ 2 ^ 24 - 2 }
     ensures begins { MAX_BEGINS ≡ 2 ^ 39 }
-    ensures seats { MAX_SEATS ≡ 64 }
+    ensures seats { MAX_SEATS ≡ 129 }
     ensures lanes { MAX_LANES ≡ MAX_SEATS - 1 }
     ensures passes { MAX_PASSES ≡ 65536 }
     ensures modules { MAX_MODULES ≡ 65536 }

@@ -1,5 +1,5 @@
 use Rattle.std.proofs.Common.{rules, ap, sym, ◌∙◌, ◌≡◌, ◌+◌, true}
-use Rattle.cd_gate.proofs.Tables.{takes_the_turn}
+use Rattle.cd_gate.proofs.TurnSteps.{takes_the_turn}
 use Rattle.cd_gate.proofs.entering.wait_for_turn.Goals as goal
 
 pub compare_exchange-holder-requires : goal.compare_exchange-holder-requires

@@ -2,4 +2,4 @@ use Rattle.cd_gate.proofs.Staying.{kept}
 use Rattle.cd_gate.proofs.knowing.a_pass_finds_its_draft.Goals as goal
 
 pub returns : goal.returns
-returns g c o b v log d f has = kept g.T.Stands.stands o b v log d f has
+returns g c v log d f has = kept v log d f has

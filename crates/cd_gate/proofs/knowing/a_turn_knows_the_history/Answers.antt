@@ -5,4 +5,4 @@ pub returns-clause-found : goal.returns-clause-found
 returns-clause-found g c o b v log f = finds g.T.Stands.stands o b v log f
 
 pub returns-clause-noted : goal.returns-clause-noted
-returns-clause-noted g c v e k may = knows_noted v e k may
+returns-clause-noted g c v log e k f may now = knows_noted v log e f now k

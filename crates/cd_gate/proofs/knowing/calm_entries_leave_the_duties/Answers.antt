@@ -2,4 +2,4 @@ use Rattle.cd_gate.proofs.InTurn.{calm}
 use Rattle.cd_gate.proofs.knowing.calm_entries_leave_the_duties.Goals as goal
 
 pub returns : goal.returns
-returns g c v e k may is left = calm v e k may is left
+returns g c v log e f now is left = calm v log e f now is left

@@ -25,16 +25,16 @@ closed-requires-clause-instances g c κs within = ap (λ (z : Closing). z.instan
 pub returns-clause-turn : goal.returns-clause-turn
 returns-clause-turn g c = kept_turn g.F.Fixtures.calls g.F.Fixtures.faults g.M.ModuleSet.plan g.M.ModuleSet.change c.args.gate.now c.clean_all.new.turn c.clean_all.new.pass c.clean_all.ensures.turn _ c.closed.ensures.keeps
 
-pub returns-clause-seen : goal.returns-clause-seen
-returns-clause-seen g c =
+pub returns-clause-goes : goal.returns-clause-goes
+returns-clause-goes g c =
     let l = c.args.draft.left in
     gave_up (view c.args.pass.now) (view c.note_abandon-closing.new.pass) (view c.stop_all.new.pass) (view c.clean_all.new.pass) l.number l.made l.started c.note_abandon-closing.result c.stop_all.new.closing
-    c.note_abandon-closing.ensures.seen c.note_abandon-closing.ensures.closing c.stop_all.ensures.seen c.stop_all.ensures.closing c.clean_all.ensures.seen
+    c.note_abandon-closing.ensures.goes c.note_abandon-closing.ensures.closing c.stop_all.ensures.goes c.stop_all.ensures.closing c.clean_all.ensures.goes
 
 pub returns-clause-calm : goal.returns-clause-calm
 returns-clause-calm g c =
     let l = c.args.draft.left in
-    abandoned_calm (view c.args.pass.now) (view c.clean_all.new.pass) c.args.draft c.requires.draft c.requires.turn.knows c.clean_all.ensures.turn.knows
+    abandoned_calm (view c.args.pass.now) (view c.clean_all.new.pass) c.args.draft c.requires.draft c.requires.turn.knows
     (gave_up (view c.args.pass.now) (view c.note_abandon-closing.new.pass) (view c.stop_all.new.pass) (view c.clean_all.new.pass) l.number l.made l.started c.note_abandon-closing.result c.stop_all.new.closing
-    c.note_abandon-closing.ensures.seen c.note_abandon-closing.ensures.closing c.stop_all.ensures.seen c.stop_all.ensures.closing c.clean_all.ensures.seen)
-    c.requires.left
+    c.note_abandon-closing.ensures.goes c.note_abandon-closing.ensures.closing c.stop_all.ensures.goes c.stop_all.ensures.closing c.clean_all.ensures.goes)
+    (c.clean_all.ensures.unsettled ∙ (c.stop_all.ensures.unsettled ∙ c.note_abandon-closing.ensures.unsettled)) c.requires.left

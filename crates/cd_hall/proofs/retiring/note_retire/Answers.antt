@@ -3,7 +3,7 @@ use Rattle.cd_legal.specs.declared.entry.Entry.TheVariants.{Retire}
 use Rattle.cd_gate.specs.Passes.{view}
 use Rattle.cd_hall.proofs.InHand.{retires_here}
 use Rattle.cd_hall.proofs.Noted.{may_retire_it}
-use Rattle.cd_hall.proofs.Requested.{stands_on, allows}
+use Rattle.cd_hall.proofs.Requested.{stands_on}
 use Rattle.cd_hall.proofs.retiring.note_retire.Goals as goal
 
 pub retire-requires : goal.retire-requires
@@ -14,6 +14,4 @@ pub add-requires-clause-board : goal.add-requires-clause-board
 add-requires-clause-board g c = stands_on g.F.Fixtures.calls g.F.Fixtures.faults g.M.ModuleSet.plan g.M.ModuleSet.change c.args.gate.now c.args.turn.now c.args.pass.now c.requires.turn c.retire.new.self (Retire c.args.serial) c.retire.ensures.entry
 
 pub add-requires-clause-may : goal.add-requires-clause-may
-add-requires-clause-may g c =
-    may_retire_it (view c.args.pass.now) c.args.serial
-    (allows g.F.Fixtures.calls g.F.Fixtures.faults g.M.ModuleSet.plan g.M.ModuleSet.change c.args.gate.now c.args.turn.now c.args.pass.now c.requires.turn c.retire.new.self (Retire c.args.serial) c.retire.ensures.entry) c.requires.duty
+add-requires-clause-may g c = may_retire_it (view c.args.pass.now) c.args.serial c.requires.duty

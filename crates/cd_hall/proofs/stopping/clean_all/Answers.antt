@@ -1,8 +1,9 @@
-use Rattle.std.proofs.Common.{◌-◌, sym, ap, subst, ◌∙◌}
+use Rattle.std.proofs.Common.{◌-◌, refl, sym, ap, subst, ◌∙◌}
+use Rattle.cd_legal.specs.Runs.{cleaned_all}
 use Rattle.cd_gate.specs.Passes.{view}
 use Rattle.cd_desk.specs.declared.closing.Closing.{Closing}
 use Rattle.cd_desk.specs.Closings.{MayClean}
-use Rattle.cd_hall.proofs.OneByOne.{cleans_on, cleans_over, no_instance, same_cleaned, none_left, some_left}
+use Rattle.cd_hall.proofs.OneByOne.{far_none, cleans_on, cleans_over, no_instance, same_cleaned, none_left, some_left}
 use Rattle.cd_hall.proofs.stopping.clean_all.Goals as goal
 
 pub clean_next-requires-clause-more : goal.clean_next-requires-clause-more
@@ -10,6 +11,18 @@ clean_next-requires-clause-more g c κs within = some_left c.loop-left.left c.lo
 
 pub clean_next-requires-clause-may : goal.clean_next-requires-clause-may
 clean_next-requires-clause-may g c κs within = c.loop-left.invariant.may (some_left c.loop-left.left c.loop-left.closing.instances c.loop-left.invariant.count c.loop-left-test.true)
+
+pub loop-left-init : goal.loop-left-init
+loop-left-init g c = record {
+  count = c.instances_left-left.ensures;
+  turn = c.requires.turn;
+  goes = far_none (view c.args.pass.now) (cleaned_all c.args.closing.now.number c.args.closing.now.instances) c.requires.turn.knows;
+  unsettled = refl;
+  closing = refl;
+  at = c.requires.at;
+  stopped = c.requires.stopped;
+  may = c.requires.may;
+}
 
 pub loop-left-preserved : goal.loop-left-preserved
 loop-left-preserved g c =
@@ -19,16 +32,17 @@ loop-left-preserved g c =
     record {
       count = ap (λ z. z - 1) i.count ∙ sym (ap (λ (z : Closing). z.instances) n.closing);
       turn = n.turn;
-      seen = cleans_on (view c.loop-left.pass) (view c.clean_next.new.pass) c.loop-left.closing c.clean_next.new.closing more n.seen n.closing ∙ i.seen;
+      goes = cleans_on (view c.args.pass.now) (view c.loop-left.pass) (view c.clean_next.new.pass) (cleaned_all c.args.closing.now.number c.args.closing.now.instances) c.loop-left.closing c.clean_next.new.closing more i.goes n.goes n.closing;
+      unsettled = n.unsettled ∙ i.unsettled;
       closing = same_cleaned c.loop-left.closing c.args.closing.now c.clean_next.new.closing n.closing i.closing;
       at = n.at;
       stopped = ap (λ (z : Closing). z.apps) n.closing ∙ i.stopped;
       may = λ some. subst (λ z. MayClean c.clean_next.new.turn.value.desk.books z) (sym (ap (λ (z : Closing). z.number) n.closing)) n.clean;
     }
 
-pub returns-clause-seen : goal.returns-clause-seen
-returns-clause-seen g c =
-    cleans_over (view c.args.pass.now) (view c.loop-left.pass) c.loop-left.closing c.args.closing.now (none_left c.loop-left.left c.loop-left.closing.instances c.loop-left.invariant.count c.loop-left-test.false) c.loop-left.invariant.seen
+pub returns-clause-goes : goal.returns-clause-goes
+returns-clause-goes g c =
+    cleans_over (view c.args.pass.now) (view c.loop-left.pass) (cleaned_all c.args.closing.now.number c.args.closing.now.instances) c.loop-left.closing (none_left c.loop-left.left c.loop-left.closing.instances c.loop-left.invariant.count c.loop-left-test.false) c.loop-left.invariant.goes
 
 pub returns-clause-closing : goal.returns-clause-closing
 returns-clause-closing g c = no_instance c.loop-left.closing (none_left c.loop-left.left c.loop-left.closing.instances c.loop-left.invariant.count c.loop-left-test.false) ∙ c.loop-left.invariant.closing

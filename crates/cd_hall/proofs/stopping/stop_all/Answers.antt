@@ -1,12 +1,24 @@
-use Rattle.std.proofs.Common.{◌-◌, sym, ap, subst, ◌∙◌}
+use Rattle.std.proofs.Common.{◌-◌, refl, sym, ap, subst, ◌∙◌}
+use Rattle.cd_legal.specs.Runs.{stopped_all}
 use Rattle.cd_gate.specs.Passes.{view}
 use Rattle.cd_desk.specs.declared.closing.Closing.{Closing}
 use Rattle.cd_desk.specs.Closings.{MayClean}
-use Rattle.cd_hall.proofs.OneByOne.{stops_on, stops_over, no_app, same_stopped, none_left, some_left}
+use Rattle.cd_hall.proofs.OneByOne.{far_none, stops_on, stops_over, no_app, same_stopped, none_left, some_left}
 use Rattle.cd_hall.proofs.stopping.stop_all.Goals as goal
 
 pub stop_next-requires-clause-more : goal.stop_next-requires-clause-more
 stop_next-requires-clause-more g c κs within = some_left c.loop-left.left c.loop-left.closing.apps c.loop-left.invariant.count c.loop-left-test.true
+
+pub loop-left-init : goal.loop-left-init
+loop-left-init g c = record {
+  count = c.apps_left-left.ensures;
+  turn = c.requires.turn;
+  goes = far_none (view c.args.pass.now) (stopped_all c.args.closing.now.number c.args.closing.now.apps) c.requires.turn.knows;
+  unsettled = refl;
+  closing = refl;
+  at = c.requires.at;
+  clean = λ may. may;
+}
 
 pub loop-left-preserved : goal.loop-left-preserved
 loop-left-preserved g c =
@@ -17,15 +29,16 @@ loop-left-preserved g c =
     record {
       count = ap (λ z. z - 1) i.count ∙ sym (ap (λ (z : Closing). z.apps) n.closing);
       turn = n.turn;
-      seen = stops_on (view c.loop-left.pass) (view c.stop_next.new.pass) c.loop-left.closing c.stop_next.new.closing more n.seen n.closing ∙ i.seen;
+      goes = stops_on (view c.args.pass.now) (view c.loop-left.pass) (view c.stop_next.new.pass) (stopped_all c.args.closing.now.number c.args.closing.now.apps) c.loop-left.closing c.stop_next.new.closing more i.goes n.goes n.closing;
+      unsettled = n.unsettled ∙ i.unsettled;
       closing = same_stopped c.loop-left.closing c.args.closing.now c.stop_next.new.closing n.closing i.closing;
       at = n.at;
       clean = λ may. subst (λ z. MayClean c.stop_next.new.turn.value.desk.books z) number (n.clean (subst (λ z. MayClean c.loop-left.turn.value.desk.books z) (sym number) (i.clean may)));
     }
 
-pub returns-clause-seen : goal.returns-clause-seen
-returns-clause-seen g c =
-    stops_over (view c.args.pass.now) (view c.loop-left.pass) c.loop-left.closing c.args.closing.now (none_left c.loop-left.left c.loop-left.closing.apps c.loop-left.invariant.count c.loop-left-test.false) c.loop-left.invariant.seen
+pub returns-clause-goes : goal.returns-clause-goes
+returns-clause-goes g c =
+    stops_over (view c.args.pass.now) (view c.loop-left.pass) (stopped_all c.args.closing.now.number c.args.closing.now.apps) c.loop-left.closing (none_left c.loop-left.left c.loop-left.closing.apps c.loop-left.invariant.count c.loop-left-test.false) c.loop-left.invariant.goes
 
 pub returns-clause-closing : goal.returns-clause-closing
 returns-clause-closing g c = no_app c.loop-left.closing (none_left c.loop-left.left c.loop-left.closing.apps c.loop-left.invariant.count c.loop-left-test.false) ∙ c.loop-left.invariant.closing

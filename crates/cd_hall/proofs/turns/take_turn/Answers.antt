@@ -4,7 +4,7 @@ use Rattle.cd_legal.specs.Whole.{nothing_left}
 use Rattle.cd_gate.specs.declared.view.View.{View}
 use Rattle.cd_gate.specs.Passes.{view, opening_of}
 use Rattle.cd_gate.proofs.Staying.{kept}
-use Rattle.cd_hall.proofs.Turned.{seen_is, in_turn, room_is, found_none}
+use Rattle.cd_hall.proofs.Turning.{seen_is, in_turn, room_is, since_taken}
 use Rattle.cd_hall.proofs.turns.take_turn.Goals as goal
 
 pub returns-clause-turn : goal.returns-clause-turn
@@ -15,7 +15,7 @@ returns-clause-turn g c =
 pub returns-clause-since : goal.returns-clause-since
 returns-clause-since g c =
     let f = c.enter.ensures.seen in
-    found_none g.T.Stands.stands (opening_of c.args.gate.now) c.enter.result.value (view c.args.pass.now) (view c.enter.new.pass) f.0 f.1 f.2
+    since_taken g.T.Stands.stands (opening_of c.args.gate.now) c.enter.result.value (view c.args.pass.now) (view c.enter.new.pass) f.0 f.1 f.2
 
 pub returns-clause-same : goal.returns-clause-same
 returns-clause-same g c = let f = c.enter.ensures.seen in seen_is (view c.args.pass.now) (view c.enter.new.pass) f.0 f.1
@@ -30,4 +30,4 @@ pub returns-clause-draft : goal.returns-clause-draft
 returns-clause-draft g c d has =
     let f = c.enter.ensures.seen in
     ap (λ (z : View g.row.T.Denot). slice_get (state_at z.seen).drafts d) f.1
-    ∙ kept g.T.Stands.stands (opening_of c.args.gate.now) c.enter.result.value (view c.args.pass.now) f.0 d f.2 has
+    ∙ kept (view c.args.pass.now) f.0 d f.2.found has

@@ -1,4 +1,5 @@
 use Rattle.std.proofs.Common.{[], ◌∷◌, ◌++◌, List, ℕ, None, ap, ◌∙◌, ◌+◌}
+use Rattle.std.proofs.lemmas.List.{append-nil}
 use Rattle.cd_legal.specs.declared.entry.Entry.TheVariants.{Halt}
 use Rattle.cd_legal.specs.Entry.{signed}
 use Rattle.cd_legal.specs.Legal.{state_at}
@@ -14,7 +15,7 @@ retire-requires g c =
     let h = c.in-Ok.ensures.spreads in
     goes c.args.hall.now c.args.pass.now c.halt.new.pass c.args.number None None None None [] (duties_in c.in-Ok.duty) _ c.requires c.halt.ensures.pass h.1.grows
     (stopped-owe (owes None None) (state_at h.0) (state_at h.0).serial)
-    (h.4 ∙ ap (λ (l : List ℕ). l ++ duties_in c.in-Ok.duty) c.requires.duties)
+    (h.4 ∙ (ap (λ (l : List ℕ). duties_in c.in-Ok.duty ++ l) c.requires.duties ∙ append-nil (duties_in c.in-Ok.duty)))
 
 pub returns-in-Ok-clause-halted : goal.returns-in-Ok-clause-halted
 returns-in-Ok-clause-halted g c =

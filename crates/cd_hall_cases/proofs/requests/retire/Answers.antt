@@ -1,9 +1,9 @@
 use Rattle.std.proofs.Common.{[], List, ℕ, Option, None, ap, ◌∙◌}
 use Rattle.cd_legal.specs.Legal.{state_at}
+use Rattle.cd_gate.specs.Duties.{without_number}
 use Rattle.cd_gate.specs.Passes.{view}
 use Rattle.cd_hall.specs.declared.duty.Duty.{Duty}
 use Rattle.cd_hall.specs.Calls.{duties_in}
-use Rattle.cd_hall.specs.Publishing.{without_number}
 use Rattle.cd_hall_cases.proofs.Goes.{goes, owes, block-owes, without-own, halted-stays}
 use Rattle.cd_hall_cases.proofs.requests.retire.Goals as goal
 
@@ -19,3 +19,6 @@ pub returns-in-Some-clause-halted : goal.returns-in-Some-clause-halted
 returns-in-Some-clause-halted g c =
     let r = c.retire.ensures.spreads in
     λ had. halted-stays (view c.args.pass.now).seen (view c.retire.new.pass).seen r.1.grows.seen had
+
+pub returns-in-Some-clause-seen : goal.returns-in-Some-clause-seen
+returns-in-Some-clause-seen g c = c.retire.ensures.spreads.1.grows.seen

@@ -1,6 +1,6 @@
 use Rattle.std.proofs.Common.{rules, ℕ, ◌<◌, ◌≤◌, length, [], ◌∷◌, set, sym, ap, ◌∙◌, subst, arith, length-append, length-set}
 use Rattle.atomic_table.proofs.Lists.{at_index}
-use Rattle.cd_legal.specs.declared.limits.TheConstants.{MAX_SEATS, MAX_PASSES}
+use Rattle.cd_legal.specs.declared.limits.TheConstants.{MAX_PASSES, MAX_SEATS}
 use Rattle.cd_gate.specs.Ends.{IsRow, AreNew}
 use Rattle.cd_gate.proofs.Rows.{row_more}
 use Rattle.cd_gate.proofs.gate.Gate.fill.Goals as goal

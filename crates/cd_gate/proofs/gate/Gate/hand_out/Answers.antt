@@ -1,6 +1,6 @@
 use Rattle.std.proofs.Common.{rules, ◌<◌, subst}
 use Rattle.cd_legal.specs.declared.limits.TheConstants.{MAX_PASSES}
-use Rattle.cd_gate.proofs.Tables.{hands_out}
+use Rattle.cd_gate.proofs.SeatSteps.{hands_out}
 use Rattle.cd_gate.proofs.gate.Gate.hand_out.Goals as goal
 
 pub split_seat-seat-requires : goal.split_seat-seat-requires

@@ -1,5 +1,5 @@
 use Rattle.std.proofs.Common.{rules}
-use Rattle.cd_gate.proofs.Tables.{takes_in}
+use Rattle.cd_gate.proofs.SeatSteps.{takes_in}
 use Rattle.cd_gate.proofs.gate.Gate.take_in.Goals as goal
 
 pub join_seat-requires : goal.join_seat-requires

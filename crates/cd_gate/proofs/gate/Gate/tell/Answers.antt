@@ -5,7 +5,7 @@ use lib.ListN.{get_elem?}
 use Rattle.cd_legal.specs.declared.entry.Signed.{Signed}
 use Rattle.cd_gate.specs.declared.view.View.{View}
 use Rattle.cd_gate.specs.Steps.{messenger}
-use Rattle.cd_gate.proofs.Tables.{sends_out, hears, looks}
+use Rattle.cd_gate.proofs.SeatSteps.{sends_out, hears, compares_lists}
 use Rattle.cd_gate.proofs.gate.Gate.tell.Goals as goal
 
 pub split_seat-messenger-requires : goal.split_seat-messenger-requires
@@ -22,7 +22,7 @@ join_seat-requires g c =
     )
 
 pub load-requires : goal.load-requires
-load-requires g c = (search rules, search rules, looks g.T.Stands.stands c.args.self.now.table.shared.key.value _ _ _)
+load-requires g c = (search rules, search rules, compares_lists g.T.Stands.stands c.args.self.now.table.shared.key.value _ _ _)
 
 pub returns-clause-seen : goal.returns-clause-seen
 returns-clause-seen g c =

@@ -1,4 +1,4 @@
-use Rattle.std.proofs.Common.{◌∙◌, [], length, ap, sym, subst}
+use Rattle.std.proofs.Common.{[], sym, subst}
 use Rattle.cd_life.specs.Standing.{Stood}
 use Rattle.cd_hall.proofs.Rows.{all_passes, nothing_ended}
 use Rattle.cd_hall.proofs.hall.Hall.new.Goals as goal
@@ -12,6 +12,4 @@ end-fixtures-requires-after_bounds g c κs within = (
 )
 
 pub returns-in-Ok-new-clause-passes : goal.returns-in-Ok-new-clause-passes
-returns-in-Ok-new-clause-passes g c =
-    all_passes (record { gate = c.in-Ok-new.gate }) c.in-Ok-new.passes.items c.in-Ok-new.ensures.passes.0
-    (ap (λ b. length b.desk.tickets.by_caller.items) c.in-Ok-new.ensures.gate ∙ (c.in-Ok.ensures.callers ∙ sym c.in-Ok-new.ensures.passes.2))
+returns-in-Ok-new-clause-passes g c = all_passes (record { gate = c.in-Ok-new.gate }) c.in-Ok-new.passes.items c.in-Ok-new.ensures.passes.0 c.in-Ok-new.ensures.passes.1

@@ -1,39 +1,44 @@
-use Rattle.std.proofs.Common.{◌≡◌, [], length}
+use Rattle.std.proofs.Common.{◌≡◌, ◌∷◌, [], length, sym, subst, ◌∙◌}
 use Rattle.cd_gate.specs.Passes.{view, opening_of}
 use Rattle.cd_desk.specs.Lefts.{step_at}
 use Rattle.cd_hall.specs.Drafts.{held, made_entry}
+use Rattle.cd_hall.specs.GoesOn.{GoesOn}
+use Rattle.cd_hall.proofs.Goes.{ends_plain, leaves_one}
 use Rattle.cd_hall.proofs.Told.{if_told}
-use Rattle.cd_hall.proofs.Turned.{found_more, seen_as}
-use Rattle.cd_hall.proofs.Requested.{number_in, number_noted, pass_after, seen_after}
+use Rattle.cd_hall.proofs.Requested.{pass_after, seen_after, same_checked, same_duties_after, same_unsettled}
 use Rattle.cd_hall.proofs.Drafted.{draft_in, draft_after, fault_rose}
 use Rattle.cd_hall.proofs.hall.Hall.provision.Goals as goal
 
 pub make_in_turn-made-requires-clause-draft : goal.make_in_turn-made-requires-clause-draft
 make_in_turn-made-requires-clause-draft g c κs within = draft_in (view c.args.pass.now) (view c.take_turn-turn.new.pass) c.args.draft.now c.take_turn-turn.ensures.same c.take_turn-turn.ensures.draft c.requires.draft
 
+pub leave_turn-requires-clause-turn : goal.leave_turn-requires-clause-turn
+leave_turn-requires-clause-turn g c = c.make_in_turn-made.ensures.turn.turn
+
+pub leave_turn-requires-clause-settled : goal.leave_turn-requires-clause-settled
+leave_turn-requires-clause-settled g c = same_unsettled (view c.args.pass.now) (view c.take_turn-turn.new.pass) (view c.make_in_turn-made.new.pass) c.take_turn-turn.ensures.same c.make_in_turn-made.ensures.calm.unsettled ∙ c.requires.pass.idle.3
+
+pub leave_turn-requires-clause-board : goal.leave_turn-requires-clause-board
+leave_turn-requires-clause-board g c = c.make_in_turn-made.ensures.turn.board
+
+pub leave_turn-requires-clause-left : goal.leave_turn-requires-clause-left
+leave_turn-requires-clause-left g c = c.make_in_turn-made.ensures.calm.left
+
 pub returns-clause-pass : goal.returns-clause-pass
 returns-clause-pass g c =
-    pass_after c.args.self.now c.leave_turn.new.pass (view c.args.pass.now) (view c.take_turn-turn.new.pass) (view c.make_in_turn-made.new.pass) c.leave_turn.ensures.pass c.requires.pass.place
-    (number_in (view c.args.pass.now) (view c.take_turn-turn.new.pass) c.take_turn-turn.ensures.same)
-    (number_noted (view c.take_turn-turn.new.pass) (view c.make_in_turn-made.new.pass) _ c.make_in_turn-made.ensures.seen) c.leave_turn.ensures.seen
+    pass_after c.args.self.now c.leave_turn.new.pass (view c.make_in_turn-made.new.pass) c.leave_turn.ensures.pass c.leave_turn.ensures.seen (same_checked (view c.args.pass.now) (view c.take_turn-turn.new.pass) (view c.make_in_turn-made.new.pass) c.take_turn-turn.ensures.same c.make_in_turn-made.ensures.goes.checked c.requires.pass.unchecked) c.make_in_turn-made.ensures.turn.knows.history
 
 pub returns-clause-made : goal.returns-clause-made
 returns-clause-made g c =
-    let v = view c.args.pass.now in
-    let w = view c.take_turn-turn.new.pass in
-    let x = view c.make_in_turn-made.new.pass in
-    let seen = seen_as w x (made_entry (held c.args.draft.now)) _ _ c.make_in_turn-made.ensures.seen c.failing.ensures.key in
-    (w.seen, c.leave_turn.ensures.turned v w.seen _ (found_more v w x w.seen [] _ c.take_turn-turn.ensures.since seen) c.requires.pass.idle.1)
+    let goes = (subst (λ key. GoesOn (view c.take_turn-turn.new.pass) (view c.make_in_turn-made.new.pass) (made_entry (held c.args.draft.now) key ∷ [])) (sym c.failing.ensures.key) c.make_in_turn-made.ensures.goes) in
+    (goes.found, leaves_one (view c.args.pass.now) (view c.take_turn-turn.new.pass) (view c.make_in_turn-made.new.pass) (view c.make_in_turn-made.new.pass) (view c.leave_turn.new.pass) c.take_turn-turn.ensures.same c.take_turn-turn.ensures.since c.requires.pass.idle.1 (ends_plain (view c.args.pass.now) (view c.take_turn-turn.new.pass) (view c.make_in_turn-made.new.pass) (view c.leave_turn.new.pass) c.requires.pass.idle.0.5 c.make_in_turn-made.ensures.turn.turn.0.5 c.take_turn-turn.ensures.same c.make_in_turn-made.ensures.calm.unsettled c.leave_turn.ensures.seen) _ goes)
 
 pub returns-clause-cause : goal.returns-clause-cause
 returns-clause-cause g c =
-    let v = view c.args.pass.now in
-    let w = view c.take_turn-turn.new.pass in
-    let x = view c.make_in_turn-made.new.pass in
-    let seen = seen_as w x (made_entry (held c.args.draft.now)) _ _ c.make_in_turn-made.ensures.seen c.failing.ensures.key in
-    let one = c.leave_turn.ensures.turned v w.seen _ (found_more v w x w.seen [] _ c.take_turn-turn.ensures.since seen) c.requires.pass.idle.1 in
-    fault_rose g.F.Fixtures.calls g.F.Fixtures.faults g.M.ModuleSet.plan g.M.ModuleSet.change (opening_of c.args.self.now.gate) c.take_turn-turn.result.value c.make_in_turn-made.new.turn.value w.seen x.seen (view c.leave_turn.new.pass).seen _
-    c.failing.result c.make_in_turn-made.result c.take_turn-turn.ensures.turn.board c.make_in_turn-made.ensures.turn.board (seen_after x (view c.leave_turn.new.pass) c.leave_turn.ensures.seen) one.is c.failing.ensures.fault c.make_in_turn-made.ensures.cause
+    let goes = (subst (λ key. GoesOn (view c.take_turn-turn.new.pass) (view c.make_in_turn-made.new.pass) (made_entry (held c.args.draft.now) key ∷ [])) (sym c.failing.ensures.key) c.make_in_turn-made.ensures.goes) in
+    let one = leaves_one (view c.args.pass.now) (view c.take_turn-turn.new.pass) (view c.make_in_turn-made.new.pass) (view c.make_in_turn-made.new.pass) (view c.leave_turn.new.pass) c.take_turn-turn.ensures.same c.take_turn-turn.ensures.since c.requires.pass.idle.1 (ends_plain (view c.args.pass.now) (view c.take_turn-turn.new.pass) (view c.make_in_turn-made.new.pass) (view c.leave_turn.new.pass) c.requires.pass.idle.0.5 c.make_in_turn-made.ensures.turn.turn.0.5 c.take_turn-turn.ensures.same c.make_in_turn-made.ensures.calm.unsettled c.leave_turn.ensures.seen) _ goes in
+    fault_rose g.F.Fixtures.calls g.F.Fixtures.faults g.M.ModuleSet.plan g.M.ModuleSet.change (opening_of c.args.self.now.gate) c.take_turn-turn.result.value c.make_in_turn-made.new.turn.value goes.found (view c.take_turn-turn.new.pass).seen (view c.make_in_turn-made.new.pass).seen (view c.leave_turn.new.pass).seen _
+    c.failing.result c.make_in_turn-made.result c.take_turn-turn.ensures.turn.board goes.found_core c.make_in_turn-made.ensures.turn.board (seen_after (view c.make_in_turn-made.new.pass) (view c.leave_turn.new.pass) c.leave_turn.ensures.seen) one.is c.failing.ensures.fault c.make_in_turn-made.ensures.cause
 
 pub returns-clause-draft : goal.returns-clause-draft
 returns-clause-draft g c = draft_after (view c.make_in_turn-made.new.pass) (view c.leave_turn.new.pass) c.make_in_turn-made.new.draft c.leave_turn.ensures.seen c.make_in_turn-made.ensures.draft
@@ -41,3 +46,6 @@ returns-clause-draft g c = draft_after (view c.make_in_turn-made.new.pass) (view
 pub returns-clause-step : goal.returns-clause-step
 returns-clause-step g c =
     if_told (λ step. step ≡ step_at (held c.make_in_turn-made.new.draft).made (length (held c.make_in_turn-made.new.draft).plan.modules)) c.failing.result c.make_in_turn-made.result c.failing.ensures.ok c.make_in_turn-made.ensures.step
+
+pub returns-clause-duties : goal.returns-clause-duties
+returns-clause-duties g c = same_duties_after (view c.args.pass.now) (view c.take_turn-turn.new.pass) (view c.make_in_turn-made.new.pass) (view c.leave_turn.new.pass) c.take_turn-turn.ensures.same c.make_in_turn-made.ensures.calm.duties c.leave_turn.ensures.seen

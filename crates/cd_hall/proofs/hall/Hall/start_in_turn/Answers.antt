@@ -1,11 +1,15 @@
 use Rattle.std.proofs.Common.{◌≡◌, ◌∙◌, ◌<◌, ◌++◌, ◌∷◌, ℕ, [], length, ap, sym, subst, refl, true}
 use Rattle.cd_legal.specs.Entry.{signed}
+use Rattle.cd_legal.specs.Laws.{core_at}
+use Rattle.cd_legal.specs.Signing.{IsHistory}
 use Rattle.cd_gate.specs.Passes.{view, opening_of}
 use Rattle.cd_gate.specs.Steps.{may_note, noted}
 use Rattle.cd_desk.specs.Instances.{failed_in}
 use Rattle.cd_desk.specs.Lefts.{step_at}
 use Rattle.cd_life.specs.Standing.{Stood}
+use Rattle.cd_hall.specs.Calls.{StaysCalm}
 use Rattle.cd_hall.specs.Drafts.{held, started_entry}
+use Rattle.cd_hall.specs.GoesOn.{GoesOn}
 use Rattle.cd_hall.proofs.Told.{if_ok}
 use Rattle.cd_hall.proofs.Requested.{stays_calm}
 use Rattle.cd_hall.proofs.Drafted.{said, err_is, left_here, held_started, started_here, may_start, draft_started}
@@ -24,7 +28,7 @@ pub add-requires-clause-board : goal.add-requires-clause-board
 add-requires-clause-board g c =
     let v = view c.args.pass.now in
     said
-    (λ d r. Stood g.F.Fixtures.calls g.F.Fixtures.faults g.M.ModuleSet.plan g.M.ModuleSet.change (opening_of c.args.self.now.gate) c.start-started.new.self (v.seen ++ signed v.number (started_entry (held d) (failed_in r)) ∷ []))
+    (λ d r. Stood g.F.Fixtures.calls g.F.Fixtures.faults g.M.ModuleSet.plan g.M.ModuleSet.change (opening_of c.args.self.now.gate) c.start-started.new.self (core_at v.seen ++ signed v.number (started_entry (held d) (failed_in r)) ∷ []))
     c.args.draft.now c.of-was.result.value c.start-started.result c.of-said.result.value c.of-was.ensures c.of-said.ensures
     (started_here g.F.Fixtures.calls g.F.Fixtures.faults g.M.ModuleSet.plan g.M.ModuleSet.change c.args.self.now.gate c.args.turn.now c.args.pass.now c.requires.turn c.start-started.new.self c.args.draft.now (failed_in c.start-started.result) c.requires.draft c.start-started.ensures.entry).1
 
@@ -35,32 +39,31 @@ add-requires-clause-may g c =
     (may_start v (held c.args.draft.now) (failed_in c.start-started.result) c.requires.draft.own
     (started_here g.F.Fixtures.calls g.F.Fixtures.faults g.M.ModuleSet.plan g.M.ModuleSet.change c.args.self.now.gate c.args.turn.now c.args.pass.now c.requires.turn c.start-started.new.self c.args.draft.now (failed_in c.start-started.result) c.requires.draft c.start-started.ensures.entry).0)
 
-pub returns-clause-seen : goal.returns-clause-seen
-returns-clause-seen g c =
-    said (λ d r. view c.add.new.pass ≡ noted (view c.args.pass.now) (started_entry (held d) (failed_in r))) c.of-was.result.value c.args.draft.now c.of-said.result.value c.start-started.result (sym c.of-was.ensures) (sym c.of-said.ensures) c.add.ensures.seen
+pub returns-clause-goes : goal.returns-clause-goes
+returns-clause-goes g c =
+    said (λ d r. GoesOn (view c.args.pass.now) (view c.add.new.pass) (started_entry (held d) (failed_in r) ∷ [])) c.of-was.result.value c.args.draft.now c.of-said.result.value c.start-started.result (sym c.of-was.ensures) (sym c.of-said.ensures) c.add.ensures.goes
 
 pub returns-clause-held : goal.returns-clause-held
 returns-clause-held g c = held_started c.args.draft.now c.start-started.new.draft _ c.start-started.ensures.left c.start-started.ensures.loaded
 
 pub returns-clause-draft : goal.returns-clause-draft
 returns-clause-draft g c =
-    draft_started (view c.args.pass.now) (view c.add.new.pass) c.args.draft.now c.start-started.new.draft (failed_in c.start-started.result) _ c.requires.draft
-    (said (λ d r. view c.add.new.pass ≡ noted (view c.args.pass.now) (started_entry (held d) (failed_in r))) c.of-was.result.value c.args.draft.now c.of-said.result.value c.start-started.result (sym c.of-was.ensures) (sym c.of-said.ensures) c.add.ensures.seen)
+    draft_started (view c.args.pass.now) (view c.add.new.pass) c.add.ensures.noted.0 c.args.draft.now c.start-started.new.draft (failed_in c.start-started.result) _ c.add.ensures.noted.1.core_is c.requires.draft
+    (said (λ d r. view c.add.new.pass ≡ noted (view c.args.pass.now) c.add.ensures.noted.0 (started_entry (held d) (failed_in r))) c.of-was.result.value c.args.draft.now c.of-said.result.value c.start-started.result (sym c.of-was.ensures) (sym c.of-said.ensures) c.add.ensures.noted.2)
     c.start-started.ensures.left c.start-started.ensures.loaded (err_is c.start-started.result)
 
 pub returns-clause-calm : goal.returns-clause-calm
 returns-clause-calm g c =
     let v = view c.args.pass.now in
-    stays_calm v (view c.add.new.pass) (started_entry (held c.args.draft.now) (failed_in c.start-started.result)) c.requires.turn.knows
-    (may_start v (held c.args.draft.now) (failed_in c.start-started.result) c.requires.draft.own
-    (started_here g.F.Fixtures.calls g.F.Fixtures.faults g.M.ModuleSet.plan g.M.ModuleSet.change c.args.self.now.gate c.args.turn.now c.args.pass.now c.requires.turn c.start-started.new.self c.args.draft.now (failed_in c.start-started.result) c.requires.draft c.start-started.ensures.entry).0)
-    refl c.requires.left
-    (said (λ d r. view c.add.new.pass ≡ noted v (started_entry (held d) (failed_in r))) c.of-was.result.value c.args.draft.now c.of-said.result.value c.start-started.result (sym c.of-was.ensures) (sym c.of-said.ensures) c.add.ensures.seen)
+    let t = c.add.ensures.noted in
+    said (λ d r. IsHistory (t.0 ++ signed v.number (started_entry (held d) (failed_in r)) ∷ []) → StaysCalm v (view c.add.new.pass)) c.of-was.result.value c.args.draft.now c.of-said.result.value c.start-started.result (sym c.of-was.ensures) (sym c.of-said.ensures)
+    (λ now. stays_calm v (view c.add.new.pass) t.0 (started_entry (held c.of-was.result.value) (failed_in c.of-said.result.value)) t.1 now refl c.requires.left t.2)
+    (said (λ d r. IsHistory (t.0 ++ signed v.number (started_entry (held d) (failed_in r)) ∷ [])) c.of-was.result.value c.args.draft.now c.of-said.result.value c.start-started.result (sym c.of-was.ensures) (sym c.of-said.ensures) t.3)
 
 pub returns-clause-step : goal.returns-clause-step
 returns-clause-step g c =
     let new = c.start-started.new.draft in
-    let has = draft_started (view c.args.pass.now) (view c.add.new.pass) c.args.draft.now c.start-started.new.draft (failed_in c.start-started.result) _ c.requires.draft
-    (said (λ d r. view c.add.new.pass ≡ noted (view c.args.pass.now) (started_entry (held d) (failed_in r))) c.of-was.result.value c.args.draft.now c.of-said.result.value c.start-started.result (sym c.of-was.ensures) (sym c.of-said.ensures) c.add.ensures.seen)
+    let has = draft_started (view c.args.pass.now) (view c.add.new.pass) c.add.ensures.noted.0 c.args.draft.now c.start-started.new.draft (failed_in c.start-started.result) _ c.add.ensures.noted.1.core_is c.requires.draft
+    (said (λ d r. view c.add.new.pass ≡ noted (view c.args.pass.now) c.add.ensures.noted.0 (started_entry (held d) (failed_in r))) c.of-was.result.value c.args.draft.now c.of-said.result.value c.start-started.result (sym c.of-was.ensures) (sym c.of-said.ensures) c.add.ensures.noted.2)
     c.start-started.ensures.left c.start-started.ensures.loaded (err_is c.start-started.result) in
     if_ok (λ step. step ≡ step_at new.left.started new.left.apps) (λ step. step ≡ step_at new.left.started (length (held new).plan.apps)) c.start-started.result (λ step is. is ∙ ap (step_at new.left.started) has.apps) c.start-started.ensures.step

@@ -1,5 +1,0 @@
-use Rattle.cd_counts.proofs.Staying.{kept}
-use Rattle.cd_counts.proofs.knowing.a_pass_finds_its_draft.Goals as goal
-
-pub returns : goal.returns
-returns g c v log d f has = kept v log d f has

@@ -1,5 +1,0 @@
-use Rattle.cd_counts.proofs.Cored.{core-notes}
-use Rattle.cd_counts.proofs.knowing.notes_follow_one_another.Goals as goal
-
-pub returns : goal.returns
-returns g c v w entries all notes = core-notes v w entries all notes

@@ -1,5 +1,0 @@
-use Rattle.cd_counts.proofs.Starting.{begins_by_rule}
-use Rattle.cd_counts.proofs.laws.a_gate_begins_by_the_rule.Goals as goal
-
-pub returns : goal.returns
-returns g c b start = begins_by_rule g.T.Stands.stands b start
