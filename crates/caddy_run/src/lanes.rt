@@ -12,12 +12,12 @@ use std::time::Clock;
 pub const LANES: usize = 8;
 
 /// How many lanes a run may have: each has a pass of the hall, and the program has one.
-pub const MAX_LANES: usize = 63;
+pub const MAX_LANES: usize = 128;
 
 /// The numbers, which the code cites by name.
 pub fn lanes_are()
     ensures lanes { LANES ≡ 8 }
-    ensures most { MAX_LANES ≡ 63 }
+    ensures most { MAX_LANES ≡ 128 }
     ensures fit { (1 ≤ LANES) × (LANES ≤ MAX_LANES) }
 {}
 

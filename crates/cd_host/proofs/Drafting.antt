@@ -15,13 +15,13 @@ use Rattle.cd_legal.specs.Owing.{Owes, owes_by}
 use Rattle.cd_legal.specs.Runs.{Failure, opened, opened_until, stopped_all, cleaned_all, ended_all, undone_after, started_in, made_in, stopped_of, cleaned_of, block_of}
 use Rattle.cd_legal.specs.State.{Conf, conf_of, draft_of, has_number}
 use Rattle.cd_gate.specs.declared.view.View.{View}
+use Rattle.cd_gate.specs.Duties.{without_number}
 use Rattle.cd_gate.specs.Growing.{owes_after}
 use Rattle.cd_gate.specs.Words.{owed}
 use Rattle.cd_life.specs.Fits.{Suits}
 use Rattle.cd_life.specs.Shares.{conf_in}
 use Rattle.cd_hall.specs.declared.hall.Ticket.{Ticket}
 use Rattle.cd_hall.specs.Drafts.{Held, IsWholeDraft, new_held}
-use Rattle.cd_hall.specs.Publishing.{without_number}
 use Rattle.cd_hall.specs.Tickets.{IsTicketOf}
 use Rattle.cd_hall.specs.Spread.{Spread, Spreads}
 use Rattle.cd_hall.specs.Turned.{Turned}

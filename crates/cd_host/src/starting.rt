@@ -1,5 +1,5 @@
 //! The program starts: it publishes its first configuration, and retires serial 0.
-ghost use Rattle.std.specs.Prelude.{◌≡◌, [], Some, None};
+ghost use Rattle.std.specs.Prelude.{◌≡◌, [], None};
 ghost use Rattle.cd_legal.specs.Signing.{IsHistory};
 ghost use Rattle.cd_gate.specs.Passes.{view};
 ghost use Rattle.cd_hall.specs.Calls.{IsPassOf};
@@ -96,13 +96,13 @@ fn finish_first<R: Wait, M: ModuleSet, F: Fixtures>(
     pass: &mut Pass<Board<M, F>>,
 )
     requires pass { IsPassOf hall.now pass.old }
-    requires ticket { (view pass.old).ticket ≡ Some ticket.serial }
+    requires ticket { IsTicketOf (view pass.old) ticket }
     requires none { (view pass.old).duties ≡ [] }
     ensures pass { IsPassOf hall.now pass.new }
     ensures finished { HasFinished ticket.serial (view pass.old) (view pass.new) }
     ensures free { ((view pass.new).ticket ≡ None) × ((view pass.new).draft ≡ (view pass.old).draft) × ((view pass.new).duties ≡ []) }
 {
-    match hall.finish(rt, ticket, pass) {
+    match hall.finish(ticket, pass) {
         Some(duty) => hall.retire(rt, duty, pass),
         None => {}
     }

@@ -3,7 +3,7 @@ use Rattle.std.proofs.Common.{◌≡◌, ◌∙◌, ◌++◌, ◌||◌, ◌&&◌
 use Rattle.std.specs.List.{list_any}
 use Rattle.std.specs.Result.{IsOk}
 use Rattle.std.specs.Arc.{arc_value}
-use Rattle.std.proofs.lemmas.List.{append_assoc, append-nil, append_cancel_left}
+use Rattle.std.proofs.lemmas.List.{append_assoc, append-nil, append_cancel_left, map-append}
 use mathlib.Core.List.{IsPrefix}
 use Rattle.cd_outside.specs.declared.address.Address.{Address}
 use Rattle.cd_outside.specs.declared.past.KeepRecord.{KeepRecord}
@@ -97,17 +97,18 @@ another-stays : (k : ℕ) (front more : List Signed) → another_halted k front 
 another-stays k [] more is = absurd (let h : false ≡ true = is in cc)
 another-stays k (x ∷ xs) more is = or-stays (is_halt x.entry && not (x.by == k)) (another_halted k xs) (another_halted k (xs ++ more)) (another-stays k xs more) is
 
--- a pass that made no entry has signed nothing of what it has seen since
-none-since : {T : Type 0} (v x : View T) (p : Places v x []) → entries (mine v.number p.seen.0) ≡ []
-none-since v x p =
+-- of what it has seen since a pass has signed what it made
+pub made-since : {T : Type 0} (v x : View T) (added : List Placed) (p : Places v x added) → entries (mine v.number p.seen.0) ≡ placed_entries added
+made-since v x added p =
     let k = v.number in
     let late : List Signed = p.seen.0 in
-    let same : entries (mine k v.seen) ++ entries (mine k late) ≡ entries (mine k v.seen) ++ [] =
+    let same : entries (mine k v.seen) ++ entries (mine k late) ≡ entries (mine k v.seen) ++ placed_entries added =
     sym (entries-append (mine k v.seen) (mine k late))
     ∙ (ap entries (sym (mine-append k v.seen late) ∙ ap (λ (l : List Signed). mine k l) p.seen.1)
     ∙ (sym (placed-entries k x.seen)
-    ∙ (ap placed_entries (p.placed_is ∙ append-nil (placed k v.seen)) ∙ (placed-entries k v.seen ∙ sym (append-nil (entries (mine k v.seen))))))) in
-    append_cancel_left (entries (mine k v.seen)) (entries (mine k late)) [] same
+    ∙ (ap placed_entries p.placed_is
+    ∙ (map-append (λ (q : Placed). q.entry) (placed k v.seen) added ∙ ap (λ (es : List Entry). es ++ placed_entries added) (placed-entries k v.seen))))) in
+    append_cancel_left (entries (mine k v.seen)) (entries (mine k late)) (placed_entries added) same
 
 -- where the host ran when the request of the pass began, and the pass has made no entry since, and finds the host halted, another one
 -- has halted it
@@ -120,7 +121,7 @@ another-since v x t b p running halted =
     let all : b.begin.before ++ late ≡ x.seen = sym (append_assoc b.begin.before (begin ∷ b.since) rest) ∙ (ap (λ (l : List Signed). l ++ rest) (sym b.stands) ∙ p.seen.1) in
     let own : mine k (begin ∷ b.since) ≡ begin ∷ [] = ap (λ (c : Bool). cond c (begin ∷ mine k b.since) (mine k b.since)) (eq-eqb k k refl) ∙ ap (λ (l : List Signed). begin ∷ l) b.alone in
     let made : entries (mine k late) ≡ b.begin.entry ∷ [] =
-    ap entries (mine-append k (begin ∷ b.since) rest) ∙ (entries-append (mine k (begin ∷ b.since)) (mine k rest) ∙ (ap (λ (es : List Entry). entries (mine k (begin ∷ b.since)) ++ es) (none-since v x p) ∙ (append-nil (entries (mine k (begin ∷ b.since))) ∙ ap entries own))) in
+    ap entries (mine-append k (begin ∷ b.since) rest) ∙ (entries-append (mine k (begin ∷ b.since)) (mine k rest) ∙ (ap (λ (es : List Entry). entries (mine k (begin ∷ b.since)) ++ es) (made-since v x [] p) ∙ (append-nil (entries (mine k (begin ∷ b.since))) ∙ ap entries own))) in
     let none : list_any is_halt (entries (mine k late)) ≡ false = ap (λ (es : List Entry). list_any is_halt es) made ∙ ap (λ (e : Entry). is_halt e || false) b.begins in
     ap (λ (l : List Signed). another_halted k l) (sym all)
     ∙ halted-by-another k b.begin.before late (sym (begun-halted v t b) ∙ running) (ap (λ (l : List Signed). (state_at l).halted) all ∙ halted) none

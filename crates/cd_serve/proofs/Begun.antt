@@ -1,29 +1,28 @@
 -- A request from its Begin to its block, put together from what each call made.
-use Rattle.std.proofs.Common.{◌≡◌, ◌∙◌, ◌++◌, ℕ, zero, suc, List, [], ◌∷◌, Option, Some, None, option_map, refl, ap, sym, subst}
-use Rattle.std.proofs.lemmas.List.{append_assoc, append-nil}
+use Rattle.std.proofs.Common.{◌≡◌, ◌∙◌, ◌++◌, ℕ, Bool, cond, List, [], ◌∷◌, Option, Some, None, option_map, refl, ap, sym, subst, eq-eqb}
+use Rattle.std.proofs.lemmas.List.{append_assoc, append-nil, append_cancel_left}
 use Rattle.cd_text.specs.Steps.{joined}
 use Rattle.cd_outside.specs.declared.address.Address.{Address}
 use Rattle.cd_outside.specs.declared.past.Past.{Past}
 use Rattle.cd_outside.specs.Past.{with_connection}
 use Rattle.cd_wire.specs.declared.request.Request.{Request}
+use Rattle.cd_legal.specs.declared.entry.Entry.{Entry}
 use Rattle.cd_legal.specs.declared.entry.Entry.TheVariants.{Begin, Finish}
 use Rattle.cd_legal.specs.declared.entry.Signed.{Signed}
-use Rattle.cd_legal.specs.declared.state.State.{State}
-use Rattle.cd_legal.specs.Entry.{signed}
+use Rattle.cd_legal.specs.Entry.{signed, entries, mine}
 use Rattle.cd_legal.specs.State.{Conf, conf_of}
-use Rattle.cd_legal.specs.Legal.{after, state_at}
+use Rattle.cd_legal.specs.Legal.{state_at}
 use Rattle.cd_legal.specs.Placed.{Placed, met}
 use Rattle.cd_legal.specs.Owing.{Owes}
 use Rattle.cd_legal.specs.Signing.{IsHistory}
-use Rattle.cd_legal.proofs.Logs.{state-snoc}
+use Rattle.cd_legal.proofs.Logs.{mine-append}
 use Rattle.cd_gate.specs.declared.view.View.{View}
 use Rattle.cd_gate.specs.Growing.{Places}
 use Rattle.cd_gate.proofs.Grown.{places_both}
 use Rattle.cd_hall.specs.declared.hall.Ticket.{Ticket}
-use Rattle.cd_hall.specs.Tickets.{IsTicketOf, BeganWith}
+use Rattle.cd_hall.specs.Tickets.{IsTicketOf, BeganWith, HasBegun}
 use Rattle.cd_hall.specs.Turned.{Turned}
 use Rattle.cd_hall.proofs.Placing.{turned_places}
-use Rattle.cd_life.specs.Shares.{conf_in}
 use Rattle.cd_serve.specs.declared.how.How.{How}
 use Rattle.cd_serve.specs.declared.how.How.TheVariants as how
 use Rattle.cd_serve.specs.Meanings.{Meaning, Sent, after_sending}
@@ -31,13 +30,9 @@ use Rattle.cd_serve.specs.Retirements.{due, IsRetirement}
 use Rattle.cd_serve.specs.Episodes.{Outcome, Episode, IsAgain}
 use Rattle.cd_serve.specs.Replies.{AllAgain}
 use Rattle.cd_serve.specs.Requests.{outcome_of, OwesNothing, OwesTicket, IsBegun, EndsIn, Acted, ActedQuietly, Concluded, RepliedWith, RequestServed, DecidesAgain, ServedOnce, Repeats}
+use Rattle.cd_serve.proofs.Acts.{made-since, quiet-lacking}
 use Rattle.cd_serve.proofs.Told.{nothing-sent}
 use Rattle.cd_serve.proofs.Works.{works-none}
-
--- a Begin keeps all configurations
-conf_begin : (s : State) (k m n : ℕ) → conf_of (after s (Begin k m)) n ≡ conf_of s n
-conf_begin s k m zero = refl
-conf_begin s k m (suc n) = refl
 
 -- what was done without an entry
 pub acted-quietly : {T : Type 0} (m : Meaning) (at : Address) (q : Request) (conf : Conf) (serial : ℕ) (h : How) (v : View T) (old new : Option Past) → IsHistory v.seen → ActedQuietly m at q conf serial h old new → Acted m at q conf serial (Some h) v v old new
@@ -49,36 +44,21 @@ acted-quietly m at q conf serial h v old new is a = record {
   is = a.is v.number v.seen;
 }
 
--- the Begin of a pass right after what it found
-abbrev pub first : {T : Type 0} → View T → ℕ → List Signed → Placed
-first v serial found = record { before = found; entry = Begin v.number serial }
-
--- it met what the ticket has
-pub began : {T : Type 0} (v w : View T) (conf : Conf) (serial : ℕ) (found : List Signed) → w.seen ≡ found ++ signed v.number (Begin v.number serial) ∷ [] → serial ≡ (state_at found).serial → conf ≡ conf_of (state_at w.seen) serial → BeganWith conf serial (first v serial found)
-began v w conf serial found ends current is = record {
-  conf_is =
-      ap (λ (n : ℕ). conf_of (state_at found) n) (sym current)
-      ∙ (sym (conf_begin (state_at found) v.number serial serial)
-      ∙ (ap (λ (s : State). conf_of s serial) (sym (state-snoc found (signed v.number (Begin v.number serial))) ∙ ap state_at (sym ends))
-      ∙ sym is));
-  serial_is = sym current;
-}
-
-module _ {T : Type 0} (serial : ℕ) (v w x z : View T) (found : List Signed) where
+module _ {T : Type 0} (serial : ℕ) (v w x z : View T) (begin : Placed) where
   abbrev pub all : List Placed → Concluded x z → List Placed
-  all work c = first v serial found ∷ (work ++ c.finish ∷ c.block)
+  all work c = begin ∷ (work ++ c.finish ∷ c.block)
 
-  pub all_placed : (work : List Placed) (c : Concluded x z) → Places v w (first v serial found ∷ []) → Places w x work → Places v z (all work c)
-  all_placed work c one two = places_both v w z (first v serial found ∷ []) (work ++ c.finish ∷ c.block) one (places_both w x z work (c.finish ∷ c.block) two c.places)
+  pub all_placed : (work : List Placed) (c : Concluded x z) → Places v w (begin ∷ []) → Places w x work → Places v z (all work c)
+  all_placed work c one two = places_both v w z (begin ∷ []) (work ++ c.finish ∷ c.block) one (places_both w x z work (c.finish ∷ c.block) two c.places)
 
-  pub episode : (conf : Conf) (work : List Placed) (c : Concluded x z) → w.number ≡ v.number → x.number ≡ v.number → BeganWith conf serial (first v serial found) → Episode v.number (all work c)
-  episode conf work c wk xk b = record {
-    begin = first v serial found;
+  pub episode : (conf : Conf) (work : List Placed) (c : Concluded x z) → x.number ≡ v.number → begin.entry ≡ Begin v.number serial → BeganWith conf serial begin → Episode v.number (all work c)
+  episode conf work c xk is b = record {
+    begin = begin;
     work = work;
     finish = c.finish;
     block = c.block;
     whole = refl;
-    begins = ap (Begin v.number) (sym b.serial_is);
+    begins = is ∙ ap (Begin v.number) (sym b.serial_is);
     finishes = c.finishes ∙ ap Finish xk;
     retires = subst (λ (j : ℕ). IsRetirement (met c.finish) (due (met c.finish) j) c.block) xk c.retires;
   }
@@ -96,35 +76,39 @@ replied m k at q (Some outcome) own e s old new past ends = record {
 replied m k at q None own e s old new past ends = absurd ends
 
 -- a request that was begun, acted on, and ended, was served, or is to be decided again
-pub served-once : {T : Type 0} (m : Meaning) (at : Address) (q : Request) (conf : Conf) (serial : ℕ) (result : Option How) (v w x z : View T) (found : List Signed) (old new : Option Past)
-    → w.seen ≡ found ++ signed v.number (Begin v.number serial) ∷ [] → serial ≡ (state_at found).serial → Places v w (record { before = found; entry = Begin v.number serial } ∷ []) → conf ≡ conf_of (state_at w.seen) serial
-    → Acted m at q conf serial result w x old new → Concluded x z → ServedOnce m at q result v z old new
+pub served-once : {T : Type 0} (m : Meaning) (at : Address) (q : Request) (conf : Conf) (serial : ℕ) (result : Option How) (v w x z : View T) (begin : Placed) (old new : Option Past)
+    → Places v w (begin ∷ []) → begin.entry ≡ Begin v.number serial → BeganWith conf serial begin → Acted m at q conf serial result w x old new → Concluded x z → ServedOnce m at q result v z old new
 unfolding episode
-served-once m at q conf serial (Some h) v w x z found old new ends current one is a c =
-    let b = began v w conf serial found ends current is in
-    let xk : x.number ≡ v.number = a.places.number ∙ one.number in
-    let e = episode serial v w x z found conf a.work c one.number xk b in
+served-once m at q conf serial (Some h) v w x z begin old new one is b a c =
+    let e = episode serial v w x z begin conf a.work c (a.places.number ∙ one.number) is b in
     let here : EndsIn m w.number at q (outcome_of h) e.begin e.work e.finish a.what = a.is e.begin e.finish b c.stands in
     record {
-      own = first v serial found ∷ (a.work ++ c.finish ∷ c.block);
-      places = all_placed serial v w x z found a.work c one a.places;
+      own = begin ∷ (a.work ++ c.finish ∷ c.block);
+      places = all_placed serial v w x z begin a.work c one a.places;
       served = replied m v.number at q (outcome_of h) _ e a.what old new a.past
           (subst (λ (j : ℕ). EndsIn m j at q (outcome_of h) e.begin e.work e.finish a.what) one.number here);
     }
-served-once m at q conf serial None v w x z found old new ends current one is a c =
-    let b = began v w conf serial found ends current is in
-    let xk : x.number ≡ v.number = a.places.number ∙ one.number in
-    let e = episode serial v w x z found conf a.work c one.number xk b in
+served-once m at q conf serial None v w x z begin old new one is b a c =
+    let e = episode serial v w x z begin conf a.work c (a.places.number ∙ one.number) is b in
     let here : IsAgain m w.number at q e.begin e.work e.finish = a.is.0 e.begin e.finish b c.stands in
     let quiet : new ≡ old =
     a.past ∙ (ap (λ (s : Sent). option_map (with_connection (after_sending s)) old) a.is.1 ∙ sym (nothing-sent old)) in
     record {
-      own = first v serial found ∷ (a.work ++ c.finish ∷ c.block);
-      places = all_placed serial v w x z found a.work c one a.places;
+      own = begin ∷ (a.work ++ c.finish ∷ c.block);
+      places = all_placed serial v w x z begin a.work c one a.places;
       episode = e;
       again = subst (λ (j : ℕ). IsAgain m j at q e.begin e.work e.finish) one.number here;
       past = quiet;
     }
+
+-- a request that lacked the memory for the configuration under which it had begun
+pub served-lacking : {T : Type 0} (m : Meaning) (at : Address) (q : Request) (serial : ℕ) (v w z : View T) (found : List Signed) (told : Option Past)
+    → Turned v w found (Begin v.number serial ∷ []) → serial ≡ (state_at found).serial → Concluded w z → RequestServed m at q how.NoMemory v z told told
+served-lacking m at q serial v w z found told t current c =
+    let conf : Conf = conf_of (state_at found) (state_at found).serial in
+    served-once m at q conf serial (Some how.NoMemory) v w w z (record { before = found; entry = Begin v.number serial }) told told
+    (turned_places v w found (Begin v.number serial ∷ []) t) refl (record { conf_is = refl; serial_is = sym current })
+    (acted-quietly m at q conf serial how.NoMemory w told told t.grows.history (quiet-lacking m at q conf serial told)) c
 
 -- ---- once more
 
@@ -195,6 +179,13 @@ module _ {T : Type 0} (m : Meaning) (at : Address) (q : Request) where
     served = subst (λ (o : Option Outcome). RepliedWith m v.number at q o [] old old) (sym none) (record { again = []; agains = tt; own_is = refl; past = refl });
   }
 
+-- one entry in all is the last
+none-after : (xs : List Signed) (y : Signed) (zs : List Signed) (e : Entry) → entries (xs ++ y ∷ zs) ≡ e ∷ [] → zs ≡ []
+none-after [] y [] e is = refl
+none-after [] y (z ∷ zs) e is = absurd (let h : y.entry ∷ (z.entry ∷ entries zs) ≡ e ∷ [] = is in cc)
+none-after (x ∷ []) y zs e is = absurd (let h : x.entry ∷ (y.entry ∷ entries zs) ≡ e ∷ [] = is in cc)
+none-after (x ∷ (w ∷ xs)) y zs e is = absurd (let h : x.entry ∷ (w.entry ∷ entries (xs ++ y ∷ zs)) ≡ e ∷ [] = is in cc)
+
 -- ---- what a pass owes when a request begins
 
 module _ {T : Type 0} where
@@ -204,25 +195,39 @@ module _ {T : Type 0} where
   pub begun-owes : (v w : View T) (found : List Signed) (n : ℕ) → OwesNothing v → Turned v w found (Begin v.number n ∷ []) → w.duties ≡ v.duties → OwesTicket w n
   begun-owes v w found n free t same = (ap (λ (o : Owes). o.ticket) t.grows.owes, ap (λ (o : Owes). o.draft) t.grows.owes ∙ free.1, same ∙ free.2)
 
-  abbrev pub begun-by : {A B : Type 0} {g : _} (v w : View T) (found : List Signed) (t : Ticket A B g) → IsTicketOf w t → Turned v w found (Begin v.number t.serial ∷ []) → t.serial ≡ (state_at found).serial → IsBegun w t
-  begun-by v w found t is u current =
-      let number : w.number ≡ v.number = (turned_places v w found (Begin v.number t.serial ∷ []) u).number in
+  -- it goes on to owe its ticket while nothing is made
+  pub fetched-owes : (v w : View T) (found : List Signed) (n : ℕ) → OwesTicket v n → Turned v w found [] → w.duties ≡ v.duties → OwesTicket w n
+  fetched-owes v w found n owes t same = (ap (λ (o : Owes). o.ticket) t.grows.owes ∙ owes.0, ap (λ (o : Owes). o.draft) t.grows.owes ∙ owes.1, same ∙ owes.2)
+
+  -- a request that has begun with this ticket runs under it
+  pub begun-by : {A B : Type 0} {g : _} (v w : View T) (t : Ticket A B g) (begin : Placed) → HasBegun v w t begin → IsTicketOf w t → IsBegun w t
+  begun-by v w t begin h is =
+      let k = v.number in
+      let number : w.number ≡ k = h.places.number in
+      let last : Signed = signed k begin.entry in
+      let since : List Signed = h.places.last.0 in
+      let whole : begin.before ++ last ∷ since ≡ w.seen = sym (append_assoc begin.before (last ∷ []) since) ∙ h.places.last.1 in
+      let late : h.places.seen.0 ≡ h.seen.0 ++ last ∷ since =
+      append_cancel_left v.seen h.places.seen.0 (h.seen.0 ++ last ∷ since)
+      (h.places.seen.1 ∙ (sym whole ∙ (ap (λ (l : List Signed). l ++ last ∷ since) (sym h.seen.1) ∙ append_assoc v.seen h.seen.0 (last ∷ since)))) in
+      let alone : mine k since ≡ [] =
+      none-after (mine k h.seen.0) last (mine k since) begin.entry
+      (ap entries (sym (mine-append k h.seen.0 (last ∷ since) ∙ ap (λ (b : Bool). mine k h.seen.0 ++ cond b (last ∷ mine k since) (mine k since)) (eq-eqb k k refl)))
+      ∙ (ap (λ (l : List Signed). entries (mine k l)) (sym late) ∙ made-since v w (begin ∷ []) h.places)) in
       record {
-        history = u.grows.history;
+        history = h.places.history;
         ticket = is;
-        begin = first v t.serial found;
-        begins = ap (λ (k : ℕ). Begin k t.serial) (sym number);
-        with_ticket = began v w (conf_in t.share) t.serial found u.is current is.has.conf;
-        since = [];
-        stands = u.is ∙ ap (λ (k : ℕ). found ++ signed k (Begin v.number t.serial) ∷ []) (sym number);
-        alone = refl;
+        begin = begin;
+        begins = h.begins ∙ ap (λ (j : ℕ). Begin j t.serial) (sym number);
+        with_ticket = h.with_ticket;
+        since = since;
+        stands = sym whole ∙ ap (λ (j : ℕ). begin.before ++ signed j begin.entry ∷ since) (sym number);
+        alone = subst (λ (j : ℕ). mine j since ≡ []) (sym number) alone;
       }
 
   -- what was begun was not worn
-  pub not-worn : (m : Meaning) (at : Address) (q : Request) (conf : Conf) (serial : ℕ) (result : Option How) (v w x z : View T) (found : List Signed) (old new : Option Past)
-      → w.seen ≡ found ++ signed v.number (Begin v.number serial) ∷ [] → serial ≡ (state_at found).serial → conf ≡ conf_of (state_at w.seen) serial
-      → Acted m at q conf serial result w x old new → Concluded x z → result ≡ Some how.Worn → ⊥
-  not-worn m at q conf serial result v w x z found old new ends current is a c same =
-      let b = began v w conf serial found ends current is in
+  pub not-worn : (m : Meaning) (at : Address) (q : Request) (conf : Conf) (serial : ℕ) (result : Option How) (w x z : View T) (begin : Placed) (old new : Option Past)
+      → BeganWith conf serial begin → Acted m at q conf serial result w x old new → Concluded x z → result ≡ Some how.Worn → ⊥
+  not-worn m at q conf serial result w x z begin old new b a c same =
       let worn : Acted m at q conf serial (Some how.Worn) w x old new = subst (λ (r : Option How). Acted m at q conf serial r w x old new) same a in
-      worn.is (first v serial found) c.finish b c.stands
+      worn.is begin c.finish b c.stands

@@ -1,6 +1,6 @@
 -- A request is ended: what its turn has found, and what follows.
-use Rattle.std.proofs.Common.{◌≡◌, ◌<◌, ◌≤◌, ◌+◌, ◌∙◌, ◌++◌, ℕ, zero, suc, Bool, true, false, cond, ◌==◌, nat_lt, List, [], ◌∷◌, length, Option, Some, None, refl, ap, sym, subst, eq-eqb, arith}
-use Rattle.std.specs.Prelude.{◌&&◌, ◌||◌}
+use Rattle.std.proofs.Common.{◌≡◌, ◌<◌, ◌≤◌, ◌+◌, ◌∙◌, ◌++◌, ℕ, zero, suc, Bool, true, false, cond, List, [], ◌∷◌, length, Option, Some, None, refl, ap, sym, eq-eqb, arith}
+use Rattle.std.specs.Prelude.{◌||◌}
 use Rattle.std.proofs.lemmas.List.{append_assoc}
 use mathlib.Core.List.{IsPrefix}
 use Rattle.cd_legal.specs.declared.entry.Entry.TheVariants.{Finish}
@@ -16,6 +16,7 @@ use Rattle.cd_legal.specs.Signing.{IsHistory}
 use Rattle.cd_legal.proofs.Logs.{history-front}
 use Rattle.cd_legal.proofs.Serials.{published-count}
 use Rattle.cd_gate.specs.declared.view.View.{View}
+use Rattle.cd_gate.specs.Duties.{without_number}
 use Rattle.cd_gate.specs.Growing.{Places, owes_after}
 use Rattle.cd_gate.specs.Words.{owed}
 use Rattle.cd_gate.proofs.Grown.{places_both}
@@ -23,7 +24,6 @@ use Rattle.cd_hall.specs.Dues.{DueThen}
 use Rattle.cd_hall.specs.Spread.{Spread}
 use Rattle.cd_hall.specs.Turned.{Turned}
 use Rattle.cd_hall.proofs.Spreading.{spread_history}
-use Rattle.cd_hall.specs.Publishing.{without_number}
 use Rattle.cd_serve.specs.Requests.{FinishesAfter, Concluded}
 use Rattle.cd_serve.proofs.Due.{due-then, due-less}
 use Rattle.cd_serve.proofs.Retirings.{block-stays}
@@ -107,8 +107,8 @@ pub retired_draft : {T : Type 0} (v w : View T) (s : State) (n : ℕ) → owed w
 retired_draft v w s n is = ap (λ (o : Owes). o.draft) (is ∙ block_owes (owed v) s n)
 
 -- the one duty that came may be done, and none is left then
-pub only_duty : (ds : List ℕ) (n : ℕ) → ds ≡ [] ++ n ∷ [] → has_number n ds ≡ true
+pub only_duty : (ds : List ℕ) (n : ℕ) → ds ≡ n ∷ [] → has_number n ds ≡ true
 only_duty ds n is = ap (has_number n) is ∙ ap (λ (b : Bool). b || false) (eq-eqb n n refl)
 
-pub none_left : (ds : List ℕ) (n : ℕ) → ds ≡ [] ++ n ∷ [] → without_number n ds ≡ []
+pub none_left : (ds : List ℕ) (n : ℕ) → ds ≡ n ∷ [] → without_number n ds ≡ []
 none_left ds n is = ap (without_number n) is ∙ ap (λ (b : Bool). cond b [] (n ∷ [])) (eq-eqb n n refl)

@@ -16,8 +16,8 @@ use Rattle.cd_wire.proofs.RequestLaws.{Splits-append, Splits-snoc}
 use Rattle.cd_legal.specs.declared.entry.Signed.{Signed}
 use Rattle.cd_legal.specs.Placed.{Placed, through}
 use Rattle.cd_session.specs.declared.cause.Cause.{Cause}
-use Rattle.cd_serve.specs.Meanings.{Meaning, Sent, only_bytes, kept_after, both_sent, nothing_sent, after_sending}
-use Rattle.cd_serve.specs.Episodes.{Outcome, Ends}
+use Rattle.cd_serve.specs.Meanings.{Meaning, Sent, only_bytes, both_sent}
+use Rattle.cd_serve.specs.Episodes.{Outcome}
 use Rattle.cd_serve.specs.Replies.{Reply, IsReply, AreReplies, requests, own_of, owns, all_sent, is_whole, answered_of}
 use Rattle.cd_serve.specs.Connections.{Way, AllGoOn, EndsBy}
 use Rattle.cd_serve.specs.Lanes.{finds_halt}

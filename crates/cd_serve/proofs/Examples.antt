@@ -91,9 +91,9 @@ of_nothing = (refl, refl)
 
 -- ---- room for a configuration
 
-of_room : (no_room opening_state ≡ None) × (no_room (record opening_state { serial = 254 }) ≡ None) × (no_room (record opening_state { serial = 255 }) ≡ Some (fault.StillInUse 0)) × (no_room (record opening_state { serial = 255; retired = 0 ∷ [] }) ≡ None)
-    × (no_room (record opening_state { serial = 300; retired = 44 ∷ [] }) ≡ Some (fault.StillInUse 45)) × (no_room (record opening_state { serial = LAST_SERIAL; retired = 16776959 ∷ [] }) ≡ Some fault.NoSerialLeft)
-    × (no_room (record opening_state { serial = LAST_SERIAL }) ≡ Some (fault.StillInUse 16776959))
+of_room : (no_room opening_state ≡ None) × (no_room (record opening_state { serial = 1022 }) ≡ None) × (no_room (record opening_state { serial = 1023 }) ≡ Some (fault.StillInUse 0)) × (no_room (record opening_state { serial = 1023; retired = 0 ∷ [] }) ≡ None)
+    × (no_room (record opening_state { serial = 1100; retired = 76 ∷ [] }) ≡ Some (fault.StillInUse 77)) × (no_room (record opening_state { serial = LAST_SERIAL; retired = 16776191 ∷ [] }) ≡ Some fault.NoSerialLeft)
+    × (no_room (record opening_state { serial = LAST_SERIAL }) ≡ Some (fault.StillInUse 16776191))
 of_room = (refl, refl, refl, refl, refl, refl, refl)
 
 -- ---- halts

@@ -17,12 +17,12 @@ use Rattle.cd_legal.specs.State.{draft_of, has_number, open_at}
 use Rattle.cd_legal.proofs.Logs.{prefix_trans, history-front}
 use Rattle.cd_legal.proofs.Serials.{published-count, count_running}
 use Rattle.cd_gate.specs.declared.view.View.{View}
+use Rattle.cd_gate.specs.Duties.{without_number}
 use Rattle.cd_gate.specs.Growing.{owes_after}
 use Rattle.cd_gate.specs.Words.{owed}
 use Rattle.cd_gate.proofs.Grown.{places_both}
 use Rattle.cd_hall.specs.declared.duty.Duty.{Duty}
 use Rattle.cd_hall.specs.Calls.{duties_in}
-use Rattle.cd_hall.specs.Publishing.{without_number}
 use Rattle.cd_hall.specs.Dues.{DueLater}
 use Rattle.cd_hall.specs.Spread.{Spread, Spreads}
 use Rattle.cd_hall.proofs.Spreading.{spread_front, spread_history}
@@ -72,7 +72,7 @@ module _ {T : Type 0} where
       )
 
   pub halts-and-retires : (v w x : View T) (found again : List Signed) (n : ℕ) → Halting v w found → (state_at found).halted ≡ false → n ≡ (state_at found).serial → Spread w x again (block_of (state_at again) n)
-      → v.duties ≡ [] → w.duties ≡ v.duties ++ n ∷ [] → x.duties ≡ without_number n w.duties
+      → v.duties ≡ [] → w.duties ≡ n ∷ v.duties → x.duties ≡ without_number n w.duties
       → (work : List Placed) × Works v x work × IsHalting work
   halts-and-retires v w x found again n t running is u none had left =
       let s = state_at found in
@@ -83,7 +83,7 @@ module _ {T : Type 0} where
       let history : IsHistory again = spread_history w x again (block_of (state_at again) n) u in
       let before : IsHistory found = history-front found again front history in
       let low : n ≤ length s.published = omega (arith, is, count_running s running (published-count (entries found) before.is_legal)) in
-      let duties : x.duties ≡ [] = left ∙ (ap (λ (l : List ℕ). without_number n l) (had ∙ ap (λ (l : List ℕ). l ++ n ∷ []) none) ∙ without-only n (n == n) (eq-eqb n n refl)) in (
+      let duties : x.duties ≡ [] = left ∙ (ap (λ (l : List ℕ). without_number n l) (had ∙ ap (λ (l : List ℕ). n ∷ l) none) ∙ without-only n (n == n) (eq-eqb n n refl)) in (
         t.added ++ u.added,
         record {
           places = places_both v w x t.added u.added t.places u.places;
@@ -103,11 +103,11 @@ module _ {T : Type 0} where
 
   -- by the duty that came, if one did
   abbrev pub HaltedBy : View T → View T → Option Duty → Type 0
-  HaltedBy v w d = (found : List Signed) × Halting v w found × ((state_at found).halted ≡ false) × DueLater w.seen (state_at found).serial (duties_in d) × (w.duties ≡ v.duties ++ duties_in d)
+  HaltedBy v w d = (found : List Signed) × Halting v w found × ((state_at found).halted ≡ false) × DueLater w.seen (state_at found).serial (duties_in d) × (w.duties ≡ duties_in d ++ v.duties)
 
   pub has-duty : (v w : View T) (d : Option Duty) (duty : Duty) → d ≡ Some duty → v.duties ≡ [] → HaltedBy v w d → has_number duty.serial w.duties ≡ true
   has-duty v w d duty is none h =
-      let all : w.duties ≡ duty.serial ∷ [] = h.4 ∙ (ap (λ (l : List ℕ). l ++ duties_in d) none ∙ ap duties_in is) in
+      let all : w.duties ≡ duty.serial ∷ [] = h.4 ∙ (ap (λ (o : Option Duty). duties_in o ++ v.duties) is ∙ ap (λ (l : List ℕ). duty.serial ∷ l) none) in
       ap (λ (l : List ℕ). has_number duty.serial l) all ∙ ap (λ (b : Bool). b || false) (eq-eqb duty.serial duty.serial refl)
 
   pub halts-with : (v w x : View T) (d : Option Duty) (duty : Duty) → d ≡ Some duty → v.duties ≡ [] → HaltedBy v w d → Spreads w x (λ s. block_of s duty.serial) → x.duties ≡ without_number duty.serial w.duties
@@ -115,10 +115,10 @@ module _ {T : Type 0} where
   halts-with v w x d duty is none h r left =
       let n : ℕ = (state_at h.0).serial in
       let same : duty.serial ∷ [] ≡ cond (open_at n (state_at h.3.later).tickets == 0) (n ∷ []) [] = ap duties_in (sym is) ∙ h.3.due in
-      halts-and-retires v w x h.0 r.0 duty.serial h.1 h.2 (due-is (open_at n (state_at h.3.later).tickets == 0) duty.serial n same) r.1 none (h.4 ∙ ap (λ (o : Option Duty). v.duties ++ duties_in o) is) left
+      halts-and-retires v w x h.0 r.0 duty.serial h.1 h.2 (due-is (open_at n (state_at h.3.later).tickets == 0) duty.serial n same) r.1 none (h.4 ∙ ap (λ (o : Option Duty). duties_in o ++ v.duties) is) left
 
   pub halts-without : (v w : View T) (d : Option Duty) → d ≡ None → HaltedBy v w d → (work : List Placed) × Works v w work × IsHalting work
-  halts-without v w d is h = halts v w h.0 h.1 (h.4 ∙ (ap (λ (o : Option Duty). v.duties ++ duties_in o) is ∙ append-nil v.duties))
+  halts-without v w d is h = halts v w h.0 h.1 (h.4 ∙ ap (λ (o : Option Duty). duties_in o ++ v.duties) is)
 
   pub draft-halting : (v w : View T) (found : List Signed) → Halting v w found → w.draft ≡ v.draft
   draft-halting v w found t = ap (λ (o : Owes). o.draft) t.grows.owes ∙ ap (λ (o : Owes). o.draft) (stopped-owe (owed v) (state_at found) (state_at found).serial)

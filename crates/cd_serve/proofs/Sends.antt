@@ -114,7 +114,6 @@ sends-after keeps how.NoMemory q r all s made sends = absurd (made refl)
 sends-after keeps how.Dropped q r all s made sends = sends
 sends-after keeps how.Halted q r all s made sends = sends
 sends-after keeps how.Worn q r all s made sends = sends
-sends-after keeps how.Unbegun q r all s made sends = sends
 
 -- an answer that is sent after these were kept
 pub sent-after : (keeps : List KeepRecord) (h : How) (q : Request) (r : Answer) (all : List Logged) (old then new : Option Past) → then ≡ option_map (with_connection (after_sending (only_keeps keeps))) old → ¬ (h ≡ how.NoMemory) → IsSent h q r all [] then new
@@ -142,4 +141,3 @@ module _ (m : Meaning) (k : ℕ) (at : Address) (q : Request) where
   ends-sent kind begin work finish r all keeps how.Dropped s a sends made = absurd sends
   ends-sent kind begin work finish r all keeps how.Halted s a sends made = absurd sends
   ends-sent kind begin work finish r all keeps how.Worn s a sends made = absurd sends
-  ends-sent kind begin work finish r all keeps how.Unbegun s a sends made = absurd sends

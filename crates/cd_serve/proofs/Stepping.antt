@@ -34,7 +34,6 @@ use Rattle.cd_serve.specs.Lanes.{finds_halt}
 use Rattle.cd_serve.specs.Serving.{Replied, NotBegun, ConnectionSoFar, CausedBy}
 use Rattle.cd_serve.specs.Stepping.{HasPlaced, GoesOn, IsEnded, Steps}
 use Rattle.cd_serve.proofs.Connecting.{connection-starts, connection-takes, connection-ended, connection-replies, connection-ends, connection-ends-quietly, go-on-more}
-use Rattle.cd_serve.proofs.Told.{nothing-put}
 
 -- the last of all is the last of the last
 through_last : (k : ℕ) (own : List Placed) (q : Placed) (more : List Placed) → through k (own ++ q ∷ more) ≡ through k (q ∷ more)
@@ -275,6 +274,3 @@ module _ {T : Type 0} (m : Meaning) (at : Address) where
 
         pub over-wearing : (part : List ℕ) (put : Option Past) → MAX_BEGINS ≤ begins_now (entries x.seen) → IsProperPrefix part (refusal_bytes 503) → put ≡ option_map (after_put part) then → IsEnded m at (over_with cause.Failed n false) v x first put
         over-wearing part put full is told = over-so part put cause.Failed (Way.interrupted Interruption.wearing) told (λ before front. (g.none_closes, further, worn full before front, is)) refl
-
-        pub over-unbegun : IsEnded m at (over_with cause.Lacking n false) v x first then
-        over-unbegun = over-so [] then cause.Lacking (Way.interrupted Interruption.beginning) (nothing-put then) (λ before front. (g.none_closes, further, refl)) (refl, refl)

@@ -1,5 +1,5 @@
 -- What is told of a connection, one call after another.
-use Rattle.std.proofs.Common.{◌≡◌, ◌∙◌, ◌+◌, List, [], ◌∷◌, ◌++◌, ◌||◌, ℕ, Bool, true, false, length, Option, option_map, refl, ap, sym, arith, Some, None}
+use Rattle.std.proofs.Common.{◌≡◌, ◌∙◌, ◌+◌, List, [], ◌∷◌, ◌++◌, ◌||◌, ℕ, Bool, true, false, length, Option, option_map, refl, ap, sym, arith}
 use Rattle.std.proofs.lemmas.List.{append_assoc, append-nil, length-append}
 use Rattle.cd_outside.specs.declared.past.Connection.{Connection}
 use Rattle.cd_outside.specs.declared.past.KeepRecord.{KeepRecord}

@@ -6,7 +6,7 @@ use mathlib.Core.List.{IsPrefix}
 use Rattle.cd_outside.specs.declared.key.Key.{Key}
 use Rattle.cd_tree.specs.declared.tree.Tree.{Tree}
 use Rattle.cd_wire.specs.declared.request.Request.{Request}
-use Rattle.cd_legal.specs.declared.limits.TheConstants.{MAX_DRAFTS, MAX_UNRETIRED, LAST_SERIAL}
+use Rattle.cd_legal.specs.declared.limits.TheConstants.{MAX_DRAFTS, LAST_SERIAL, MAX_UNRETIRED}
 use Rattle.cd_legal.specs.declared.entry.Change.{Change}
 use Rattle.cd_legal.specs.declared.entry.Change.TheVariants as change
 use Rattle.cd_legal.specs.declared.entry.Entry.{Entry}

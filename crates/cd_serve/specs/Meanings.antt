@@ -1,6 +1,6 @@
 -- Part of the main theorem.
 -- What configurations mean to those who serve requests under them.
-use Rattle.std.specs.Prelude.{◌≡◌, ℕ, ◌+◌, ◌⊎◌, ◌||◌, Bool, List, [], ◌++◌, length, map, Result, ◌<◌, if◌then◌else◌, ◌∷◌, take}
+use Rattle.std.specs.Prelude.{◌≡◌, ℕ, ◌+◌, ◌⊎◌, ◌||◌, Bool, List, [], ◌++◌, length, map, Result, if◌then◌else◌, ◌∷◌}
 use Rattle.cd_outside.specs.declared.address.Address.{Address}
 use Rattle.cd_outside.specs.declared.past.Connection.{Connection}
 use Rattle.cd_outside.specs.declared.past.KeepRecord.{KeepRecord}

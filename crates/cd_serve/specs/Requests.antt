@@ -51,7 +51,6 @@ outcome_of how.NoMemory = Some Outcome.lacking
 outcome_of how.Dropped = Some Outcome.dropped
 outcome_of how.Halted = Some Outcome.halted
 outcome_of how.Worn = None
-outcome_of how.Unbegun = None
 
 -- the lane failed
 abbrev pub is_fault : How → Bool
@@ -62,7 +61,6 @@ is_fault how.NoMemory = false
 is_fault how.Dropped = false
 is_fault how.Halted = false
 is_fault how.Worn = false
-is_fault how.Unbegun = false
 
 -- where the request is to be decided again it did not
 abbrev pub is_fault_in : Option How → Bool
@@ -88,7 +86,6 @@ Sends how.NoMemory q r all keeps s = s ≡ nothing_sent
 Sends how.Dropped q r all keeps s = ⊥
 Sends how.Halted q r all keeps s = ⊥
 Sends how.Worn q r all keeps s = ⊥
-Sends how.Unbegun q r all keeps s = ⊥
 
 pub record IsSent (h : How) (q : Request) (r : Answer) (all : List Logged) (keeps : List KeepRecord) (old new : Option Past) : Type 0 where
   pub what : Sent

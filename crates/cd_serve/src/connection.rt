@@ -4,6 +4,7 @@ ghost use Rattle.cd_outside.specs.declared.past.Past.{Past};
 ghost use Rattle.cd_legal.specs.Legal.{state_at};
 ghost use Rattle.cd_gate.specs.declared.view.View.{View};
 ghost use Rattle.cd_gate.specs.Passes.{view};
+ghost use Rattle.cd_hall.specs.Caches.{IsCacheOf};
 ghost use Rattle.cd_hall.specs.Calls.{IsPassOf};
 ghost use Rattle.cd_serve.specs.Requests.{MayServe, OwesNothing};
 ghost use Rattle.cd_serve.specs.Stepping.{EndsConnection, GoesOn, Steps, RisesBy, HaltedBy};
@@ -12,7 +13,7 @@ use crate::request::serve_request;
 use crate::session::after_request;
 use cd_admin::Administered;
 use cd_gate::Pass;
-use cd_hall::Hall;
+use cd_hall::{Cache, Hall};
 use cd_life::Board;
 use cd_outside::{Address, Fixtures, Lane};
 use cd_session::{Cause, ConnectionEnd, Session, read_more, refuse};
@@ -27,16 +28,19 @@ pub(crate) fn serve_connection<R: Wait, M: Administered, F: Fixtures, L: Lane>(
     alloc: Global,
     hall: &Hall<M, F>,
     pass: &mut Pass<Board<M, F>>,
+    cache: &mut Cache<M>,
     lane: &mut L,
     at: &Address,
 ) -> ConnectionEnd
     requires may { MayServe hall.now pass.old (L.busy lane.old) }
+    requires cache { IsCacheOf (view pass.old) cache.old }
     ensures pass { IsPassOf hall.now pass.new }
+    ensures cache { IsCacheOf (view pass.new) cache.new }
     ensures free { OwesNothing (view pass.new) }
     ensures busy { L.busy lane.new ≡ false }
     ensures ends { EndsConnection (record { acts = M.acts; plan = M.plan }) at.now result (view pass.old) (view pass.new) (L.past lane.old) (L.past lane.new) (L.faults lane.old) (L.faults lane.new) }
 {
-    let end = serve_requests(rt, alloc, hall, pass, lane, at);
+    let end = serve_requests(rt, alloc, hall, pass, cache, lane, at);
     lane.end();
     end
 }
@@ -46,16 +50,19 @@ fn serve_requests<R: Wait, M: Administered, F: Fixtures, L: Lane>(
     alloc: Global,
     hall: &Hall<M, F>,
     pass: &mut Pass<Board<M, F>>,
+    cache: &mut Cache<M>,
     lane: &mut L,
     at: &Address,
 ) -> ConnectionEnd
     requires may { MayServe hall.now pass.old (L.busy lane.old) }
+    requires cache { IsCacheOf (view pass.old) cache.old }
     ensures may { MayServe hall.now pass.new (L.busy lane.new) }
+    ensures cache { IsCacheOf (view pass.new) cache.new }
     ensures ends { EndsConnection (record { acts = M.acts; plan = M.plan }) at.now result (view pass.old) (view pass.new) (L.past lane.old) (L.past lane.new) (L.faults lane.old) (L.faults lane.new) }
 {
     let mut session = Session::new(alloc);
     for _ in rt.forever() {
-        match serve_next(rt, alloc, hall, pass, lane, at, &mut session) {
+        match serve_next(rt, alloc, hall, pass, cache, lane, at, &mut session) {
             Some(end) => return end,
             None => {}
         }
@@ -69,12 +76,15 @@ fn serve_next<R: Wait, M: Administered, F: Fixtures, L: Lane>(
     alloc: Global,
     hall: &Hall<M, F>,
     pass: &mut Pass<Board<M, F>>,
+    cache: &mut Cache<M>,
     lane: &mut L,
     at: &Address,
     session: &mut Session,
 ) -> Option<ConnectionEnd>
     requires may { MayServe hall.now pass.old (L.busy lane.old) }
+    requires cache { IsCacheOf (view pass.old) cache.old }
     ensures may { MayServe hall.now pass.new (L.busy lane.new) }
+    ensures cache { IsCacheOf (view pass.new) cache.new }
     ensures steps { (v : View _) (first : Option Past)
         → GoesOn (record { acts = M.acts; plan = M.plan }) at.now session.old.intake session.old.ended session.old.answered v (view pass.old) first (L.past lane.old)
         → Steps (record { acts = M.acts; plan = M.plan }) at.now result session.new.intake session.new.ended session.new.answered v (view pass.new) first (L.past lane.new) }
@@ -83,7 +93,7 @@ fn serve_next<R: Wait, M: Administered, F: Fixtures, L: Lane>(
 {
     match session.intake.next(session.ended) {
         Ok(Next::Request(request)) => {
-            let how = serve_request(rt, alloc, hall, pass, lane, at, &request);
+            let how = serve_request(rt, alloc, hall, pass, cache, lane, at, &request);
             after_request::<Board<M, F>, L>(session, lane, how)
         }
         Ok(Next::More) => read_more(session, lane),

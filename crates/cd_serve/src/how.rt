@@ -7,7 +7,8 @@ pub enum How {
     Unlogged,
     /// The lane failed before the whole answer was sent.
     Failed,
-    /// Out of memory for its answer, of which nothing was sent. No change was made for it.
+    /// Out of memory for its answer, of which nothing was sent, or for the configuration under which it began. No change was made
+    /// for it.
     NoMemory,
     /// Nobody answers at the address.
     Dropped,
@@ -15,6 +16,4 @@ pub enum How {
     Halted,
     /// It was not begun: as many requests began under the current serial as may.
     Worn,
-    /// It was not begun: out of memory.
-    Unbegun,
 }

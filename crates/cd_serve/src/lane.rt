@@ -10,6 +10,7 @@ ghost use Rattle.cd_legal.specs.Placed.{placed};
 ghost use Rattle.cd_legal.specs.Signing.{IsHistory};
 ghost use Rattle.cd_gate.specs.declared.view.View.{View};
 ghost use Rattle.cd_gate.specs.Passes.{view};
+ghost use Rattle.cd_hall.specs.Caches.{IsCacheOf};
 ghost use Rattle.cd_hall.specs.Calls.{IsPassOf};
 ghost use Rattle.cd_session.specs.declared.lane_end.LaneHow.TheVariants as how;
 ghost use Rattle.cd_serve.specs.Requests.{OwesNothing};
@@ -18,7 +19,7 @@ ghost use Rattle.cd_serve.specs.Stepping.{LaneServed, LaneGoesOn, LastCame};
 use crate::connection::serve_connection;
 use cd_admin::Administered;
 use cd_gate::Pass;
-use cd_hall::Hall;
+use cd_hall::{Cache, Hall};
 use cd_life::Board;
 use cd_outside::{Accepted, Address, Fixtures, Lane};
 use cd_session::{Counts, LaneEnd, LaneHow};
@@ -26,7 +27,7 @@ use std::alloc::Global;
 use std::sync::Wait;
 
 /// Serves the connections of the lane until no more comes, until it fails to accept, or until the host has halted. The pass owes
-/// nothing, before and after.
+/// nothing, before and after. The configuration of each request is kept for the next one.
 pub fn serve_lane<R: Wait, M: Administered, F: Fixtures, L: Lane>(
     rt: &R,
     alloc: Global,
@@ -47,15 +48,23 @@ pub fn serve_lane<R: Wait, M: Administered, F: Fixtures, L: Lane>(
     ensures halted { result.how ≡ how.Halted → (state_at (view pass.new).seen).halted ≡ true }
 {
     let mut counts = Counts::new();
+    let mut cache = Cache::empty();
     for _ in rt.forever() {
         match lane.accept() {
             Accepted::Connection(at) => {
-                if serve_accepted(rt, alloc, hall, pass, lane, &at, &mut counts) {
+                if serve_accepted(rt, alloc, hall, pass, &mut cache, lane, &at, &mut counts) {
+                    cache.end();
                     return counts.end(LaneHow::Halted);
                 }
             }
-            Accepted::Ended => return counts.end(LaneHow::Ended),
-            Accepted::Failed => return counts.end(LaneHow::AcceptFault),
+            Accepted::Ended => {
+                cache.end();
+                return counts.end(LaneHow::Ended);
+            }
+            Accepted::Failed => {
+                cache.end();
+                return counts.end(LaneHow::AcceptFault);
+            }
         }
     }
     unreachable!()
@@ -67,14 +76,17 @@ fn serve_accepted<R: Wait, M: Administered, F: Fixtures, L: Lane>(
     alloc: Global,
     hall: &Hall<M, F>,
     pass: &mut Pass<Board<M, F>>,
+    cache: &mut Cache<M>,
     lane: &mut L,
     at: &Address,
     counts: &mut Counts,
 ) -> bool
     requires pass { IsPassOf hall.now pass.old }
     requires free { OwesNothing (view pass.old) }
+    requires cache { IsCacheOf (view pass.old) cache.old }
     requires busy { L.busy lane.old ≡ true }
     ensures pass { IsPassOf hall.now pass.new }
+    ensures cache { IsCacheOf (view pass.new) cache.new }
     ensures free { OwesNothing (view pass.new) }
     ensures busy { L.busy lane.new ≡ false }
     ensures goes { (v : View _) (old then : Option Past) (first faults : ℕ)
@@ -85,7 +97,7 @@ fn serve_accepted<R: Wait, M: Administered, F: Fixtures, L: Lane>(
     ensures later { L.faults lane.old ≤ L.faults lane.new }
     ensures halted { result ≡ true → (state_at (view pass.new).seen).halted ≡ true }
 {
-    let end = serve_connection(rt, alloc, hall, pass, lane, at);
+    let end = serve_connection(rt, alloc, hall, pass, cache, lane, at);
     counts.add(&end);
     end.halted
 }

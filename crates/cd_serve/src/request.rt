@@ -5,15 +5,17 @@ ghost use Rattle.cd_legal.specs.Begins.{begins_now};
 ghost use Rattle.cd_legal.specs.Entry.{entries};
 ghost use Rattle.cd_legal.specs.Legal.{state_at};
 ghost use Rattle.cd_gate.specs.Passes.{view};
+ghost use Rattle.cd_hall.specs.Caches.{IsCacheOf};
 ghost use Rattle.cd_serve.specs.declared.how.How.TheVariants as how;
 ghost use Rattle.cd_serve.specs.Requests.{KeepsConnection, MayServe, RequestServed, ServedOnce, is_fault_in};
 
 use crate::acting::act;
+use crate::beginning::begin;
 use crate::concluding::conclude;
 use crate::how::How;
 use cd_admin::Administered;
 use cd_gate::Pass;
-use cd_hall::{BeginFault, Hall, turns_place_their_entries};
+use cd_hall::{Cache, Hall};
 use cd_life::Board;
 use cd_outside::{Address, Fixtures, Lane};
 use cd_wire::Request;
@@ -29,19 +31,22 @@ pub(crate) fn serve_request<R: Wait, M: Administered, F: Fixtures, L: Lane>(
     alloc: Global,
     hall: &Hall<M, F>,
     pass: &mut Pass<Board<M, F>>,
+    cache: &mut Cache<M>,
     lane: &mut L,
     at: &Address,
     request: &Request,
 ) -> How
     requires may { MayServe hall.now pass.old (L.busy lane.old) }
+    requires cache { IsCacheOf (view pass.old) cache.old }
     ensures may { MayServe hall.now pass.new (L.busy lane.new) }
+    ensures cache { IsCacheOf (view pass.new) cache.new }
     ensures served { RequestServed (record { acts = M.acts; plan = M.plan }) at.now request.now result (view pass.old) (view pass.new) (L.past lane.old) (L.past lane.new) }
     ensures lane { KeepsConnection (is_fault_in (Some result) ≡ true) (L.busy lane.new) (L.faults lane.old) (L.faults lane.new) }
     ensures halted { result ≡ how.Halted → (state_at (view pass.new).seen).halted ≡ true }
     ensures worn { result ≡ how.Worn → MAX_BEGINS ≤ begins_now (entries (view pass.new).seen) }
 {
     for _ in rt.forever() {
-        match serve_once(rt, alloc, hall, pass, lane, at, request) {
+        match serve_once(rt, alloc, hall, pass, cache, lane, at, request) {
             Some(how) => return how,
             None => {}
         }
@@ -55,24 +60,25 @@ fn serve_once<R: Wait, M: Administered, F: Fixtures, L: Lane>(
     alloc: Global,
     hall: &Hall<M, F>,
     pass: &mut Pass<Board<M, F>>,
+    cache: &mut Cache<M>,
     lane: &mut L,
     at: &Address,
     request: &Request,
 ) -> Option<How>
     requires may { MayServe hall.now pass.old (L.busy lane.old) }
+    requires cache { IsCacheOf (view pass.old) cache.old }
     ensures may { MayServe hall.now pass.new (L.busy lane.new) }
+    ensures cache { IsCacheOf (view pass.new) cache.new }
     ensures served { ServedOnce (record { acts = M.acts; plan = M.plan }) at.now request.now result (view pass.old) (view pass.new) (L.past lane.old) (L.past lane.new) }
     ensures lane { KeepsConnection (is_fault_in result ≡ true) (L.busy lane.new) (L.faults lane.old) (L.faults lane.new) }
     ensures halted { result ≡ Some how.Halted → (state_at (view pass.new).seen).halted ≡ true }
     ensures worn { result ≡ Some how.Worn → MAX_BEGINS ≤ begins_now (entries (view pass.new).seen) }
 {
-    turns_place_their_entries::<Board<M, F>>();
-    let ticket = match hall.begin(rt, pass) {
+    let ticket = match begin(rt, hall, pass, cache) {
         Ok(ticket) => ticket,
-        Err(BeginFault::Worn) => return Some(How::Worn),
-        Err(BeginFault::NoMemory) => return Some(How::Unbegun),
+        Err(how) => return Some(how),
     };
     let how = act(rt, alloc, hall, pass, &ticket, lane, at, request);
-    conclude(rt, hall, ticket, pass);
+    conclude(rt, hall, ticket, pass, cache);
     how
 }

@@ -59,6 +59,5 @@ pub(crate) fn after_request<T: Stands, L: Lane>(
             Given::All => Some(session.end(Cause::Whole)),
             Given::Failed => Some(session.end(Cause::Failed)),
         },
-        How::Unbegun => Some(session.end(Cause::Lacking)),
     }
 }

@@ -5,12 +5,12 @@ use Rattle.cd_legal.specs.Owing.{Owes}
 use Rattle.cd_legal.specs.Placed.{Placed}
 use Rattle.cd_gate.specs.declared.pass.Pass.{Pass}
 use Rattle.cd_gate.specs.declared.view.View.{View}
+use Rattle.cd_gate.specs.Duties.{without_number}
 use Rattle.cd_gate.specs.Growing.{owes_after, Grows}
 use Rattle.cd_gate.specs.Passes.{view}
 use Rattle.cd_life.specs.declared.board.Board.{Board}
 use Rattle.cd_hall.specs.declared.hall.Hall.{Hall}
 use Rattle.cd_hall.specs.Calls.{IsPassOf}
-use Rattle.cd_hall.specs.Publishing.{without_number}
 use Rattle.cd_serve.specs.Attempts.{Works}
 use Rattle.cd_serve_cases.specs.Passes.{Has}
 

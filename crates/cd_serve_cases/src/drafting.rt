@@ -51,7 +51,8 @@ fn publish_first<R: Wait>(
 ) -> Result<(), NotPlayed>
     requires has { Has hall.now pass.old number (Some ticket.now.serial) None [] }
     requires ticket { IsTicketOf (view pass.old) ticket.now }
-    ensures { Has hall.now pass.new number (Some ticket.now.serial) None [] }
+    ensures has { Has hall.now pass.new number (Some ticket.now.serial) None [] }
+    ensures ticket { IsTicketOf (view pass.new) ticket.now }
 {
     let origin = origin_after(alloc, ticket, false)?;
     let draft = make_and_open(rt, alloc, hall, pass, ticket, false, number)?;

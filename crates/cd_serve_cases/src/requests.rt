@@ -43,10 +43,11 @@ pub fn end<R: Wait>(
     ticket: Ticket<Fixed>,
     number: u32,
 )
-    requires { Has hall.now pass.old number (Some ticket.serial) None [] }
+    requires has { Has hall.now pass.old number (Some ticket.serial) None [] }
+    requires ticket { IsTicketOf (view pass.old) ticket }
     ensures { Has hall.now pass.new number None None [] }
 {
-    let duty = hall.finish(rt, ticket, pass);
+    let duty = hall.finish(ticket, pass);
     retire(rt, hall, pass, duty, number);
 }
 

@@ -25,7 +25,7 @@ pub enum Scene {
     /// The host is halted after a draft was opened and before it is published. The attempt of the same request comes too late as
     /// well, and nobody answers the next request.
     Halted,
-    /// A request runs on while 255 configurations follow its own. It hinders the next one, until it ends.
+    /// A request runs on while 1,023 configurations follow its own. It hinders the next one, until it ends.
     StillInUse,
     /// The address of the other configuration can't be opened. Then it can, and the first one follows again.
     CannotOpen,
@@ -187,7 +187,7 @@ fn still_in_use<R: Wait>(
     ensures two { Has hall.now two.new 1 None None [] }
 {
     let ticket = begin(rt, hall, one, 0)?;
-    let followed = change_times(rt, alloc, hall, two, 1, 254);
+    let followed = change_times(rt, alloc, hall, two, 1, 1_022);
     let first = change(rt, alloc, hall, two, false, 1);
     let second = change(rt, alloc, hall, two, true, 1);
     end(rt, hall, one, ticket, 0);

@@ -1,13 +1,13 @@
-use Rattle.std.proofs.Common.{◌∙◌, ap, ℕ, List, [], ◌∷◌, ◌++◌}
+use Rattle.std.proofs.Common.{◌∙◌, ap, ℕ, List, ◌∷◌}
 use Rattle.cd_legal.specs.Legal.{state_at}
+use Rattle.cd_gate.specs.Duties.{without_number}
 use Rattle.cd_gate.specs.Passes.{view}
-use Rattle.cd_hall.specs.Publishing.{without_number}
 use Rattle.cd_host.proofs.Drafting.{finished-owes, retired-owes, only-duty, none-left}
 use Rattle.cd_host.proofs.Started.{finished-only, finished-and-retired}
 use Rattle.cd_host.proofs.starting.finish_first.Goals as goal
 
 pub retire-requires-clause-duty : goal.retire-requires-clause-duty
-retire-requires-clause-duty g c κs within = only-duty (view c.finish.new.pass).duties c.in-Some.duty.serial (c.in-Some.ensures.duties ∙ ap (λ (l : List ℕ). l ++ c.in-Some.duty.serial ∷ []) c.requires.none)
+retire-requires-clause-duty g c κs within = only-duty (view c.finish.new.pass).duties c.in-Some.duty.serial (c.in-Some.ensures.duties ∙ ap (λ (l : List ℕ). c.in-Some.duty.serial ∷ l) c.requires.none)
 
 pub returns-in-Some-clause-finished : goal.returns-in-Some-clause-finished
 returns-in-Some-clause-finished g c =
@@ -23,7 +23,7 @@ returns-in-Some-clause-free g c =
     let two = retired-owes (view c.finish.new.pass) (view c.retire.new.pass) u.0 (state_at u.0) c.in-Some.duty.serial u.1 in (
       two.0 ∙ one.0,
       two.1 ∙ one.1,
-      c.retire.ensures.duties ∙ ap (without_number c.in-Some.duty.serial) (c.in-Some.ensures.duties ∙ ap (λ (l : List ℕ). l ++ c.in-Some.duty.serial ∷ []) c.requires.none) ∙ none-left c.in-Some.duty.serial,
+      c.retire.ensures.duties ∙ ap (without_number c.in-Some.duty.serial) (c.in-Some.ensures.duties ∙ ap (λ (l : List ℕ). c.in-Some.duty.serial ∷ l) c.requires.none) ∙ none-left c.in-Some.duty.serial,
     )
 
 pub returns-in-None-clause-finished : goal.returns-in-None-clause-finished
@@ -37,5 +37,5 @@ returns-in-None-clause-free g c =
     let one = finished-owes (view c.args.pass.now) (view c.finish.new.pass) f.0 _ f.1 in (
       one.0,
       one.1,
-      c.in-None.ensures.duties ∙ ap (λ (l : List ℕ). l ++ []) c.requires.none,
+      c.in-None.ensures.duties ∙ c.requires.none,
     )

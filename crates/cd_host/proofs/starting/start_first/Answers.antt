@@ -1,5 +1,6 @@
 use Rattle.std.proofs.Common.{◌∙◌}
 use Rattle.cd_gate.specs.Passes.{view}
+use Rattle.cd_hall.proofs.Requested.{ticket_stays}
 use Rattle.cd_host.proofs.Drafting.{begun-owes, nothing-owes}
 use Rattle.cd_host.proofs.Started.{unbegun, started}
 use Rattle.cd_host.proofs.starting.start_first.Goals as goal
@@ -11,7 +12,9 @@ pub draft_first-how-requires-clause-free : goal.draft_first-how-requires-clause-
 draft_first-how-requires-clause-free g c κs within = let f = c.in-Ok.ensures.begins in begun-owes (view c.args.pass.now) (view c.begin.new.pass) f.0 _ _ f.1 ∙ c.requires.free.1
 
 pub finish_first-requires-clause-ticket : goal.finish_first-requires-clause-ticket
-finish_first-requires-clause-ticket g c κs within = c.draft_first-how.ensures.ticket ∙ c.in-Ok.ensures.ticket.own
+finish_first-requires-clause-ticket g c κs within =
+    let drafts = c.draft_first-how.ensures.drafted.signed.1 in
+    ticket_stays (view c.begin.new.pass) (view c.draft_first-how.new.pass) c.in-Ok.ticket c.in-Ok.ensures.ticket drafts.seen drafts.history c.draft_first-how.ensures.ticket
 
 pub finish_first-requires-clause-none : goal.finish_first-requires-clause-none
 finish_first-requires-clause-none g c κs within = c.draft_first-how.ensures.duties ∙ c.in-Ok.ensures.duties ∙ c.requires.free.2

@@ -8,6 +8,7 @@ pub loop-init : goal.loop-init
 loop-init g c = record {
   turns = (tt, tt);
   may = c.requires.may;
+  cache = c.requires.cache;
   later = omega arith;
   goes = goes-started (record { acts = g.M.ModuleSet.acts; plan = g.M.ModuleSet.plan }) c.args.at.now c.new-session.result.intake c.new-session.result.ended c.new-session.result.answered c.new-session.ensures.intake c.new-session.ensures.ended c.new-session.ensures.answered (view c.args.pass.now) (g.L.Lane.past c.args.lane.now);
 }
@@ -16,6 +17,7 @@ pub loop-preserved : goal.loop-preserved
 loop-preserved g c = record {
   turns = (tt, tt);
   may = c.serve_next.ensures.may;
+  cache = c.serve_next.ensures.cache;
   later = omega (arith, c.loop.invariant.later, c.in-None-serve_next.ensures.cause);
   goes = c.in-None-serve_next.ensures.steps (view c.args.pass.now) (g.L.Lane.past c.args.lane.now) c.loop.invariant.goes;
 }

@@ -1,4 +1,4 @@
-use Rattle.std.proofs.Common.{ℕ, Bool, cond, subst, arith}
+use Rattle.std.proofs.Common.{ℕ, Bool, cond, subst, arith, rules}
 use Rattle.cd_gate.specs.Passes.{view}
 use Rattle.cd_serve.specs.Meanings.{Meaning}
 use Rattle.cd_serve.specs.Stepping.{LaneGoesOn}
@@ -10,6 +10,7 @@ loop-init g c = record {
   turns = (tt, tt);
   pass = c.requires.pass;
   free = c.requires.free;
+  cache = search rules;
   busy = c.requires.busy;
   later = omega arith;
   goes = lane-started (record { acts = g.M.ModuleSet.acts; plan = g.M.ModuleSet.plan }) (g.L.Lane.faults c.args.lane.now) c.new-counts.result c.new-counts.ensures (view c.args.pass.now) (g.L.Lane.past c.args.lane.now);
@@ -28,7 +29,7 @@ returns-then-serve_accepted-clause-served g c =
     let counts = c.serve_accepted.new.counts in
     let going : LaneGoesOn m first failed counts.answered counts.cut (cond c.serve_accepted.result 1 0) v x old now =
     c.serve_accepted.ensures.goes v old then first (g.L.Lane.faults c.loop.lane) c.loop.invariant.goes c.in-Connection.ensures.cause.later c.in-Connection.ensures.past in
-    lane-halted m first failed counts.answered counts.cut c.end.result c.in-Connection.at v x old now c.end.ensures (c.serve_accepted.ensures.last then c.in-Connection.ensures.past)
+    lane-halted m first failed counts.answered counts.cut c.end-then-serve_accepted.result c.in-Connection.at v x old now c.end-then-serve_accepted.ensures (c.serve_accepted.ensures.last then c.in-Connection.ensures.past)
     (subst (λ (b : Bool). LaneGoesOn m first failed counts.answered counts.cut (cond b 1 0) v x old now) c.if-serve_accepted.true going)
 
 pub returns-then-serve_accepted-clause-fresh : goal.returns-then-serve_accepted-clause-fresh

@@ -1,5 +1,6 @@
 use Rattle.std.proofs.Common.{◌≡◌, ◌≤◌, false}
 use Rattle.cd_gate.specs.Passes.{view}
+use Rattle.cd_hall.specs.Caches.{IsCacheOf}
 use Rattle.cd_hall.specs.Calls.{IsPassOf}
 use Rattle.cd_serve.specs.Requests.{OwesNothing}
 use Rattle.cd_serve.specs.Stepping.{LaneGoesOn}
@@ -10,6 +11,7 @@ invariant-loop g l = record {
   turns : (goal.iterator-loop g).can_next l.iterator' × (goal.iterator-loop g).is_finite l.iterator';
   pass : IsPassOf l.hall l.pass;
   free : OwesNothing (view l.pass);
+  cache : IsCacheOf (view l.pass) l.cache;
   busy : g.L.Lane.busy l.lane ≡ false;
   later : g.L.Lane.faults l.initial.lane ≤ g.L.Lane.faults l.lane;
   goes : LaneGoesOn (record { acts = g.M.ModuleSet.acts; plan = g.M.ModuleSet.plan }) (g.L.Lane.faults l.initial.lane) (g.L.Lane.faults l.lane) l.counts.answered l.counts.cut 0 (view l.initial.pass) (view l.pass) (g.L.Lane.past l.initial.lane) (g.L.Lane.past l.lane);

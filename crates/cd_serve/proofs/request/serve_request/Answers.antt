@@ -7,6 +7,7 @@ pub loop-init : goal.loop-init
 loop-init g c = record {
   turns = (tt, tt);
   may = c.requires.may;
+  cache = c.requires.cache;
   later = omega arith;
   repeats = repeats-none (record { acts = g.M.ModuleSet.acts; plan = g.M.ModuleSet.plan }) c.args.at.now c.args.request.now (view c.args.pass.now) (g.L.Lane.past c.args.lane.now);
 }
@@ -15,6 +16,7 @@ pub loop-preserved : goal.loop-preserved
 loop-preserved g c = record {
   turns = (tt, tt);
   may = c.serve_once.ensures.may;
+  cache = c.serve_once.ensures.cache;
   later = omega (arith, c.loop.invariant.later, c.serve_once.ensures.lane.later);
   repeats = repeats-more (record { acts = g.M.ModuleSet.acts; plan = g.M.ModuleSet.plan }) c.args.at.now c.args.request.now (view c.args.pass.now) (view c.loop.pass) (view c.serve_once.new.pass) (g.L.Lane.past c.args.lane.now) (g.L.Lane.past c.loop.lane) (g.L.Lane.past c.serve_once.new.lane) c.loop.invariant.repeats c.in-None-serve_once.ensures.served;
 }

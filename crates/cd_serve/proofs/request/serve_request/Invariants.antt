@@ -1,5 +1,6 @@
 use Rattle.std.proofs.Common.{◌≤◌}
 use Rattle.cd_gate.specs.Passes.{view}
+use Rattle.cd_hall.specs.Caches.{IsCacheOf}
 use Rattle.cd_serve.specs.Requests.{MayServe, Repeats}
 use Rattle.cd_serve.proofs.request.serve_request.Given as goal
 
@@ -7,6 +8,7 @@ abbrev pub invariant-loop : goal.invariant-loop
 invariant-loop g l = record {
   turns : (goal.iterator-loop g).can_next l.iterator' × (goal.iterator-loop g).is_finite l.iterator';
   may : MayServe l.hall l.pass (g.L.Lane.busy l.lane);
+  cache : IsCacheOf (view l.pass) l.cache;
   later : g.L.Lane.faults l.initial.lane ≤ g.L.Lane.faults l.lane;
   repeats : Repeats (record { acts = g.M.ModuleSet.acts; plan = g.M.ModuleSet.plan }) l.at l.request (view l.initial.pass) (view l.pass) (g.L.Lane.past l.initial.lane) (g.L.Lane.past l.lane);
 }

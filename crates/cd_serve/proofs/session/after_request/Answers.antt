@@ -7,7 +7,7 @@ use Rattle.cd_serve.specs.Meanings.{IsProperPrefix}
 use Rattle.cd_serve.specs.Episodes.{Outcome}
 use Rattle.cd_serve.specs.Serving.{Replied}
 use Rattle.cd_serve.specs.Requests.{RequestServed}
-use Rattle.cd_serve.proofs.Stepping.{goes-answered, over-closed, over-unlogged, over-broken, over-lacking, over-dropped, over-halted, over-worn, over-wearing, over-unbegun, ends-as}
+use Rattle.cd_serve.proofs.Stepping.{goes-answered, over-closed, over-unlogged, over-broken, over-lacking, over-dropped, over-halted, over-worn, over-wearing, ends-as}
 use Rattle.cd_serve.proofs.session.after_request.Goals as goal
 
 pub returns-then-close-clause-steps : goal.returns-then-close-clause-steps
@@ -87,11 +87,3 @@ returns-in-Failed-put-clause-steps g c m at q v w x first old left going begins 
     ends-as m at cause.Failed session.answered v x first (g.L.Lane.past c.put.new.lane) c.end-in-Failed-put.result c.end-in-Failed-put.ensures
     (over-wearing m at left session.ended session.answered v w first old going q session.intake x now.own past begins now.places now.served puts.0 (g.L.Lane.past c.put.new.lane) (full c.in-Worn.is)
     (subst (λ (z : List ℕ). IsProperPrefix puts.0 z) c.refusal.ensures puts.1) puts.2)
-
-pub returns-in-Unbegun-clause-steps : goal.returns-in-Unbegun-clause-steps
-returns-in-Unbegun-clause-steps g c m at q v w x first old left going begins s full =
-    let session = c.args.session.now in
-    let past = g.L.Lane.past c.args.lane.now in
-    let now : RequestServed m at q how.Unbegun w x old past = subst (λ (h : How). RequestServed m at q h w x old past) c.in-Unbegun.is s in
-    ends-as m at cause.Lacking session.answered v x first past c.end-in-Unbegun.result c.end-in-Unbegun.ensures
-    (over-unbegun m at left session.ended session.answered v w first old going q session.intake x now.own past begins now.places now.served)

@@ -1,9 +1,9 @@
 use Rattle.std.proofs.Common.{[], List, ℕ, Option, None, ap, ◌∙◌}
 use Rattle.cd_legal.specs.Legal.{state_at}
 use Rattle.cd_legal.specs.Runs.{block_of}
+use Rattle.cd_gate.specs.Duties.{without_number}
 use Rattle.cd_hall.specs.declared.duty.Duty.{Duty}
 use Rattle.cd_hall.specs.Calls.{duties_in}
-use Rattle.cd_hall.specs.Publishing.{without_number}
 use Rattle.cd_serve.proofs.Haltings.{block-owes}
 use Rattle.cd_serve_cases.proofs.Goes.{goes, owes, without-own}
 use Rattle.cd_serve_cases.proofs.requests.retire.Goals as goal
