@@ -29,4 +29,4 @@ refused_line words = codes "refused: " ++ words ++ codes "\n"
 
 -- the line for words that the program does not know
 abbrev pub usage_line : List ℕ
-usage_line = codes "usage: caddy_run run [--config FILE] | stdio --config FILE | validate --config FILE | storm N | run --resume | reverse-proxy --from A --policy P --to U ...\n"
+usage_line = codes "usage: caddy_run run [--config FILE] | stdio --config FILE | validate --config FILE | storm N | run --resume | reverse-proxy --from A --policy P --to U ... | adapt --config FILE\n"

@@ -16,7 +16,7 @@ pub fn say<O: Sink>(out: &mut O, line: &str) -> Given
 
 /// The line that says which words the program knows.
 pub const USAGE: &str =
-    "usage: caddy_run run [--config FILE] | stdio --config FILE | validate --config FILE | storm N | run --resume | reverse-proxy --from A --policy P --to U ...\n";
+    "usage: caddy_run run [--config FILE] | stdio --config FILE | validate --config FILE | storm N | run --resume | reverse-proxy --from A --policy P --to U ... | adapt --config FILE\n";
 
 /// Says which words the program knows.
 pub fn say_usage<O: Sink>(out: &mut O) -> Given

@@ -28,6 +28,7 @@ use Rattle.cd_program.specs.Seen.{Seen}
 use Rattle.cd_program.specs.Storm.{Storms}
 use Rattle.cd_program.specs.Top.{Begins, HasRun, Loads, Serves, Validates, ExitsWith, WasRefused, EndsAs, code_of, standard}
 use Rattle.cd_program.specs.Words.{is_null}
+use Rattle.cd_program.proofs.Adapted.{adapts_all}
 use Rattle.cd_program.proofs.Loading.{all_loaded, apart}
 
 -- ---- connections
@@ -142,5 +143,6 @@ storms_all m number answered published output wrote code e =
 pub completes_as : {F L : Type 0} (s : Seen F L) (code : ℕ) (command : commands.Command) → EndsAs s code command → CompletesAs s code command
 completes_as s code (Command.Serve initial) ends = λ may none. completes standard initial s none may code ends.0
 completes_as s code Command.Validate ends = λ holds read wrote. validates_all plan_of_tree s.source s.output read wrote holds code ends.0
+completes_as s code Command.Adapt ends = λ bytes told read. adapts_all s.source s.output read bytes told code ends.0
 completes_as s code (Command.Storm number) ends = λ wrote. storms_all standard number s.answered s.published s.output wrote code ends.0
 completes_as s code Command.Unknown ends = tt

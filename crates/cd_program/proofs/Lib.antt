@@ -5,6 +5,7 @@ pub mod Loading
 mod Unpublished
 mod RunEnds
 mod Declined
+pub mod Adapted
 mod Storms
 pub mod Completing
 mod Sounds

@@ -16,6 +16,7 @@ use Rattle.cd_standard.specs.Loading.{loaded, nothing_said, planned}
 use Rattle.cd_standard.specs.Plans.{plan_of}
 use Rattle.cd_program.specs.declared.initial.Initial.{Initial}
 use Rattle.cd_program.specs.declared.initial.Initial.TheVariants.{OfFile, Null, Saved}
+use Rattle.cd_program.specs.Config.{Gave}
 use Rattle.cd_program.specs.Configuration.{configured, if_planned}
 use Rattle.cd_output.specs.Devices.{Device}
 use Rattle.cd_program.specs.Top.{Begins, Loads, NullMayRun}
@@ -23,7 +24,7 @@ use Rattle.cd_program.specs.Words.{is_null}
 use Rattle.cd_program.specs.declared.refusal.Refusal.{Refusal}
 use Rattle.cd_program.specs.declared.refusal.Refusal.TheVariants.{NoTree}
 
-is_lt : (a b : ℕ) → a < b → nat_lt a b ≡ true
+pub is_lt : (a b : ℕ) → a < b → nat_lt a b ≡ true
 is_lt a b h = grind (arith, nat_tests)
 
 no_tree_of : (bytes : List ℕ) → MAX_TEXT_BYTES < length bytes → tree_of bytes ≡ Err TooLong
@@ -38,18 +39,23 @@ too_long plan bytes long = rw (no_tree_of bytes long) refl
 Some-injective : {x y : List ℕ} → Some x ≡ Some y → x ≡ y
 Some-injective e = cc
 
--- what was read comes to what all comes to
-read_so : (plan : Tree → Result Plan LoadFault) (bytes all left : List ℕ) → all ≡ bytes ++ left → (MAX_TEXT_BYTES < length bytes) ⊎ (left ≡ []) → configured plan all ≡ configured plan bytes
-read_so plan bytes all left is (inl long) =
+-- what was read comes to what all comes to, where all that are too many come to the same
+pub read_so : {A : Type 0} (means : List ℕ → A) (of_long : A) → ((bytes : List ℕ) → MAX_TEXT_BYTES < length bytes → means bytes ≡ of_long)
+    → (bytes all left : List ℕ) → all ≡ bytes ++ left → (MAX_TEXT_BYTES < length bytes) ⊎ (left ≡ []) → means all ≡ means bytes
+read_so means of_long long_is bytes all left is (inl long) =
     let longer : MAX_TEXT_BYTES < length all = omega (arith, ap length is, length-append bytes left, long) in
-    too_long plan all longer ∙ sym (too_long plan bytes long)
-read_so plan bytes all left is (inr none) =
-    ap (configured plan) (is ∙ (ap (λ (rest : List ℕ). bytes ++ rest) none ∙ append-nil bytes))
+    long_is all longer ∙ sym (long_is bytes long)
+read_so means of_long long_is bytes all left is (inr none) =
+    ap means (is ∙ (ap (λ (rest : List ℕ). bytes ++ rest) none ∙ append-nil bytes))
+
+-- so what a source gave up comes to what all that it told comes to
+pub all_so : {A : Type 0} (means : List ℕ → A) (of_long : A) → ((bytes : List ℕ) → MAX_TEXT_BYTES < length bytes → means bytes ≡ of_long)
+    → (bytes all : List ℕ) (left : Option (List ℕ)) → Gave bytes (Some all) left → means all ≡ means bytes
+all_so means of_long long_is bytes all (Some left) gave = read_so means of_long long_is bytes all left (Some-injective gave.given) gave.all
+all_so means of_long long_is bytes all None gave = let none = gave.given in cc
 
 pub all_loaded : (plan : Tree → Result Plan LoadFault) (bytes : List ℕ) (left : Option (List ℕ)) (found : Result Tree Refusal) → Loads plan (Some bytes) left found → configured plan bytes ≡ found
-all_loaded plan bytes (Some left) found loads =
-    read_so plan loads.bytes bytes left (Some-injective loads.gave.given) loads.gave.all ∙ loads.is
-all_loaded plan bytes None found loads = let none = loads.gave.given in cc
+all_loaded plan bytes left found loads = all_so (configured plan) (Err (NoTree TooLong)) (too_long plan) loads.bytes bytes left loads.gave ∙ loads.is
 
 pub apart : (t : Tree) (refusal : Refusal) → ◌≡◌ {A = Result Tree Refusal} (Ok t) (Err refusal) → ⊥
 apart t refusal e = cc

@@ -1,8 +1,10 @@
 -- Part of the main theorem.
 -- Completeness: what a call of the program comes to where no call on a part of the outside failed, and where memory was not lacking.
-use Rattle.std.specs.Prelude.{◌≡◌, ◌⊎◌, ◌+◌, ◌++◌, ℕ, true, false, List, [], ◌∷◌, Option, Some, None, Result, Ok}
+use Rattle.std.specs.Prelude.{◌≡◌, ◌⊎◌, ◌+◌, ◌++◌, ℕ, true, false, List, [], ◌∷◌, Option, Some, None, Result, Ok, Err}
 use Rattle.cd_outside.specs.declared.past.Connection.{Connection}
 use Rattle.cd_tree.specs.declared.tree.Tree.{Tree}
+use Rattle.cd_caddyfile.specs.Adapting.{adapted}
+use Rattle.cd_caddyfile.specs.declared.fault.CaddyfileFault.{CaddyfileFault}
 use Rattle.cd_legal.specs.declared.entry.Signed.{Signed}
 use Rattle.cd_legal.specs.declared.plan.Plan.{Plan}
 use Rattle.cd_legal.specs.Placed.{Placed}
@@ -77,6 +79,12 @@ module _ (m : Meaning) (initial : Initial) {F L : Type 0} (s : Seen F L) where
     pub done : (status ≡ 0) ⊎ (status ≡ 5)
     pub all : status ≡ 0 → s.cut ≡ 0 → HasCompleted
 
+-- the exit status is that of what the bytes of a Caddyfile come to, or memory was lacking; a fault has its status also where its line
+-- could not be written
+abbrev pub IsStatusOf : Result Tree CaddyfileFault → Device (List ℕ) → ℕ → Type 0
+IsStatusOf (Ok tree) output code = IsUnfailed output → (code ≡ 0) ⊎ (code ≡ 5)
+IsStatusOf (Err fault) output code = (code ≡ 1) ⊎ (code ≡ 5)
+
 -- ---- the table of commands
 
 -- what a call with this exit status has done besides, by the command
@@ -84,5 +92,6 @@ module _ {F L : Type 0} (s : Seen F L) (code : ℕ) where
   abbrev pub CompletesAs : commands.Command → Type 0
   CompletesAs (Command.Serve initial) = MayBegin plan_of_tree initial s.source → NothingFailed s → Completes standard initial s code
   CompletesAs Command.Validate = HoldsConfiguration plan_of_tree s.source → IsUnfailed s.source → IsUnfailed s.output → (code ≡ 0) ⊎ (code ≡ 5)
+  CompletesAs Command.Adapt = (bytes : List ℕ) → s.source.told_before ≡ Some bytes → IsUnfailed s.source → IsStatusOf (adapted bytes) s.output code
   CompletesAs (Command.Storm number) = IsUnfailed s.output → (code ≡ 0) ⊎ (code ≡ 5)
   CompletesAs Command.Unknown = Unit {0}

@@ -1,5 +1,8 @@
 -- The last line of a call, by its status.
-use Rattle.std.specs.Prelude.{◌≡◌, ℕ, List}
+use Rattle.std.specs.Prelude.{◌≡◌, ℕ, List, Result, Ok, Err}
+use Rattle.cd_tree.specs.declared.tree.Tree.{Tree}
+use Rattle.cd_caddyfile.specs.Wording.{fault_words}
+use Rattle.cd_caddyfile.specs.declared.fault.CaddyfileFault.{CaddyfileFault}
 use Rattle.cd_host.specs.declared.host_end.HostHow.{HostHow}
 use Rattle.cd_host.specs.declared.host_end.HostHow.TheVariants as how
 use Rattle.cd_program.specs.declared.config.Unloaded.{Unloaded}
@@ -8,7 +11,7 @@ use Rattle.cd_program.specs.declared.refusal.Refusal.{Refusal}
 use Rattle.cd_program.specs.declared.status.Status.{Status}
 use Rattle.cd_program.specs.declared.status.Status.TheVariants as status
 use Rattle.cd_program.specs.Configuration.{words_of}
-use Rattle.cd_program.specs.Output.{Writes, Says, served_line, unopened_line, read_fault_line}
+use Rattle.cd_program.specs.Output.{Writes, Says, served_line, unopened_line, read_fault_line, tree_line}
 use Rattle.cd_output.specs.Lines.{refused_line}
 use Rattle.cd_output.specs.Devices.{Device, HasFailed, IsSilent}
 
@@ -29,3 +32,11 @@ IsDeclined why output status.Refused = (refusal : Refusal) × (why ≡ unloaded.
 IsDeclined why output status.ReadFault = (why ≡ unloaded.Failed) × Says read_fault_line output
 IsDeclined why output status.NoMemory = output.told_now ≡ output.told_before
 IsDeclined why output s = ⊥
+
+-- that of a call that adapts a file that comes to this
+abbrev pub IsAdapted : Result Tree CaddyfileFault → Device (List ℕ) → Status → Type 0
+IsAdapted found output status.Done = (tree : Tree) × (found ≡ Ok tree) × Writes (tree_line tree) (Unit {0}) output
+IsAdapted found output status.Refused = (fault : CaddyfileFault) × (found ≡ Err fault) × Says (refused_line (fault_words fault)) output
+IsAdapted found output status.WriteFault = (tree : Tree) × (found ≡ Ok tree) × HasFailed output × Writes (tree_line tree) ⊥ output
+IsAdapted found output status.NoMemory = output.told_now ≡ output.told_before
+IsAdapted found output s = ⊥

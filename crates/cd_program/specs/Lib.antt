@@ -3,6 +3,7 @@ pub mod Configuration
 pub mod Config
 pub mod Seen
 pub mod Output
+pub mod Adapting
 pub mod Top
 pub mod Endings
 pub mod Storm

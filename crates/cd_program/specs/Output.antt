@@ -5,6 +5,8 @@ use mathlib.Core.List.{IsPrefix}
 use Rattle.cd_outside.specs.declared.key.Key.{Key}
 use Rattle.cd_outside.specs.declared.given.Given.TheVariants as given
 use Rattle.cd_outside.specs.Given.{IsGivenOf}
+use Rattle.cd_tree.specs.Tree.{text}
+use Rattle.cd_tree.specs.declared.tree.Tree.{Tree}
 use Rattle.cd_serve.specs.Faults.{key_words}
 use Rattle.cd_host.specs.Hosting.{serving_line}
 use Rattle.cd_output.specs.Devices.{Device, HasFailed}
@@ -24,6 +26,10 @@ unopened_line key = refused_line (codes "cannot open " ++ key_words key)
 
 abbrev pub valid_line : List ℕ
 valid_line = codes "valid configuration\n"
+
+-- the compact text of a tree, as a line
+abbrev pub tree_line : Tree → List ℕ
+tree_line tree = text tree ++ codes "\n"
 
 abbrev pub read_fault_line : List ℕ
 read_fault_line = codes "read fault\n"

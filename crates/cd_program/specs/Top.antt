@@ -20,6 +20,7 @@ use Rattle.cd_program.specs.declared.initial.Initial.TheVariants.{OfFile, Null, 
 use Rattle.cd_program.specs.declared.refusal.Refusal.{Refusal}
 use Rattle.cd_program.specs.declared.status.Status.{Status}
 use Rattle.cd_program.specs.declared.status.Status.TheVariants as status
+use Rattle.cd_program.specs.Adapting.{Adapts}
 use Rattle.cd_program.specs.Config.{Gave}
 use Rattle.cd_program.specs.Configuration.{configured, if_planned, words_of}
 use Rattle.cd_program.specs.Output.{FellShort, Writes, WroteLess, Says, run_text, valid_line, read_fault_line, unopened_line}
@@ -148,5 +149,6 @@ module _ {F L : Type 0} (s : Seen F L) (code : ℕ) where
   abbrev pub EndsAs : commands.Command → Type 0
   EndsAs (Command.Serve initial) = ExitsWith code (Serves standard initial s) × (FellShort serving_line s.output.told_before s.output.told_now → IsUnserved s)
   EndsAs Command.Validate = ExitsWith code (Validates plan_of_tree s.source s.output) × IsUntouched s
+  EndsAs Command.Adapt = ExitsWith code (Adapts s.source s.output) × IsUntouched s
   EndsAs (Command.Storm number) = ExitsWith code (Storms standard number s.answered s.published s.output) × IsBack s
   EndsAs Command.Unknown = ExitsWith code (Declines s.output) × IsUntouched s

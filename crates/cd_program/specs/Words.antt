@@ -4,7 +4,7 @@ use Rattle.std.specs.Prelude.{ℕ, ◌&&◌, Bool, true, false, List, [], ◌∷
 use Rattle.std.specs.Str.Parse.{digits_value}
 use Rattle.cd_tree.specs.Tree.{IsSound}
 use Rattle.cd_program.specs.declared.command.Command.{Command}
-use Rattle.cd_program.specs.declared.command.Command.TheVariants.{Serve, Validate, Storm, Unknown}
+use Rattle.cd_program.specs.declared.command.Command.TheVariants.{Serve, Validate, Adapt, Storm, Unknown}
 use Rattle.cd_program.specs.declared.initial.Initial.{Initial}
 use Rattle.cd_program.specs.declared.initial.Initial.TheVariants.{OfFile, Null, Saved}
 
@@ -18,13 +18,14 @@ with_file word =
     if bytes_eq word (codes "stdio") then Serve OfFile
     else if bytes_eq word (codes "run") then Serve OfFile
     else if bytes_eq word (codes "validate") then Validate
+    else if bytes_eq word (codes "adapt") then Adapt
     else Unknown
 
 -- what a word asks for that follows `storm`
 abbrev pub storm_of : List ℕ → Command
 storm_of text = if is_number text then Storm (digits_value 10 text) else Unknown
 
--- what the words ask for: `stdio --config FILE`, `run --config FILE`, `run`, `validate --config FILE`, or `storm N`
+-- what the words ask for: `stdio --config FILE`, `run --config FILE`, `run`, `validate --config FILE`, `adapt --config FILE`, or `storm N`
 abbrev pub command : List (List ℕ) → Command
 command [] = Unknown
 command (word ∷ []) = if bytes_eq word (codes "run") then Serve Null else Unknown
@@ -36,6 +37,7 @@ command (word ∷ option ∷ file ∷ other ∷ more) = Unknown
 abbrev pub is_run : Command → Bool
 is_run (Serve initial) = true
 is_run Validate = false
+is_run Adapt = false
 is_run (Storm number) = false
 is_run Unknown = false
 
@@ -61,5 +63,6 @@ IsSoundStart (Saved tree) = IsSound tree
 abbrev pub has_file : Command → Bool
 has_file (Serve initial) = is_of_file initial
 has_file Validate = true
+has_file Adapt = true
 has_file (Storm number) = false
 has_file Unknown = false

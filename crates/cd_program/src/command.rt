@@ -11,6 +11,8 @@ pub enum Command {
     Serve(Initial),
     /// `validate --config FILE`: to say whether the configuration is one.
     Validate,
+    /// `adapt --config FILE`: to write the configuration that a Caddyfile means.
+    Adapt,
     /// `storm N`: to serve the workload of a number over forms in memory. N is the decimal of a number below 2^64.
     Storm(u64),
     /// Nothing that is known.
@@ -41,6 +43,8 @@ fn with_file(word: &Text) -> Command
         Command::Serve(Initial::OfFile)
     } else if word.equals("validate") {
         Command::Validate
+    } else if word.equals("adapt") {
+        Command::Adapt
     } else {
         Command::Unknown
     }

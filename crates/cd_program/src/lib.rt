@@ -8,10 +8,12 @@
 //! The words ask for a `Command` (command.rt). The modules in between read and load the configuration (config.rt), by whatever
 //! set of modules there is; say that it is valid (validating.rt), or why there is none (declining.rt); or run it over all lanes
 //! (starting.rt), by `run_host` of `cd_host`, and say how that went (concluding.rt, output.rt). How requests are served and
-//! configurations follow one another is not decided here. `storm N` serves the workload of a number over forms in memory, by
+//! configurations follow one another is not decided here. `adapt` writes the configuration that a Caddyfile means, by `adapt` of
+//! `cd_adapt` (adapting.rt), and needs no modules. `storm N` serves the workload of a number over forms in memory, by
 //! `run_host` too (storm.rt).
 #![tactic(auto)]
 
+mod adapting;
 mod command;
 mod concluding;
 mod config;
@@ -30,7 +32,9 @@ mod validating;
 pub use config::CONFIG_READ_BYTES;
 pub use ended::{Ended, unbegun};
 pub use initial::Initial;
-pub use laws::{a_storm_tells_of_each_lane, all_bytes_are_loaded, limits_in_numbers};
+pub use laws::{
+    a_storm_tells_of_each_lane, all_bytes_are_adapted, all_bytes_are_loaded, limits_in_numbers,
+};
 pub use output::say_line;
 pub use starting::run_all;
 pub use status::Status;

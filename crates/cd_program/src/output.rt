@@ -2,14 +2,18 @@ ghost use Rattle.std.specs.Prelude.{◌≡◌, ◌<◌, ◌++◌, codes, length,
 ghost use Rattle.cd_outside.specs.Counts.{Rose};
 ghost use Rattle.cd_program.specs.Configuration.{words_of};
 ghost use Rattle.cd_serve.specs.Faults.{key_words};
-ghost use Rattle.cd_program.specs.Output.{Wrote, served_line, unopened_line};
+ghost use Rattle.cd_tree.specs.Tree.{IsSound};
+ghost use Rattle.cd_caddyfile.specs.Wording.{fault_words as caddyfile_words};
+ghost use Rattle.cd_program.specs.Output.{Wrote, served_line, tree_line, unopened_line};
 ghost use Rattle.cd_output.specs.Lines.{refused_line};
 
 use crate::refusal::{Refusal, fault_words};
+use cd_caddyfile::CaddyfileFault;
 use cd_host::say;
 use cd_outside::{Given, Key, Sink};
 use cd_serve::key_words;
 use cd_text::{NoMemory, Text};
+use cd_tree::{Tree, print};
 use std::alloc::Global;
 
 /// Writes a line.
@@ -48,6 +52,23 @@ pub fn refused_line(alloc: Global, refusal: &Refusal) -> Result<Text, NoMemory>
         Refusal::Faulty(fault) => line_of(alloc, fault.words(alloc)?.as_str()),
         Refusal::NoMemory => line_of(alloc, ""),
     }
+}
+
+/// The line that says what the fault of a Caddyfile is.
+pub fn faulty_line(alloc: Global, fault: &CaddyfileFault) -> Result<Text, NoMemory>
+    ensures { IfOk result (λ line. line ≡ refused_line (caddyfile_words fault.now)) }
+{
+    line_of(alloc, cd_caddyfile::fault_words(alloc, fault)?.as_str())
+}
+
+/// The compact text of a configuration, as a line.
+pub fn tree_line(alloc: Global, tree: &Tree) -> Result<Text, NoMemory>
+    requires { IsSound tree.now }
+    ensures { IfOk result (λ line. line ≡ tree_line tree.now) }
+{
+    let text = print(alloc, tree)?;
+    let line = format!(in alloc; "{}\n", text.as_str())?;
+    Ok(Text::from_string(line))
 }
 
 // What a line says of a key that can't be opened.

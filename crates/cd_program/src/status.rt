@@ -3,9 +3,9 @@ ghost use Rattle.std.specs.Prelude.{◌≡◌};
 /// How the program ended.
 #[derive(Clone, Copy, Debug, PartialEq, Eq)]
 pub enum Status {
-    /// The run or the storm has ended, or the configuration is valid.
+    /// The run or the storm has ended, the configuration is valid, or that of a Caddyfile was written.
     Done,
-    /// The configuration is refused.
+    /// The configuration is refused, or the Caddyfile has a fault.
     Refused,
     /// A key of the configuration could not be opened.
     Unopened,
@@ -13,7 +13,7 @@ pub enum Status {
     Usage,
     /// The configuration could not be read.
     ReadFault,
-    /// A line of a run or of a storm, or that the configuration is valid, could not be written.
+    /// A line of a run or of a storm, that the configuration is valid, or that of a Caddyfile, could not be written.
     WriteFault,
     /// Out of memory.
     NoMemory,

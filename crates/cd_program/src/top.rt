@@ -5,6 +5,7 @@ ghost use Rattle.cd_program.specs.Seen.{seen};
 ghost use Rattle.cd_program.specs.Top.{EndsAs};
 ghost use Rattle.cd_program.specs.Words.{command, has_file};
 
+use crate::adapting::adapt_file;
 use crate::command::Command;
 use crate::ended::{Ended, after_storm, unbegun};
 use crate::output::say_line;
@@ -26,15 +27,16 @@ use std::thread::Threads;
 /// configuration null. They serve all lanes, each request by the configuration that is current when it begins: by its apps, or,
 /// at the address of the admin API, by that, which may publish another configuration or halt the host. It returns once no lane
 /// gives a further connection, or after a halt. `validate --config FILE` loads the configuration, says whether it may run, and
-/// starts nothing. `storm N` serves the workload of a number over forms in memory, and says in one line what it came to.
+/// starts nothing. `adapt --config FILE` reads a Caddyfile, and writes the configuration that it means. `storm N` serves the
+/// workload of a number over forms in memory, and says in one line what it came to.
 ///
 /// | status | when |
 /// |---|---|
-/// | 0 | the run or the storm has ended, or the configuration may run |
-/// | 1 | the configuration is refused, or a key of it could not be opened |
+/// | 0 | the run or the storm has ended, the configuration may run, or that of a Caddyfile was written |
+/// | 1 | the configuration is refused, a key of it could not be opened, or the Caddyfile has a fault |
 /// | 2 | the words are unknown |
 /// | 3 | the configuration could not be read |
-/// | 4 | a line of a run or of a storm, or that the configuration may run, could not be written |
+/// | 4 | a line of a run or of a storm, that the configuration may run, or that of a Caddyfile, could not be written |
 /// | 5 | out of memory |
 pub fn caddy_main<R: Threads + Wait + Sync, S: Source, O: Sink, F: Fixtures + Send, L: Lane + Send>(
     rt: &R,
@@ -62,8 +64,9 @@ pub fn caddy_main<R: Threads + Wait + Sync, S: Source, O: Sink, F: Fixtures + Se
     ensures ends { EndsAs (seen S.left S.faults O.holds O.faults F.calls F.faults L.past L.faults config.old config.new out.old out.new fixtures lanes result)
         result.status (command words.now) }
 
-    // Completeness: where no call on a part of the outside has failed, the status is 0 or 5; and a run that ended with status 0, and
-    // lacked memory for no connection, has given each of them all its answers, up to its own end.
+    // Completeness: where no call on a part of the outside has failed, and what is read may run, the status is 0 or 5; that of `adapt`
+    // is 5, or 0 or 1 by its bytes. A run that ended with status 0, and lacked memory for no connection, has given each of them all
+    // its answers, up to its own end.
     ensures completes { CompletesAs (seen S.left S.faults O.holds O.faults F.calls F.faults L.past L.faults config.old config.new out.old out.new fixtures lanes result)
         result.status (command words.now) }
 {
@@ -76,6 +79,7 @@ pub fn caddy_main<R: Threads + Wait + Sync, S: Source, O: Sink, F: Fixtures + Se
             fixtures,
             lanes,
         ),
+        Command::Adapt => unbegun(adapt_file(alloc, config, out), fixtures, lanes),
         Command::Storm(number) => after_storm(
             run_storm::<R, Standard, O>(rt, alloc, number, out),
             fixtures,

@@ -57,6 +57,16 @@ returns-in-Validate-clause-ends g c =
       rw c.unbegun.ensures (record { unserved = record { lanes = refl; unanswered = refl; uncut = refl }; fixtures = refl; unpublished = refl }),
     )
 
+-- ---- adapt
+
+pub returns-in-Adapt-clause-ends : goal.returns-in-Adapt-clause-ends
+returns-in-Adapt-clause-ends g c =
+    subst (EndsAs (seen g.S.Source.left g.S.Source.faults g.O.Sink.holds g.O.Sink.faults g.F.Fixtures.calls g.F.Fixtures.faults g.L.Lane.past g.L.Lane.faults
+    c.args.config.now c.adapt_file.new.config c.args.out.now c.adapt_file.new.out c.args.fixtures c.args.lanes c.unbegun-in-Adapt.result) c.unbegun-in-Adapt.result.status) c.in-Adapt.ensures (
+      rw c.unbegun-in-Adapt.ensures (record { status = c.adapt_file.result; is = refl; so = c.adapt_file.ensures }),
+      rw c.unbegun-in-Adapt.ensures (record { unserved = record { lanes = refl; unanswered = refl; uncut = refl }; fixtures = refl; unpublished = refl }),
+    )
+
 -- ---- storm
 
 pub returns-in-Storm-clause-ends : goal.returns-in-Storm-clause-ends
@@ -84,6 +94,9 @@ returns-in-Serve-clause-completes g c = completes_as _ _ _ (returns-in-Serve-cla
 
 pub returns-in-Validate-clause-completes : goal.returns-in-Validate-clause-completes
 returns-in-Validate-clause-completes g c = completes_as _ _ _ (returns-in-Validate-clause-ends g c)
+
+pub returns-in-Adapt-clause-completes : goal.returns-in-Adapt-clause-completes
+returns-in-Adapt-clause-completes g c = completes_as _ _ _ (returns-in-Adapt-clause-ends g c)
 
 pub returns-in-Storm-clause-completes : goal.returns-in-Storm-clause-completes
 returns-in-Storm-clause-completes g c = completes_as _ _ _ (returns-in-Storm-clause-ends g c)
