@@ -5,7 +5,9 @@ ghost use Rattle.cd_legal.specs.declared.limits.TheConstants.{MAX_LANES};
 
 use crate::ending::{Shown, text_of};
 use crate::handles::Handles;
-use crate::laning::{lanes_of, numbers_of, pieces};
+use crate::laning::{lanes_of, meeting_of, numbers_of, pieces};
+use crate::meeting::{Happened, Meeting};
+use crate::opening::{MeetingFixtures, WaitingOpening};
 use crate::resting::RestingLane;
 use cd_outside::{MemoryFixtures, MemorySink, MemorySource};
 use cd_program::caddy_main;
@@ -13,7 +15,7 @@ use cd_rows::{Kinds, Outcome, RowFault, bytes_at, find, has, is_true, needed, nu
 use cd_text::{List, Octets, Text};
 use cd_tree::{Tree, print};
 use std::alloc::Global;
-use std::sync::Wait;
+use std::sync::{Arc, Wait};
 use std::thread::Threads;
 
 // The configuration of a row that names none. It is that of examples/hello.json, without its `admin`.
@@ -34,7 +36,7 @@ impl<R: Threads + Wait + Sync> Kinds for Conversations<R> {
         only(
             alloc,
             row,
-            "asked calls configuration configuration_bytes connections ends fails keeps lanes meet pieces rests sizes words",
+            "asked calls configuration configuration_bytes connections ends fails keeps lanes meet opening pieces rests sizes words",
         )?;
         Ok(Outcome {
             member: "ends",
@@ -91,8 +93,9 @@ fn ended<R: Threads + Wait + Sync>(
     let words = words_of(alloc, row)?;
     let config = source_of(alloc, row)?;
     let out = MemorySink::new(alloc, failing(alloc, row, "output")?);
-    let fixtures = MemoryFixtures::new(alloc, failing(alloc, row, "fixtures")?)?;
-    let lanes = lanes_of(alloc, row, size)?;
+    let happened = Happened::new(alloc)?;
+    let fixtures = fixtures_of(alloc, row, &happened)?;
+    let lanes = lanes_of(alloc, row, size, &happened)?;
     ended_over(rt, alloc, words, config, out, fixtures, lanes, shown)
 }
 
@@ -112,7 +115,7 @@ fn ended_over<R: Threads + Wait + Sync>(
     words: List<Text>,
     mut config: MemorySource,
     mut out: MemorySink,
-    fixtures: MemoryFixtures,
+    fixtures: MeetingFixtures,
     lanes: List<RestingLane>,
     shown: Shown,
 ) -> Result<Octets, RowFault>
@@ -130,6 +133,38 @@ fn ended_over<R: Threads + Wait + Sync>(
         lanes,
     );
     text_of(alloc, &ended, &out, shown)
+}
+
+fn fixtures_of(
+    alloc: Global,
+    row: &Tree,
+    happened: &Happened,
+) -> Result<MeetingFixtures, RowFault> {
+    let fixtures = MemoryFixtures::new(alloc, failing(alloc, row, "fixtures")?)?;
+    Ok(MeetingFixtures::new(
+        fixtures,
+        Meeting::at(Arc::try_clone(&happened.openings)?, 1, 0),
+        Meeting::at(Arc::try_clone(&happened.closings)?, 1, 0),
+        waiting_opening(alloc, row, happened)?,
+    ))
+}
+
+// The opening that waits until so many answers were given, if the row has one.
+fn waiting_opening(
+    alloc: Global,
+    row: &Tree,
+    happened: &Happened,
+) -> Result<Option<WaitingOpening>, RowFault> {
+    let Some(opening) = find(row, "opening") else {
+        return Ok(None);
+    };
+    only(alloc, opening, "answers number within")?;
+    let answers = usize::from(number_of(needed(alloc, opening, "answers")?)?);
+    let number = u64::from(number_of(needed(alloc, opening, "number")?)?);
+    match meeting_of(opening, "within", &happened.answers, answers)? {
+        None => Err(RowFault::Malformed("an opening that waits without a limit")),
+        Some(meeting) => Ok(Some(WaitingOpening { number, meeting })),
+    }
 }
 
 fn words_of(alloc: Global, row: &Tree) -> Result<List<Text>, RowFault> {

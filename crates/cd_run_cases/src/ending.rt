@@ -13,6 +13,7 @@
 //! kept 2 after 0 {"apps":null}                      the configurations that were kept meanwhile, each after so many bytes, where the
 //!                                                   row asks for it
 //! ```
+use crate::opening::MeetingFixtures;
 use crate::resting::RestingLane;
 use cd_addr::write;
 use cd_outside::{
@@ -35,7 +36,7 @@ pub struct Shown {
 /// The text of a run that ended so with this output.
 pub fn text_of(
     alloc: Global,
-    ended: &Ended<MemoryFixtures, RestingLane>,
+    ended: &Ended<MeetingFixtures, RestingLane>,
     out: &MemorySink,
     shown: Shown,
 ) -> Result<Octets, RowFault> {
@@ -47,7 +48,7 @@ pub fn text_of(
     text.push(b'\n')?;
     text.append(out.bytes().as_slice())?;
     if shown.calls {
-        append_calls(alloc, &mut text, &ended.fixtures)?;
+        append_calls(alloc, &mut text, &ended.fixtures.fixtures)?;
     }
     for lane in ended.lanes.as_slice() {
         if shown.lanes {
@@ -61,7 +62,7 @@ pub fn text_of(
 fn append_counts(
     alloc: Global,
     text: &mut Octets,
-    ended: &Ended<MemoryFixtures, RestingLane>,
+    ended: &Ended<MeetingFixtures, RestingLane>,
 ) -> Result<(), RowFault> {
     let Ended {
         status,
@@ -84,7 +85,7 @@ fn append_counts(
 fn append_rests(
     alloc: Global,
     text: &mut Octets,
-    ended: &Ended<MemoryFixtures, RestingLane>,
+    ended: &Ended<MeetingFixtures, RestingLane>,
 ) -> Result<(), RowFault> {
     let Some(lane) = ended.lanes.get(0) else {
         return Err(RowFault::Malformed("the program gave no lane back"));

@@ -3,11 +3,11 @@ ghost use Rattle.std.specs.Prelude.{◌≡◌, ◌≤◌, false, length, is_some
 ghost use Rattle.cd_legal.specs.declared.limits.TheConstants.{MAX_LANES};
 
 use crate::conversation::failing;
-use crate::meeting::Meeting;
+use crate::meeting::{Happened, Meeting};
 use crate::resting::{Places, RestingLane};
 use cd_legal::MAX_LANES;
 use cd_outside::{Address, Call, MemoryLane};
-use cd_rows::{RowFault, bytes_at, bytes_of, find, has, number_of, only};
+use cd_rows::{RowFault, bytes_at, bytes_of, find, has, needed, number_of, only};
 use cd_text::{List, NoMemory, Octets, Text};
 use cd_tree::Tree;
 use std::alloc::Global;
@@ -15,14 +15,19 @@ use std::sync::Arc;
 use std::sync::atomic::AtomicU64;
 
 /// The lanes that the row lists, or the one that the row itself says. What is asked comes in pieces of this size.
-pub fn lanes_of(alloc: Global, row: &Tree, size: usize) -> Result<List<RestingLane>, RowFault>
+pub fn lanes_of(
+    alloc: Global,
+    row: &Tree,
+    size: usize,
+    happened: &Happened,
+) -> Result<List<RestingLane>, RowFault>
     ensures some { IfOk result (λ lanes. 1 ≤ length lanes) }
     ensures few { IfOk result (λ lanes. length lanes ≤ MAX_LANES) }
     ensures idle { IfOk result (λ lanes. All (λ lane. is_some lane.lane.current ≡ false) lanes) }
 {
     match find(row, "lanes") {
         None => one_lane(alloc, row, size),
-        Some(Tree::Items(trees)) => listed_lanes(alloc, row, trees.as_slice(), size),
+        Some(Tree::Items(trees)) => listed_lanes(alloc, row, trees.as_slice(), size, happened),
         Some(_) => Err(RowFault::Malformed("lanes that are no list")),
     }
 }
@@ -50,6 +55,7 @@ fn listed_lanes(
     row: &Tree,
     trees: &[Tree],
     size: usize,
+    happened: &Happened,
 ) -> Result<List<RestingLane>, RowFault>
     ensures some { IfOk result (λ lanes. 1 ≤ length lanes) }
     ensures few { IfOk result (λ lanes. length lanes ≤ MAX_LANES) }
@@ -58,14 +64,13 @@ fn listed_lanes(
     if trees.is_empty() || trees.len() > MAX_LANES as usize {
         return Err(RowFault::Malformed("no lane, or too many"));
     }
-    let arrived = Arc::new(alloc, AtomicU64::new(0))?;
-    let answered = Arc::new(alloc, AtomicU64::new(0))?;
     let mut lanes = List::new(alloc);
     for tree in trees {
         let places = Places {
-            coming: meeting_of(row, "meet", &arrived, trees.len())?,
-            waiting: meeting_of(tree, "waits", &answered, 1)?,
-            answering: Some(Meeting::at(Arc::try_clone(&answered)?, 1, 0)),
+            coming: meeting_of(row, "meet", &happened.arrivals, trees.len())?,
+            waiting: meeting_of(tree, "waits", &happened.answers, 1)?,
+            returning: returning_of(alloc, tree, happened)?,
+            answering: Some(Meeting::at(Arc::try_clone(&happened.answers)?, 1, 0)),
         };
         lanes.push(listed_lane(alloc, tree, size, places)?)?;
     }
@@ -80,7 +85,7 @@ fn listed_lane(
 ) -> Result<RestingLane, RowFault>
     ensures { IfOk result (λ lane. is_some lane.lane.current ≡ false) }
 {
-    only(alloc, tree, "asked connections fails pieces waits")?;
+    only(alloc, tree, "asked connections fails pieces returns waits")?;
     let script = script_of(alloc, tree, size)?;
     Ok(idle_lane(
         alloc,
@@ -113,19 +118,46 @@ fn lane_failing(alloc: Global, lane: &Tree) -> Result<List<u64>, RowFault> {
     }
 }
 
-// Where lanes wait for so many, if this member says so: within how many thousands of turns.
-fn meeting_of(
+// Where a lane waits before its second read, if it says so: until so many openings have begun, or so many keys were closed.
+fn returning_of(
+    alloc: Global,
+    lane: &Tree,
+    happened: &Happened,
+) -> Result<Option<Meeting>, RowFault> {
+    let Some(returns) = find(lane, "returns") else {
+        return Ok(None);
+    };
+    only(alloc, returns, "closings openings within")?;
+    match find(returns, "openings") {
+        Some(times) => times_of(returns, &happened.openings, times),
+        None => {
+            let times = needed(alloc, returns, "closings")?;
+            times_of(returns, &happened.closings, times)
+        }
+    }
+}
+
+fn times_of(
+    tree: &Tree,
+    counter: &Arc<AtomicU64, Global>,
+    times: &Tree,
+) -> Result<Option<Meeting>, RowFault> {
+    meeting_of(tree, "within", counter, usize::from(number_of(times)?))
+}
+
+/// Where one waits until this counter has come so far, if this member says so: within how many thousands of turns.
+pub fn meeting_of(
     tree: &Tree,
     member: &str,
-    arrived: &Arc<AtomicU64, Global>,
-    lanes: usize,
+    counter: &Arc<AtomicU64, Global>,
+    times: usize,
 ) -> Result<Option<Meeting>, RowFault> {
     match find(tree, member) {
         None => Ok(None),
         Some(number) => {
             let turns = u32::from(number_of(number)?) * 1_000;
-            let arrived = Arc::try_clone(arrived)?;
-            Ok(Some(Meeting::at(arrived, lanes as u64, turns)))
+            let counter = Arc::try_clone(counter)?;
+            Ok(Some(Meeting::at(counter, times as u64, turns)))
         }
     }
 }

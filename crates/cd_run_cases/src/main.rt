@@ -13,6 +13,7 @@ mod ending;
 mod handles;
 mod laning;
 mod meeting;
+mod opening;
 mod resting;
 
 use cd_rows::check_files;

@@ -5,8 +5,8 @@ use cd_outside::{Accepted, Faults, Given, Key, Lane, MemoryLane, Taken};
 use cd_text::{List, Text};
 use std::sync::Wait;
 
-/// A lane in memory that counts how often it may rest. Where the row says so, it waits for other lanes before its first read, and
-/// fails to keep configurations.
+/// A lane in memory that counts how often it may rest. Where the row says so, it waits before its first read and before its second
+/// one, and fails to keep configurations. A read that waits in vain fails.
 #[derive(Drop)]
 pub struct RestingLane {
     pub lane: MemoryLane,
@@ -15,9 +15,11 @@ pub struct RestingLane {
     unkept: Faults,
     /// Where it is to wait for all lanes, until it has been asked for a connection.
     coming: Option<Meeting>,
-    /// Where it is to wait before its first read.
+    /// Where it is to wait before its next read.
     waiting: Option<Meeting>,
-    /// Where lanes wait for an answer on this one, until it has given one.
+    /// Where it is to wait before the read after that.
+    returning: Option<Meeting>,
+    /// Where answers on this lane are waited for.
     answering: Option<Meeting>,
     /// Whether it has waited in vain.
     pub alone: bool,
@@ -30,7 +32,9 @@ pub struct Places {
     pub coming: Option<Meeting>,
     /// It waits there for an answer of another lane, before its first read.
     pub waiting: Option<Meeting>,
-    /// Others wait there for its answer.
+    /// It waits there before its second read.
+    pub returning: Option<Meeting>,
+    /// Others wait there for its answers.
     pub answering: Option<Meeting>,
 }
 
@@ -40,6 +44,7 @@ impl Places {
         Places {
             coming: None,
             waiting: None,
+            returning: None,
             answering: None,
         }
     }
@@ -54,6 +59,7 @@ impl RestingLane {
         let Places {
             coming,
             waiting,
+            returning,
             answering,
         } = places;
         RestingLane {
@@ -62,6 +68,7 @@ impl RestingLane {
             unkept: Faults::new(unkept),
             coming,
             waiting,
+            returning,
             answering,
             alone: false,
         }
@@ -84,8 +91,14 @@ impl Lane for RestingLane {
     }
 
     fn read(&mut self, into: &mut [u8]) -> Taken {
-        if let Some(meeting) = self.waiting.take() {
-            self.alone = !meeting.wait();
+        let waiting = self.waiting.take();
+        self.waiting = self.returning.take();
+        if let Some(meeting) = waiting {
+            if !meeting.wait() {
+                self.alone = true;
+                self.lane.faults.rise();
+                return Taken::Failed;
+            }
         }
         self.lane.read(into)
     }
@@ -96,7 +109,7 @@ impl Lane for RestingLane {
 
     fn write(&mut self, piece: &[u8]) -> Given {
         let given = self.lane.write(piece);
-        if let Some(meeting) = self.answering.take() {
+        if let Some(meeting) = &self.answering {
             meeting.arrive();
         }
         given
