@@ -25,6 +25,8 @@ pub struct Session {
     pub answered: u64,
     /// Where bytes are read to. It is kept from one read to the next, since a new one would be filled with zeros each time.
     pub buffer: [u8; READ_BYTES],
+    /// Where answers are written before they are sent. Its memory is kept from one answer to the next.
+    pub output: Vec<u8>,
 }
 
 impl Session {
@@ -39,6 +41,7 @@ impl Session {
             ended: false,
             answered: 0,
             buffer: [0; READ_BYTES],
+            output: Vec::new(alloc),
         }
     }
 

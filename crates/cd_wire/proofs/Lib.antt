@@ -15,3 +15,4 @@ pub mod LineLemmas
 pub mod BodyLemmas
 pub mod ReadingLemmas
 pub mod Making
+pub mod UsualLemmas

@@ -19,3 +19,4 @@ pub mod Intake
 pub mod Faults
 pub mod Render
 pub mod Lines
+pub mod Usual

@@ -13,8 +13,9 @@
 //! A request keeps its head as one block of bytes. Contracts see the parts of it by their names, and `Request` lends them, its fields
 //! as `Fields`, one by one. So most requests take two pieces of memory to read: the block, and the places of its fields.
 //!
-//! `render` gives exactly the bytes that specs/Render.antt defines for an answer. `fields_go_by_name` says of the order of
-//! fields there what a reader wants to know of it. `refusal` gives the fixed answers, which take no memory.
+//! `render` gives exactly the bytes that specs/Render.antt defines for an answer, and `render_over` writes them over those of an
+//! earlier one. The lines of the usual fields are ready there. `fields_go_by_name` says of the order of fields there what a reader
+//! wants to know of it. `refusal` gives the fixed answers, which take no memory.
 //!
 //! Nothing here reads or writes: the caller brings the bytes and sends them. The fields of an answer are the caller's: those
 //! that would frame the answer are left out in any case of their names, and values are cleaned of control bytes. That a name
@@ -47,6 +48,7 @@ mod seen;
 mod taking;
 mod targets;
 mod texts;
+mod usual;
 
 pub use answer::Answer;
 pub use bodies::{Body, BodyRead, read_body, unread};
@@ -65,7 +67,7 @@ pub use lent::{Lent, copy_fields};
 pub use limits::{MAX_BODY_BYTES, MAX_CHUNK_LINE_BYTES, MAX_HEAD_BYTES, MAX_HEAD_FIELDS};
 pub use lines::put_lines;
 pub use refusals::refusal;
-pub use rendering::{reason_of, render};
+pub use rendering::{reason_of, render, render_over};
 pub use request::Request;
 pub use seen::Fields;
 pub use targets::{before_question_mark, has_scheme, local_part, query_of};

@@ -8,6 +8,7 @@ ghost use Rattle.cd_wire.specs.Render.{has_name, is_sent, by_name, titled, clean
 use crate::fields::Field;
 use crate::rendering::put;
 use crate::texts::is_text;
+use crate::usual::usual_lines;
 use cd_text::NoMemory;
 use std::alloc::Global;
 
@@ -174,6 +175,15 @@ pub(crate) fn put_sent_lines(
     out: &mut Vec<u8>,
     fields: &[Field<'_>],
 ) -> Result<(), NoMemory>
+    ensures { OnOk result (out.new.items ≡ out.old.items ++ flat_map field_line (by_name (filter is_sent fields.now))) }
+{
+    match usual_lines(fields) {
+        Some(lines) => put(out, lines),
+        None => put_other_sent(alloc, out, fields),
+    }
+}
+
+fn put_other_sent(alloc: Global, out: &mut Vec<u8>, fields: &[Field<'_>]) -> Result<(), NoMemory>
     ensures { OnOk result (out.new.items ≡ out.old.items ++ flat_map field_line (by_name (filter is_sent fields.now))) }
 {
     if fields.len() > FEW_LINES {

@@ -43,8 +43,15 @@ pub fn reason_of(status: u16) -> &'static str
     }
 }
 
+// The usual one is written at once.
+fn put_ok(out: &mut Vec<u8>) -> Result<(), NoMemory>
+    ensures { OnOk result (out.new.items ≡ out.old.items ++ status_line 200) }
+{
+    put(out, b"HTTP/1.1 200 OK\r\n")
+}
+
 #[tactic(auto, unfolding(crate::specs::Render::status_line))]
-fn put_status(out: &mut Vec<u8>, status: u16) -> Result<(), NoMemory>
+fn put_any(out: &mut Vec<u8>, status: u16) -> Result<(), NoMemory>
     ensures { OnOk result (out.new.items ≡ out.old.items ++ status_line status) }
 {
     put(out, b"HTTP/1.1 ")?;
@@ -52,6 +59,16 @@ fn put_status(out: &mut Vec<u8>, status: u16) -> Result<(), NoMemory>
     put(out, b" ")?;
     put(out, reason_of(status).as_bytes())?;
     put(out, b"\r\n")
+}
+
+fn put_status(out: &mut Vec<u8>, status: u16) -> Result<(), NoMemory>
+    ensures { OnOk result (out.new.items ≡ out.old.items ++ status_line status) }
+{
+    if status == 200 {
+        put_ok(out)
+    } else {
+        put_any(out, status)
+    }
 }
 
 fn has_body(status: u16) -> bool
@@ -110,7 +127,6 @@ fn usual_len(answer: &Answer<'_>, head: bool) -> usize {
 /// `head` says that the request was a HEAD, which gets no body, and `close` that it wants the connection closed. Fields go by
 /// rising name, and equal names in their order, with each word of a name begun by a capital. `Content-Length` is written
 /// here, but not for 204 and 304, which have no body either, and `Connection: close` where either side closes.
-#[tactic(auto, unfolding(crate::specs::Render::render))]
 pub fn render(
     alloc: Global,
     answer: &Answer<'_>,
@@ -119,12 +135,28 @@ pub fn render(
 ) -> Result<Octets, NoMemory>
     ensures { IfOk result (λ bytes. bytes ≡ render answer.now head close) }
 {
-    let mut out = Vec::with_capacity(alloc, usual_len(answer, head))?;
-    put_status(&mut out, answer.status)?;
-    put_sent_lines(alloc, &mut out, answer.fields.as_slice())?;
-    put_length(&mut out, answer)?;
-    put_close(&mut out, answer.close || close)?;
-    put(&mut out, b"\r\n")?;
-    put_body(&mut out, answer, head)?;
+    let mut out = Vec::new(alloc);
+    render_over(alloc, &mut out, answer, head, close)?;
     Ok(Octets::from_vec(out))
+}
+
+/// The same, in place of what the vector holds. It takes no memory where the vector has room and the fields are few.
+#[tactic(auto, unfolding(crate::specs::Render::render))]
+pub fn render_over(
+    alloc: Global,
+    out: &mut Vec<u8>,
+    answer: &Answer<'_>,
+    head: bool,
+    close: bool,
+) -> Result<(), NoMemory>
+    ensures { OnOk result (out.new.items ≡ render answer.now head close) }
+{
+    out.clear();
+    out.reserve(usual_len(answer, head))?;
+    put_status(out, answer.status)?;
+    put_sent_lines(alloc, out, answer.fields.as_slice())?;
+    put_length(out, answer)?;
+    put_close(out, answer.close || close)?;
+    put(out, b"\r\n")?;
+    put_body(out, answer, head)
 }
