@@ -4,3 +4,4 @@ pub mod Shares
 pub mod Fits
 pub mod Standing
 pub mod Rooms
+pub mod Removals

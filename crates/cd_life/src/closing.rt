@@ -11,11 +11,13 @@ ghost use Rattle.cd_desk.specs.Drafting.{drafts_in};
 ghost use Rattle.cd_desk.specs.Lefts.{IsLeft, step_at};
 ghost use Rattle.cd_desk.specs.Closings.{IsClosing, MayClean, CanRetire, Leaves};
 ghost use Rattle.cd_desk.specs.Trimming.{IsCleared, IsTrimmed};
+ghost use Rattle.cd_life.specs.Removals.{HandsBack};
 ghost use Rattle.cd_life.specs.Rooms.{KeepsRoom};
 ghost use Rattle.cd_life.specs.Standing.{Stood, Adds, Keeps};
 
 use crate::board::{Board, Draft};
-use crate::kept::forget;
+use crate::kept::take_out;
+use crate::removed::{Abandoned, Removed};
 use cd_desk::{Closing, Step};
 use cd_module_set::ModuleSet;
 use cd_outside::Fixtures;
@@ -31,19 +33,23 @@ fn is_last_published(halted: bool, current: u32, serial: u32) -> bool
 }
 
 impl<M: ModuleSet, F: Fixtures> Board<M, F> {
-    /// Gives a draft up. What it has made and started is left to be ended.
-    pub fn abandon(&mut self, draft: Draft<M>) -> Closing
+    /// Gives a draft up. What it has made and started is left to be ended, and its configuration is handed back.
+    pub fn abandon(&mut self, draft: Draft<M>) -> Abandoned<M>
         requires { IsLeft self.old.desk.books (arc_value draft.loaded).tree draft.left }
         ensures entry { Adds F.calls F.faults M.plan M.change self.old self.new (entry.Abandon draft.left.number) }
-        ensures closing { result ≡ record { number = draft.left.number; serial = None; apps = draft.left.started; instances = draft.left.made } }
-        ensures at { IsClosing self.new.desk result }
+        ensures closing { result.closing ≡ record { number = draft.left.number; serial = None; apps = draft.left.started; instances = draft.left.made } }
+        ensures removed { result.removed.loaded ≡ draft.loaded }
+        ensures at { IsClosing self.new.desk result.closing }
         ensures clean { MayClean self.new.desk.books draft.left.number }
         ensures room { KeepsRoom self.old self.new }
     {
         let Draft { left, loaded } = draft;
-        drop(loaded);
         self.live = self.live.saturating_sub(1);
-        self.desk.abandon(left)
+        let closing = self.desk.abandon(left);
+        Abandoned {
+            closing,
+            removed: Removed { loaded },
+        }
     }
 
     /// Stops the last app of a closing that is left. Where it was the last one of a halted host, the fixtures are shut.
@@ -115,18 +121,20 @@ impl<M: ModuleSet, F: Fixtures> Board<M, F> {
         closing.put_back(serial);
     }
 
-    /// Retires a superseded serial, under which no request runs any more and whose apps are stopped. Its configuration is let go, but
-    /// the one that was published last is kept to the end.
-    pub fn retire(&mut self, serial: u32)
+    /// Retires a superseded serial, under which no request runs any more and whose apps are stopped. Its configuration is handed
+    /// back, but the one that was published last is kept to the end.
+    pub fn retire(&mut self, serial: u32) -> Option<Removed<M>>
         requires { CanRetire self.old.desk serial }
         ensures entry { Adds F.calls F.faults M.plan M.change self.old self.new (entry.Retire serial) }
+        ensures removed { HandsBack serial self.old.kept.items self.new.kept.items result }
         ensures room { KeepsRoom self.old self.new }
     {
         let last = is_last_published(self.desk.halted, self.desk.serial, serial);
         self.desk.retire(serial);
-        if !last {
-            forget(&mut self.kept, serial);
+        if last {
+            return None;
         }
+        take_out(&mut self.kept, serial)
     }
 
     /// Halts the host: nothing runs under the next serial, and no configuration follows. Where no app is left to be stopped, the
