@@ -16,7 +16,7 @@ use Rattle.cd_gate.specs.Counts.{is_noted, noted_in, begins_in, place_of, is_rea
 use Rattle.cd_gate.specs.Duties.{is_settled, is_due, more_due, duties_after}
 use Rattle.cd_gate.specs.Knowing.{Knows, is_calm}
 use Rattle.cd_gate.specs.Passes.{view, HasPlace}
-use Rattle.cd_gate.specs.Steps.{may_note, longer, first_view, begun, finish, settle, supersede}
+use Rattle.cd_gate.specs.Steps.{may_note, longer, first_view, begun, finished, finish, settle, supersede}
 use Rattle.cd_gate.specs.Tables.{Found, FoundInTurn, Begins, Ends, UnsettledThen}
 use Rattle.cd_gate.specs.Words.{Slot, Moment, first_balances}
 use Rattle.cd_gate.proofs.Starting.{first_counts, first_order}
@@ -157,6 +157,21 @@ module _ (b : State) where
   not_current is = absurd (let h : 1 ≡ 0 = is.current in omega (arith, h))
 
   -- the end of a request at the current serial never makes it due
+  ends : Ends (begun checked [] 0) (finished (begun checked [] 0) (signed 0 (Begin 0 0) ∷ []) 0 false) 0 false (signed 0 (Begin 0 0) ∷ [])
+  ends = record {
+    found = record { history = record { is_legal = refl; is_signed = refl }; seen = ([], refl); own = refl; own_seen = refl; owes = refl; in_turn = λ has. refl };
+    is = refl;
+    running = refl;
+    history = record { is_legal = refl; is_signed = refl };
+    unsettled = None;
+    unsettled_then = record {
+      last = λ n is. absurd (let h : ◌≡◌ {A = Option ℕ} None (Some n) = is in cc);
+      lent = λ n is on. absurd (let h : ◌≡◌ {A = Option ℕ} None (Some n) = is in cc);
+    };
+    due_is = refl;
+    may = λ is. absurd (let h : false ≡ true = is in cc);
+  }
+
   not_due : (w : View State) → Ends (begun checked [] 0) w 0 true (signed 0 (Begin 0 0) ∷ []) → ⊥
   not_due w is = absurd (let h : true ≡ false = is.due_is in cc)
 

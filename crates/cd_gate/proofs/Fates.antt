@@ -7,15 +7,16 @@ use Rattle.cd_legal.specs.declared.state.State.{State}
 use Rattle.cd_legal.specs.Entry.{entries}
 use Rattle.cd_legal.specs.Legal.{state_at, may_retire}
 use Rattle.cd_legal.specs.State.{has_number, is_ticketed}
-use Rattle.cd_legal.proofs.Facts.{not-false, less-is}
-use Rattle.cd_legal.proofs.Histories.{both, first, second}
+use Rattle.cd_legal.proofs.Facts.{not-false}
+use Rattle.cd_legal.proofs.Histories.{both}
 use Rattle.cd_legal.specs.declared.limits.TheConstants.{MAX_UNRETIRED}
 use Rattle.cd_gate.specs.Counts.{place_of}
 use Rattle.cd_gate.specs.Duties.{is_settled, is_due}
 use Rattle.cd_gate.specs.Rule.{IsKept, Fate}
 use Rattle.cd_gate.specs.Words.{Moment}
-use Rattle.cd_gate.proofs.Balances.{settled_is, settled_low}
+use Rattle.cd_gate.proofs.Balances.{settled_is}
 use Rattle.cd_gate.proofs.Numbers.{tells}
+use Rattle.cd_gate.proofs.Orders.{due_retires}
 use Rattle.cd_gate.proofs.Tickets.{retired-free}
 
 module _ {T : Type 0} (stands : T → T → List Signed → Type 0) (opening : T) (log : List Signed) (m : Moment T) (r : IsKept stands opening log m) (n : ℕ) where
@@ -46,10 +47,7 @@ module _ {T : Type 0} (stands : T → T → List Signed → Type 0) (opening : T
 
   -- what is due may be retired
   pub duty_allowed : is_due s r.unsettled n ≡ true → may_retire s n ≡ true
-  duty_allowed due =
-      let done = first (is_settled s r.unsettled n) _ due in
-      let rest = second (is_settled s r.unsettled n) _ due in
-      both _ _ (less-is n s.serial (settled_low s r.unsettled n done)) (both _ _ (first (not (has_number n s.retired)) _ rest) (both _ _ (r.order.stopped n done) (second (not (has_number n s.retired)) _ rest)))
+  duty_allowed due = due_retires s r.unsettled r.edge r.order n due
 
   -- a retired serial has an empty balance, until it is used again
   pub retired_empty : has_number n s.retired ≡ true → r.edge < n + MAX_UNRETIRED → slice_index m.balances (place_of s n) ≡ 0

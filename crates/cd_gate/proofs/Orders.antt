@@ -6,12 +6,22 @@ use native.Mathlib.Decide.{ℕ_discrete}
 use Rattle.cd_legal.specs.declared.limits.TheConstants.{LAST_SERIAL, MAX_UNRETIRED}
 use Rattle.cd_legal.specs.declared.state.State.{State}
 use Rattle.cd_legal.specs.State.{has_number, apps_stopped}
+use Rattle.cd_legal.specs.Legal.{may_retire}
+use Rattle.cd_legal.proofs.Facts.{less-is}
+use Rattle.cd_legal.proofs.Histories.{both, first, second}
 use Rattle.cd_gate.specs.Counts.{Ordered, is_ready}
-use Rattle.cd_gate.specs.Duties.{is_at, is_settled}
+use Rattle.cd_gate.specs.Duties.{is_at, is_settled, is_due}
 use Rattle.cd_gate.proofs.Balances.{settled_low, settled_not, settled_is}
 use Rattle.cd_gate.proofs.Numbers.{off, some_is, none_some}
 
 module _ (s : State) (unsettled : Option ℕ) (edge : ℕ) (o : Ordered s unsettled edge) where
+  -- what is due may be retired
+  pub due_retires : (n : ℕ) → is_due s unsettled n ≡ true → may_retire s n ≡ true
+  due_retires n due =
+      let done = first (is_settled s unsettled n) _ due in
+      let rest = second (is_settled s unsettled n) _ due in
+      both _ _ (less-is n s.serial (settled_low s unsettled n done)) (both _ _ (first (not (has_number n s.retired)) _ rest) (both _ _ (o.stopped n done) (second (not (has_number n s.retired)) _ rest)))
+
   pub ordered_same : (t : State) → t.serial ≡ s.serial → t.halted ≡ s.halted → ((n : ℕ) → has_number n s.retired ≡ true → has_number n t.retired ≡ true) → ((n : ℕ) → unsettled ≡ Some n → has_number n t.retired ≡ false)
       → ((n : ℕ) → n < s.serial → apps_stopped s n ≡ true → apps_stopped t n ≡ true) → Ordered t unsettled edge
   ordered_same t serial halted retired fresh stopped = record {

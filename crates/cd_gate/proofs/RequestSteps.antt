@@ -31,7 +31,7 @@ use Rattle.cd_gate.proofs.Balances.{parts, settled_no, positive}
 use Rattle.cd_gate.proofs.Frames.{none_some}
 use Rattle.cd_gate.proofs.Halted.{is_halt, halt_seen}
 use Rattle.cd_gate.proofs.Numbers.{some_is}
-use Rattle.cd_gate.proofs.Requesting.{step_check, step_worn, step_begin, few_begun, history_begun, step_finish, history_ended, has, born, used, due_now}
+use Rattle.cd_gate.proofs.Requesting.{step_check, step_worn, step_begin, few_begun, history_begun, step_finish, history_ended, has, born, used, due_now, due_allowed}
 use Rattle.cd_gate.proofs.Tickets.{ticket_seen}
 
 -- ---- numbers
@@ -239,7 +239,7 @@ module _ {T : Type 0} (stands : T → T → List Signed → Type 0) (first : T) 
               deep = r.deep;
               home = r.home;
             },
-            (λ q is. (
+            (λ q is. let due_is : (g == 1) ≡ is_due (after host (Finish v.number)) r.kept.unsettled q = ap (λ (z : ℕ). z == 1) (sym g_is) ∙ (sym (due_now stands first r.log now r.kept id v at live n ticket quiet) ∙ ap (is_due (after host (Finish v.number)) r.kept.unsettled) (some_is n q (sym ticket ∙ is))) in (
               r.log,
               w,
               refl,
@@ -250,7 +250,8 @@ module _ {T : Type 0} (stands : T → T → List Signed → Type 0) (first : T) 
                 history = history_ended stands first r.log now r.kept id v at live n ticket quiet;
                 unsettled = r.kept.unsettled;
                 unsettled_then = unsettled_by s r id v at live quiet;
-                due_is = ap (λ (z : ℕ). z == 1) (sym g_is) ∙ (sym (due_now stands first r.log now r.kept id v at live n ticket quiet) ∙ ap (is_due (after host (Finish v.number)) r.kept.unsettled) (some_is n q (sym ticket ∙ is)));
+                due_is = due_is;
+                may = λ due. due_allowed stands first r.log now r.kept id v at live n ticket quiet q (sym due_is ∙ due);
               },
             )),
           )

@@ -12,7 +12,7 @@ use Rattle.cd_gate.specs.declared.table.TheConstants.{SERIAL_STEP}
 use Rattle.cd_legal.specs.declared.state.State.{State}
 use Rattle.cd_legal.specs.Entry.{signed, entries}
 use Rattle.cd_legal.specs.Laws.{core_at}
-use Rattle.cd_legal.specs.Legal.{allowed, after, state_at, IsLegal}
+use Rattle.cd_legal.specs.Legal.{allowed, after, state_at, may_retire, IsLegal}
 use Rattle.cd_legal.specs.Signing.{IsHistory}
 use Rattle.cd_legal.specs.State.{has_number, has_ticket, is_ticketed, ticket_of, open_at, open_by, without_ticket}
 use Rattle.cd_legal.proofs.Callers.{has-ticket_of, one_ticket, ticket-open, ticket-born}
@@ -32,7 +32,7 @@ use Rattle.cd_gate.proofs.Entries.{core_quiet, begins_more, begins_kept, noted_k
 use Rattle.cd_gate.proofs.Frames.{Stays, goes_nowhere, goes_on, stays_put, none_some, unsettled_known, older_more, own_more, owes_more, next, free_stays, taken_stays}
 use Rattle.cd_gate.proofs.Longer.{prefix_self}
 use Rattle.cd_gate.proofs.Numbers.{tells, off}
-use Rattle.cd_gate.proofs.Orders.{ordered_same}
+use Rattle.cd_gate.proofs.Orders.{ordered_same, due_retires}
 use Rattle.cd_gate.proofs.Tickets.{ticketed-is, ticketed-same, one_off, one_on, not_reused, retired-free}
 use Rattle.cd_gate.proofs.Views.{makes, was}
 
@@ -342,6 +342,13 @@ module _ {T : Type 0} (stands : T → T → List Signed → Type 0) (opening : T
         ∙ (ap (λ (q : Bool). is_settled s r.unsettled n && (not false && not q)) (ticketed-is n (without_ticket v.number s.tickets))
         ∙ (twice (is_settled s r.unsettled n) (rest == 0) ∙ sym found))
 
+    order_ended : Ordered (after s last_entry) r.unsettled r.edge
+    order_ended = ordered_same s r.unsettled r.edge r.order (after s last_entry) refl refl (λ k h. h) r.order.fresh (λ k low h. h)
+
+    -- what is due then may be retired
+    pub due_allowed : (k : ℕ) → is_due (after s last_entry) r.unsettled k ≡ true → may_retire (after s last_entry) k ≡ true
+    due_allowed k due = due_retires (after s last_entry) r.unsettled r.edge order_ended k due
+
     due_before : is_due s r.unsettled n ≡ false
     due_before = ap (λ (q : Bool). is_settled s r.unsettled n && (not (has_number n s.retired) && not q)) (ticketed-is n s.tickets ∙ ap (λ (q : Bool). not q) (ne_eqb (open_at n s.tickets) 0 (nonzero (open_at n s.tickets) open_here)))
         ∙ never (is_settled s r.unsettled n) (not (has_number n s.retired))
@@ -364,7 +371,7 @@ module _ {T : Type 0} (stands : T → T → List Signed → Type 0) (opening : T
         next stands opening log m r id v w_ended at live refl refl ended_log r.unsettled r.edge m.packed m.turn m.counted left m.board
         history_ended
         (r.counted ∙ ap (λ (z : ℕ). z % 2 ^ 64) (sym (noted_kept log v.number last_entry refl)))
-        (subst (λ (z : State). Ordered z r.unsettled r.edge) (sym state_ended) (ordered_same s r.unsettled r.edge r.order (after s last_entry) refl refl (λ k h. h) r.order.fresh (λ k low h. h)))
+        (subst (λ (z : State). Ordered z r.unsettled r.edge) (sym state_ended) order_ended)
         (subst (λ (z : State). Counts m.packed left z r.unsettled r.edge (begins_in ended_log)) (sym state_ended)
         (counts_finish m.packed m.balances s r.unsettled r.edge (begins_in log) r.order r.counts n v.number has one born used (begins_in ended_log) begins_same))
         (subst (λ (z : State). Crowd (begins_in ended_log z.serial) (set m.views id w_ended)) (sym state_ended)

@@ -43,10 +43,10 @@ one_off m n ne = ap (λ (b : Bool). cond {A = ℕ} b 1 0) (ne_eqb m n ne)
 pub one_on : (m n : ℕ) → m ≡ n → ◌≡◌ {A = ℕ} (cond (m == n) 1 0) 1
 one_on m n e = ap (λ (b : Bool). cond {A = ℕ} b 1 0) (eq-eqb m n e)
 
--- ---- a retired serial has none
+-- ---- a superseded serial that has none gets none
 
-abbrev Released : State → Type 0
-Released s = (n : ℕ) → has_number n s.retired ≡ true → (n < s.serial) × (open_at n s.tickets ≡ 0)
+abbrev pub Freed : ℕ → State → Type 0
+Freed n s = (n < s.serial) × (open_at n s.tickets ≡ 0)
 
 rises : (n a b : ℕ) → n < a → a ≤ b → n < b
 rises n a b low le = omega arith
@@ -60,22 +60,30 @@ differs n m serial low is = λ e. absurd (omega arith)
 less_none : (a b : ℕ) → a ≤ b → b ≡ 0 → a ≡ 0
 less_none a b le none = omega arith
 
-released_by : (s : State) (e : Entry) → allowed s e ≡ true → Released s → Released (after s e)
-released_by s (Begin k m) may had = λ n is. let h = had n is in (
+pub freed_by : (n : ℕ) (s : State) (e : Entry) → allowed s e ≡ true → Freed n s → Freed n (after s e)
+freed_by n s (Begin k m) may h = (
   h.0,
   open_at-push n s.tickets (record { caller = k; serial = m })
       ∙ none_more m n (cond (m == n) 1 0) (open_at n s.tickets) (one_off m n (differs n m s.serial h.0 (can s (Begin k m) may).current)) h.1,
 )
-released_by s (Finish k) may had = λ n is. let h = had n is in (h.0, less_none (open_at n (without_ticket k s.tickets)) (open_at n s.tickets) (open_at-without n k s.tickets) h.1)
+freed_by n s (Finish k) may h = (h.0, less_none (open_at n (without_ticket k s.tickets)) (open_at n s.tickets) (open_at-without n k s.tickets) h.1)
+freed_by n s (Publish d m from c) may h = (rises n s.serial (after s (Publish d m from c)).serial h.0 (serial_rises s (Publish d m from c) may), h.1)
+freed_by n s (Halt m) may h = (rises n s.serial (after s (Halt m)).serial h.0 (serial_rises s (Halt m) may), h.1)
+freed_by n s e may h = h
+
+-- ---- a retired serial has none
+
+abbrev Released : State → Type 0
+Released s = (n : ℕ) → has_number n s.retired ≡ true → Freed n s
+
+released_by : (s : State) (e : Entry) → allowed s e ≡ true → Released s → Released (after s e)
 released_by s (Retire m) may had = λ n is. ⊎_elim
     (λ q. had n q)
     (λ q. let f : Retires s m = can s (Retire m) may in
     let same : n ≡ m = ⊎_elim (λ t. eqb-true n m t) (λ t. absurd (let h : false ≡ true = t in cc)) (either (n == m) false q) in
     (subst (λ (z : ℕ). z < s.serial) (sym same) f.superseded, open_at-none n s.tickets (ap (λ (z : ℕ). is_ticketed z s.tickets) same ∙ f.unticketed)))
     (either (has_number n s.retired) (has_number n (m ∷ [])) (sym (has_append n s.retired (m ∷ [])) ∙ is))
-released_by s (Publish d m from c) may had = λ n is. let h = had n is in (rises n s.serial (after s (Publish d m from c)).serial h.0 (serial_rises s (Publish d m from c) may), h.1)
-released_by s (Halt m) may had = λ n is. let h = had n is in (rises n s.serial (after s (Halt m)).serial h.0 (serial_rises s (Halt m) may), h.1)
-released_by s e may had = λ n is. had n is
+released_by s e may had = λ n is. freed_by n s e may (had n is)
 
 pub retired-free : (log : List Entry) (n : ℕ) → legal log ≡ true → has_number n (state_of log).retired ≡ true → (n < (state_of log).serial) × (open_at n (state_of log).tickets ≡ 0)
 retired-free log n legal is = along Released released_by opening_state log legal (λ m e. absurd (let h : false ≡ true = e in cc)) n is

@@ -126,7 +126,7 @@ signs_all k draft log = list_all (λ x. not (is_entry_of draft x.entry) || (x.by
 
 -- what has become of a superseded serial
 pub data Fate {T : Type 0} (s : State) (unsettled : Option ℕ) (views : List (View T)) (n : ℕ) : Type 0 where
-  -- it is not settled yet, and not retired
+  -- the holder of the turn has still to settle it, and it is not retired
   Pending : unsettled ≡ Some n → has_number n s.retired ≡ false → Fate s unsettled views n
   -- it is settled, and requests run under it
   Running : is_settled s unsettled n ≡ true → has_number n s.retired ≡ false → is_ticketed n s.tickets ≡ true → Fate s unsettled views n

@@ -81,6 +81,8 @@ pub record Ends {T : Type 0} (v w : View T) (serial : ℕ) (due : Bool) (log : L
   pub unsettled : Option ℕ
   pub unsettled_then : UnsettledThen (state_at log) v.number unsettled
   pub due_is : due ≡ is_due (after (state_at log) (Finish v.number)) unsettled serial
+  -- where it is due it may be retired
+  pub may : due ≡ true → may_retire (after (state_at log) (Finish v.number)) serial ≡ true
 
 -- ---- the table
 

@@ -100,7 +100,7 @@ impl<T: Stands> Gate<T> {
         first
     }
 
-    /// The board, which stands for one history of all passes.
+    /// The board, which stands for one history that the passes have. It is theirs alone where they are all that were made.
     pub fn close(self, passes: Vec<Pass<T>>) -> T
         requires row { IsRowOf self passes.items }
         requires free { AreFree passes.items }

@@ -54,7 +54,7 @@ impl<T: Stands> Gate<T> {
     }
 
     /// Ends the request of the pass, which is at this serial; `halted` says whether that is the serial of the halt. It says yes
-    /// exactly where the serial is then due: it is a duty of the pass.
+    /// exactly where the serial is then due: it is a duty of the pass, and may be retired.
     pub fn finish_step(&self, pass: &mut Pass<T>, serial: u32, halted: bool) -> bool
         requires pass { IsPass self.now pass.old }
         requires ticket { (view pass.old).ticket ≡ Some serial }

@@ -71,6 +71,12 @@ module _ (one other : List Signed) (same : core_at one ≡ core_at other) where
   pub halted_alike : (state_at one).halted ≡ (state_at other).halted
   halted_alike = sym (halted_core one) ∙ (ap (λ (l : List Signed). (state_at l).halted) same ∙ halted_core other)
 
+  pub retired_alike : (n : ℕ) → has_number n (state_at one).retired ≡ has_number n (state_at other).retired
+  retired_alike n = sym (retired_core one n) ∙ (ap (λ (l : List Signed). has_number n (state_at l).retired) same ∙ retired_core other n)
+
+  pub stopped_alike : (n : ℕ) → apps_stopped (state_at one) n ≡ apps_stopped (state_at other) n
+  stopped_alike n = sym (stopped_core one n) ∙ (ap (λ (l : List Signed). apps_stopped (state_at l) n) same ∙ stopped_core other n)
+
   pub stops_alike : (n : ℕ) → stopped_of (state_at one) n ≡ stopped_of (state_at other) n
   stops_alike n = sym (stops_core one n) ∙ (ap (λ (l : List Signed). stopped_of (state_at l) n) same ∙ stops_core other n)
 

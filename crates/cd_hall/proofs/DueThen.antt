@@ -1,22 +1,23 @@
 -- The end of a request is one entry, and which duty comes with it by the state that this meets.
 use Rattle.std.proofs.Common.{◌≡◌, inl, inr, ℕ, ◌+◌, ◌≤◌, ◌==◌, Bool, true, false, not, nat_lt, cond, List, [], ◌∷◌, ◌++◌, Option, Some, None, refl, sym, ap, subst, ◌∙◌, ⊎_elim, eq-eqb, arith}
 use Rattle.std.specs.Prelude.{◌&&◌}
+use Rattle.std.specs.List.{list_all}
 use Rattle.std.proofs.lemmas.Bool.{eqb-true}
 use Rattle.cd_legal.specs.declared.entry.Entry.TheVariants.{Finish}
 use Rattle.cd_legal.specs.declared.entry.Signed.{Signed}
 use Rattle.cd_legal.specs.declared.state.State.{State}
 use Rattle.cd_legal.specs.Entry.{signed, entries}
-use Rattle.cd_legal.specs.Legal.{state_at}
+use Rattle.cd_legal.specs.Legal.{state_at, may_retire}
 use Rattle.cd_legal.specs.State.{has_number, is_ticketed, open_at, without_ticket}
 use Rattle.cd_legal.proofs.Callers.{one_ticket, open_at-closed, ticket_of-without_other, ticket-open}
 use Rattle.cd_legal.proofs.Histories.{both}
-use Rattle.cd_legal.proofs.Logs.{prefix_more, mine-own}
+use Rattle.cd_legal.proofs.Logs.{prefix_more, mine-own, state-snoc}
 use Rattle.cd_gate.specs.declared.view.View.{View}
 use Rattle.cd_gate.specs.Duties.{is_at, is_settled}
 use Rattle.cd_gate.specs.Tables.{Ends}
 use Rattle.cd_gate.proofs.Numbers.{tells, off}
 use Rattle.cd_gate.proofs.Tickets.{ticketed-is, retired-free}
-use Rattle.cd_hall.specs.Dues.{is_last_at, is_before_halt, DueBy, DueThen}
+use Rattle.cd_hall.specs.Dues.{is_last_at, is_before_halt, DueBy, DueThen, MayRetireAll}
 use Rattle.cd_hall.specs.Turned.{Turned}
 
 -- ---- tests
@@ -50,6 +51,14 @@ by_tests true false true false n only = refl
 by_tests true false true true n only = inr refl
 by_tests true true true false n only = absurd (off (only refl refl refl))
 by_tests true true true true n only = inl refl
+
+-- the duty that came may be done, where its serial may be retired once it is due
+pub duty_may : (s : State) (due : Bool) (n : ℕ) (ds : List ℕ) → (due ≡ true → may_retire s n ≡ true) → ds ≡ cond due (n ∷ []) [] → MayRetireAll s ds
+duty_may s due n ds may is = ap (λ (l : List ℕ). list_all (may_retire s) l) is ∙ of_one due may
+  where
+    of_one : (b : Bool) → (b ≡ true → may_retire s n ≡ true) → list_all (may_retire s) (cond b (n ∷ []) []) ≡ true
+    of_one true is_may = both (may_retire s n) true (is_may refl) refl
+    of_one false is_may = refl
 
 module _ {T : Type 0} (v w : View T) (n : ℕ) (due : Bool) (log : List Signed) (is : Ends v w n due log) where
   abbrev s : State
@@ -93,6 +102,12 @@ module _ {T : Type 0} (v w : View T) (n : ℕ) (due : Bool) (log : List Signed) 
   pub due_then : DueThen s n (cond due (n ∷ []) [])
   due_then = subst (λ (z : Bool × Bool). DueBy z.0 (is_before_halt s n) n (cond z.1 (n ∷ []) [])) (λ i. (sym last_test i, sym due_test i))
       (by_tests (nat_lt n s.serial) (is_at n is.unsettled) (rest == 0) (is_before_halt s n) n after_halt)
+
+  -- where it comes its serial may be retired
+  pub finish_may : due ≡ true → may_retire (state_at w.seen) n ≡ true
+  finish_may came =
+      ap (λ (z : View T). may_retire (state_at z.seen) n) is.is
+      ∙ (ap (λ (t : State). may_retire t n) (state-snoc log (signed v.number (Finish v.number))) ∙ is.may came)
 
   pub turned_by_finish : Turned v w log (Finish v.number ∷ [])
   turned_by_finish = subst (λ (z : View T). Turned v z log (Finish v.number ∷ [])) (sym is.is) record {

@@ -6,6 +6,7 @@ pub mod Begun
 pub mod Placing
 pub mod Spreading
 pub mod Rows
+pub mod OneEnd
 pub mod Told
 pub mod Confs
 pub mod Bare

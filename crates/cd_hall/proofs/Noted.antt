@@ -1,6 +1,7 @@
 -- What the entries that a pass makes in its turn leave.
 use Rattle.std.proofs.Common.{◌≡◌, ◌<◌, ◌≤◌, ℕ, ◌+◌, ◌==◌, Bool, true, false, cond, List, [], ◌∷◌, ◌++◌, slice_get, Some, None, refl, sym, ap, subst, ◌∙◌, eq-eqb, ne_eqb, arith}
 use Rattle.std.specs.List.{list_all}
+use Rattle.std.proofs.lemmas.Bool.{eqb-true}
 use mathlib.Core.List.{IsPrefix}
 use Rattle.cd_legal.specs.declared.entry.Entry.{Entry}
 use Rattle.cd_legal.specs.declared.entry.Entry.TheVariants.{Publish, Abandon, Stopped, Retire, Cleaned, Halt}
@@ -11,13 +12,14 @@ use Rattle.cd_legal.specs.declared.state.Drafted.{Drafted}
 use Rattle.cd_legal.specs.declared.state.Life.TheVariants.{Live}
 use Rattle.cd_legal.specs.Entry.{entries}
 use Rattle.cd_legal.specs.Laws.{core_at}
-use Rattle.cd_legal.specs.State.{holds, has_number, ticket_of, open_at, apps_stopped}
-use Rattle.cd_legal.specs.Legal.{allowed, legal_from, state_from, state_at, IsLegal}
+use Rattle.cd_legal.specs.State.{holds, has_number, is_ticketed, ticket_of, open_at, apps_stopped}
+use Rattle.cd_legal.specs.Legal.{allowed, legal_from, state_from, state_at, may_retire, IsLegal}
 use Rattle.cd_legal.specs.Owing.{Owes, owes_by}
 use Rattle.cd_legal.specs.Runs.{ended_all, stopped_of, cleaned_of, block_of}
 use Rattle.cd_legal.specs.Signing.{may_sign}
 use Rattle.cd_legal.specs.Whole.{all_apps_stopped, nothing_left}
-use Rattle.cd_legal.proofs.Callers.{ticket-open}
+use Rattle.cd_legal.proofs.Callers.{is_ticketed-none, ticket-open}
+use Rattle.cd_legal.proofs.Facts.{less-is, not-false}
 use Rattle.cd_legal.proofs.Histories.{both, first, second}
 use Rattle.cd_legal.proofs.Logs.{prefix_trans, state-append, legal-back}
 use Rattle.cd_legal.proofs.Owed.{owed-ticket}
@@ -31,8 +33,9 @@ use Rattle.cd_gate.specs.Tables.{FoundInTurn}
 use Rattle.cd_gate.specs.Words.{owed}
 use Rattle.cd_hall.specs.Dues.{DueLater}
 use Rattle.cd_hall.specs.GoesOn.{GoesOn, Settles, duties_left}
-use Rattle.cd_hall.proofs.Bare.{left_core}
+use Rattle.cd_hall.proofs.Bare.{left_core, serial_alike, retired_alike, stopped_alike}
 use Rattle.cd_hall.proofs.Cores.{history-core}
+use Rattle.cd_hall.proofs.DueThen.{duty_may}
 use Rattle.cd_hall.proofs.Ended.{stopped_at}
 use Rattle.cd_hall.proofs.Endings.{is_ending, all_end}
 use Rattle.cd_hall.proofs.Leftovers.{abandon_left, publish_left, halt_left, retire_left, cleaned_of_ends}
@@ -176,12 +179,23 @@ module _ {T : Type 0} where
     more = ap (λ (z : View T). z.duties) is ∙ (more_is due n w.duties ∙ (λ i. sym duties i ++ same i));
   }
 
+  -- a superseded serial may be retired that was not, whose apps are stopped, and under which no request runs
+  pub retires_later : (w : View T) (n : ℕ) (log : List Signed) → FoundInTurn w log → n < (state_at w.seen).serial → has_number n (state_at w.seen).retired ≡ false → apps_stopped (state_at w.seen) n ≡ true
+      → (open_at n (state_at log).tickets == 0) ≡ true → may_retire (state_at log) n ≡ true
+  retires_later w n log f low unretired stopped none =
+      let s : State = state_at log in
+      both _ _ (less-is n s.serial (subst (λ (z : ℕ). n < z) (sym (serial_alike log w.seen f.core_is)) low))
+      (both _ _ (not-false (has_number n s.retired) (retired_alike log w.seen f.core_is n ∙ unretired))
+      (both _ _ (stopped_alike log w.seen f.core_is n ∙ stopped) (not-false (is_ticketed n s.tickets) (is_ticketed-none n s.tickets (eqb-true (open_at n s.tickets) 0 none)))))
+
   -- and knows the duty by what it then met
-  pub due_later : (w x : View T) (n m : ℕ) (due : Bool) (log : List Signed) (ds : List ℕ) → FoundInTurn w log → x.seen ≡ w.seen → due ≡ (open_at n (state_at log).tickets == 0) → ds ≡ cond due (n ∷ []) [] → n ≡ m → DueLater x.seen m ds
-  due_later w x n m due log ds f same is duties at = record {
+  pub due_later : (w x : View T) (n m : ℕ) (due : Bool) (log : List Signed) (ds : List ℕ) → FoundInTurn w log → x.seen ≡ w.seen → due ≡ (open_at n (state_at log).tickets == 0) → ds ≡ cond due (n ∷ []) [] → n ≡ m
+      → (due ≡ true → may_retire (state_at log) n ≡ true) → DueLater x.seen m ds
+  due_later w x n m due log ds f same is duties at may = record {
     later = log;
     history = f.found.history;
     seen_first = subst (λ (l : List Signed). IsPrefix l log) (sym same) f.found.seen;
     same = f.core_is ∙ ap core_at (sym same);
     due = duties ∙ (ap (λ (b : Bool). cond b (n ∷ []) []) is ∙ ap (λ (j : ℕ). cond (open_at j (state_at log).tickets == 0) (j ∷ []) []) at);
+    may = duty_may (state_at log) due n ds may duties;
   }

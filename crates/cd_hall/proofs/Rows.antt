@@ -33,7 +33,7 @@ tails : (x y : Signed) (xs ys : List Signed) → x ∷ xs ≡ y ∷ ys → xs �
 tails x y xs ys is = cc
 
 -- of two beginnings of one history the longer is one of them
-either_one : (xs ys zs : List Signed) → IsPrefix xs zs → IsPrefix ys zs → (longer xs ys ≡ xs) ⊎ (longer xs ys ≡ ys)
+pub either_one : (xs ys zs : List Signed) → IsPrefix xs zs → IsPrefix ys zs → (longer xs ys ≡ xs) ⊎ (longer xs ys ≡ ys)
 either_one [] ys zs p q = inr refl
 either_one (x ∷ xs) [] zs p q = inl refl
 either_one (x ∷ xs) (y ∷ ys) [] p q = absurd (let h : x ∷ (xs ++ p.0) ≡ [] = p.1 in cc)

@@ -1,14 +1,16 @@
 -- A serial that was superseded in a turn, whose apps were stopped, and which was settled then.
-use Rattle.std.proofs.Common.{◌≡◌, ◌≤◌, ℕ, ◌+◌, ◌==◌, ◌-◌, Bool, true, false, not, nat_le, cond, List, [], ◌∷◌, Option, Some, None, sym, ap, subst, ◌∙◌, ⊎_elim, arith}
+use Rattle.std.proofs.Common.{◌≡◌, ◌≤◌, ◌<◌, ℕ, ◌+◌, ◌==◌, ◌-◌, Bool, true, false, not, nat_le, cond, List, [], ◌∷◌, Option, Some, None, sym, ap, subst, ◌∙◌, ⊎_elim, arith}
 use Rattle.std.specs.Prelude.{◌&&◌}
+use Rattle.std.specs.List.{list_all}
 use Rattle.std.proofs.lemmas.Bool.Decides.{nat_tests}
 use Rattle.cd_legal.specs.declared.entry.Change.{Change}
 use Rattle.cd_legal.specs.declared.entry.Entry.{Entry}
 use Rattle.cd_legal.specs.declared.entry.Entry.TheVariants.{Publish, Halt}
 use Rattle.cd_legal.specs.declared.entry.Signed.{Signed}
 use Rattle.cd_legal.specs.declared.state.State.{State}
+use Rattle.cd_legal.specs.Entry.{entries}
 use Rattle.cd_legal.specs.Laws.{core_at}
-use Rattle.cd_legal.specs.Legal.{state_at}
+use Rattle.cd_legal.specs.Legal.{after, state_at}
 use Rattle.cd_legal.specs.Runs.{stopped_all, stopped_of}
 use Rattle.cd_legal.specs.Signing.{IsHistory}
 use Rattle.cd_legal.specs.State.{has_number, open_at, apps_stopped}
@@ -22,16 +24,17 @@ use Rattle.cd_gate.specs.Knowing.{Knows}
 use Rattle.cd_gate.specs.Passes.{view, opening_of}
 use Rattle.cd_gate.specs.Steps.{settled}
 use Rattle.cd_gate.specs.Tables.{FoundInTurn}
+use Rattle.cd_legal.proofs.Serials.{retired-below}
 use Rattle.cd_gate.proofs.Numbers.{tells}
 use Rattle.cd_hall.specs.Calls.{StaysCalm}
 use Rattle.cd_hall.specs.GoesOn.{GoesOn, Settles, IsHalt}
 use Rattle.cd_hall.specs.Turns.{InTurn}
-use Rattle.cd_hall.proofs.Bare.{serial_core, stops_core, serial_alike, stops_alike}
-use Rattle.cd_hall.proofs.Endings.{stops_end}
+use Rattle.cd_hall.proofs.Bare.{serial_core, retired_core, stops_core, serial_alike, stops_alike}
+use Rattle.cd_hall.proofs.Endings.{is_ending, rest_along, stops_end}
 use Rattle.cd_hall.proofs.Goes.{goes_as}
 use Rattle.cd_hall.proofs.InHand.{StopsOf, halt_low, halt_goes, publish_low, publish_goes, oldest_of}
 use Rattle.cd_hall.proofs.Leftovers.{stopped_of_ends}
-use Rattle.cd_hall.proofs.Noted.{agrees, unended_at, left_at, published_left, halted_left, endings_duties, rises, stopped_then, still_owes, lent, settles_with, due_later}
+use Rattle.cd_hall.proofs.Noted.{agrees, unended_at, left_at, state_goes, published_left, halted_left, endings_duties, rises, stopped_then, still_owes, lent, settles_with, retires_later, due_later}
 
 -- the serial that last used the balance of the coming one is retired, where the board found none that is not
 pub oldest_retired : (s : State) (n m k : ℕ) → n ≡ m → None ≡ oldest_of s m → k + MAX_UNRETIRED ≡ n + 1 → has_number k s.retired ≡ true
@@ -111,11 +114,30 @@ module _ {T : Type 0} where
     pub h_left : nothing_left (state_at b.seen) ≡ true
     h_left = halted_left v b (n + 1) knows (subst (λ (m : ℕ). GoesOn v b (Halt (n + 1) ∷ stopped_of hs m)) h_here h_goes) (ap (λ (m : ℕ). m + 1) h_here) left
 
+    h_low : n < (state_at b.seen).serial
+    h_low = rises a b (stopped_all stops.0.number stops.0.apps) n stops.2 (halt_low v a n start)
+
     pub h_stopped : apps_stopped (state_at b.seen) n ≡ true
-    h_stopped = stopped_then b n (rises a b (stopped_all stops.0.number stops.0.apps) n stops.2 (halt_low v a n start)) h_left
+    h_stopped = stopped_then b n h_low h_left
+
+    h_ends : list_all is_ending (stopped_of hs n) ≡ true
+    h_ends = stopped_of_ends hs (agrees v knows) (unended_at v knows) (left_at v left) n
+
+    -- the current serial was not retired, nor was it since
+    h_fresh : has_number n (state_at v.seen).retired ≡ false
+    h_fresh = ⊎_elim (λ q. absurd (not_low n (state_at v.seen).serial current (retired-below (entries v.seen) n knows.history.is_legal q))) (λ q. q) (tells (has_number n (state_at v.seen).retired))
+      where
+        not_low : (x y : ℕ) → x ≡ y → x < y → ⊥
+        not_low x y e low = absurd (omega arith)
+
+    h_unretired : has_number n (state_at b.seen).retired ≡ false
+    h_unretired =
+        sym (retired_core b.seen n)
+        ∙ (ap (λ (z : State). has_number n z.retired) (state_goes v b (Halt (n + 1) ∷ stopped_of hs n) h_goes)
+        ∙ (ap (has_number n) (rest_along (after hs (Halt (n + 1))) (stopped_of hs n) h_ends).retired ∙ (retired_core v.seen n ∙ h_fresh)))
 
     h_duties : b.duties ≡ v.duties
-    h_duties = h_goes.duties ∙ endings_duties v.duties (stopped_of hs n) (stopped_of_ends hs (agrees v knows) (unended_at v knows) (left_at v left) n)
+    h_duties = h_goes.duties ∙ endings_duties v.duties (stopped_of hs n) h_ends
 
     -- as the state with its requests has it
     h_whole : GoesOn v b (Halt ((state_at v.seen).serial + 1) ∷ stopped_of (state_at v.seen) (state_at v.seen).serial)
@@ -126,7 +148,7 @@ module _ {T : Type 0} where
       h_halt ds are runs = record {
         settles = settles_with v b x (Halt ((state_at v.seen).serial + 1) ∷ stopped_of (state_at v.seen) (state_at v.seen).serial) n due ds h_whole h_duties is are;
         running = runs;
-        due = due_later b x n (state_at v.seen).serial due log ds f (ap (λ (z : View T). z.seen) is) told are current;
+        due = due_later b x n (state_at v.seen).serial due log ds f (ap (λ (z : View T). z.seen) is) told are current (λ came. retires_later b n log f h_low h_unretired h_stopped (sym told ∙ came));
       }
 
       pub h_quiet : x.unsettled ≡ None

@@ -16,7 +16,7 @@ use Rattle.cd_legal.specs.Signing.{IsHistory}
 use Rattle.cd_gate.specs.declared.view.View.{View}
 use Rattle.cd_gate.specs.Growing.{all_signed}
 use Rattle.cd_gate.specs.Steps.{first_view, worn}
-use Rattle.cd_hall.specs.Dues.{DueThen, DueLater}
+use Rattle.cd_hall.specs.Dues.{DueThen, MayRetireAll, DueLater}
 use Rattle.cd_hall.specs.Spread.{Starts, Spread}
 use Rattle.cd_life.specs.Shares.{conf_in}
 use Rattle.cd_hall.specs.declared.cache.Cache.{Cache}
@@ -65,6 +65,16 @@ not_two is = none_is (sym is)
 not_other : DueThen halted 0 (1 ∷ []) → ⊥
 not_other is = ⊎_elim (λ none. none_is (sym none)) (λ one. one_is_zero (first_is 1 0 one)) is
 
+-- while a request runs under serial 0 it may not be retired; then it may
+abbrev Retirings : Type 0
+Retirings = MayRetireAll one_left [] × MayRetireAll (record one_left { tickets = [] }) (0 ∷ [])
+
+retirings : Retirings
+retirings = (refl, refl)
+
+not_retired_yet : MayRetireAll one_left (0 ∷ []) → ⊥
+not_retired_yet is = absurd (let h : false ≡ true = is in cc)
+
 -- pass 1 has begun a request, and pass 0 has halted the host: whether the duty comes with the halt depends on whether the request has
 -- ended by then, but no other duty comes
 abbrev with_request : List Signed
@@ -74,7 +84,7 @@ of_request : IsHistory with_request
 of_request = record { is_legal = refl; is_signed = refl }
 
 later_none : DueLater with_request 0 []
-later_none = record { later = with_request; history = of_request; seen_first = ([], refl); same = refl; due = refl }
+later_none = record { later = with_request; history = of_request; seen_first = ([], refl); same = refl; due = refl; may = refl }
 
 later_one : DueLater with_request 0 (0 ∷ [])
 later_one = record {
@@ -83,6 +93,7 @@ later_one = record {
   seen_first = (signed 1 (Finish 1) ∷ [], refl);
   same = refl;
   due = refl;
+  may = refl;
 }
 
 one_or_none : (b : Bool) → ◌≡◌ {A = List ℕ} (1 ∷ []) (cond b (0 ∷ []) []) → ⊥

@@ -1,4 +1,4 @@
--- What a pass has made since it took the turn.
+-- What a pass has made between two of its views, by the places of its entries.
 use Rattle.std.specs.Prelude.{◌≡◌, ℕ, List, [], ◌∷◌, ◌++◌}
 use mathlib.Core.List.{IsPrefix}
 use Rattle.cd_legal.specs.declared.entry.Signed.{Signed}
@@ -10,13 +10,13 @@ use Rattle.cd_gate.specs.Growing.{all_signed, owes_after}
 use Rattle.cd_gate.specs.Words.{owed}
 use Rattle.cd_hall.specs.Spread.{Starts}
 
--- what a pass has seen that made these entries: the history up to and with the last of them, or what was found where there is none
+-- the history up to and including the last of these entries, or what was found where there is none
 abbrev pub reached : ℕ → List Signed → List Placed → List Signed
 reached k found [] = found
 reached k found (p ∷ ps) = through k (p ∷ ps)
 
--- a pass that had the view v took the turn; in it, it has made these entries, each where it stands, and has the view w. Others have
--- begun and ended requests in between. What was found is the history right before the first of them
+-- between its views v and w a pass has made these entries, each at its place; those of others may come in between. What was found is
+-- the history right before the first of them, or what the pass has seen where there is none. It begins with what the pass had seen
 pub record Since {T : Type 0} (v w : View T) (found : List Signed) (added : List Placed) : Type 0 where
   pub seen : IsPrefix v.seen found
   pub first : Starts found added w.seen
@@ -29,5 +29,5 @@ pub record Since {T : Type 0} (v w : View T) (found : List Signed) (added : List
   pub placed_is : placed v.number w.seen ≡ placed v.number v.seen ++ added
   pub adds : w.mine ≡ v.mine ++ all_signed v.number (placed_entries added)
   pub owes : owed w ≡ owes_after (owed v) (placed_entries added)
-  -- all else but its turn, what is unsettled, and its duties is as it was
+  -- but for what is said above, its turn, what it has checked, made ready and left unsettled, and its duties, all is as it was
   pub same : w ≡ record v { turn = w.turn; checked = w.checked; ready = w.ready; unsettled = w.unsettled; seen = w.seen; mine = w.mine; ticket = w.ticket; draft = w.draft; duties = w.duties }

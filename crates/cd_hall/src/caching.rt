@@ -11,7 +11,7 @@ ghost use Rattle.cd_gate.specs.Steps.{worn};
 ghost use Rattle.cd_gate.specs.Tables.{Found};
 ghost use Rattle.cd_hall.specs.Caches.{IsCacheOf, IfReady, IfStale, IfWorn, cached};
 ghost use Rattle.cd_hall.specs.Calls.{IsPassOf, duties_in};
-ghost use Rattle.cd_hall.specs.Dues.{DueThen};
+ghost use Rattle.cd_hall.specs.Dues.{DueThen, MayRetireAll};
 ghost use Rattle.cd_hall.specs.Requests.{BegunNow};
 ghost use Rattle.cd_hall.specs.Tickets.{HasConfiguration, IsTicketOf};
 ghost use Rattle.cd_hall.specs.Turned.{Turned, Makes};
@@ -38,14 +38,15 @@ impl<M: ModuleSet, F: Fixtures> Hall<M, F> {
     /// shares nothing.
     ///
     /// It is `Ready` exactly where the cache has the configuration of the serial under which the request began, and `Stale` where it
-    /// has another or none. `Worn` comes exactly where 2^39 requests or more had begun under the current serial when the pass looked;
-    /// nothing is added then.
+    /// has another or none. The ticket that comes with `Ready` is the one that the cache had. `Worn` comes exactly where 2^39 requests
+    /// or more had begun under the current serial when the pass looked; nothing is added then.
     pub fn begin_now(&self, pass: &mut Pass<Board<M, F>>, cache: &mut Cache<M>) -> Now<M>
         requires pass { IsPassOf self.now pass.old }
         requires free { (view pass.old).ticket ≡ None }
         requires cache { IsCacheOf (view pass.old) cache.old }
         ensures pass { IsPassOf self.now pass.new }
         ensures ready { IfReady result (λ ticket. (log : List Signed) × BegunNow (view pass.old) (view pass.new) ticket.serial log × (cached cache.old ≡ Some ticket.serial) × (cache.new.ticket ≡ None) × IsTicketOf (view pass.new) ticket) }
+        ensures taken { IfReady result (λ ticket. cache.old.ticket ≡ Some ticket) }
         ensures stale { IfStale result (λ hold. (log : List Signed) × BegunNow (view pass.old) (view pass.new) hold.serial log × (cached cache.old ≢ Some hold.serial) × (cache.new ≡ cache.old)) }
         ensures hold { IfStale result (λ hold. (view pass.new).ticket ≡ Some hold.serial) }
         ensures worn { IfWorn result ((log : List Signed) × Found (view pass.old) log × (MAX_BEGINS ≤ begins_in log (state_at log).serial) × (view pass.new ≡ worn (view pass.old) log) × (cache.new ≡ cache.old)) }
@@ -82,6 +83,7 @@ impl<M: ModuleSet, F: Fixtures> Hall<M, F> {
         ensures same_duties { IfOk result (λ ticket. (view pass.new).duties ≡ (view pass.old).duties) }
         ensures finishes { IfErr result (λ none. (found : List Signed) × Turned (view pass.old) (view pass.new) found (Finish (view pass.old).number ∷ []) × (ticket_of (view pass.old).number (state_at found).tickets ≡ Some hold.serial)) }
         ensures due { IfErr result (λ none. (found : List Signed) → Turned (view pass.old) (view pass.new) found (Finish (view pass.old).number ∷ []) → DueThen (state_at found) hold.serial (duties_in none.duty)) }
+        ensures may { IfErr result (λ none. MayRetireAll (state_at (view pass.new).seen) (duties_in none.duty)) }
         ensures duties { IfErr result (λ none. (view pass.new).duties ≡ duties_in none.duty ++ (view pass.old).duties) }
         ensures cache { cache.new.ticket ≡ None }
     {
@@ -136,6 +138,7 @@ impl<M: ModuleSet, F: Fixtures> Hall<M, F> {
         ensures pass { IsPassOf self.now pass.new }
         ensures finishes { (found : List Signed) × Turned (view pass.old) (view pass.new) found (Finish (view pass.old).number ∷ []) × (ticket_of (view pass.old).number (state_at found).tickets ≡ Some ticket.serial) }
         ensures due { (found : List Signed) → Turned (view pass.old) (view pass.new) found (Finish (view pass.old).number ∷ []) → DueThen (state_at found) ticket.serial (duties_in result) }
+        ensures may { MayRetireAll (state_at (view pass.new).seen) (duties_in result) }
         ensures duties { (view pass.new).duties ≡ duties_in result ++ (view pass.old).duties }
         ensures kept { cache.new.ticket ≡ Some ticket }
         ensures cache { IsCacheOf (view pass.new) cache.new }

@@ -12,13 +12,14 @@ ghost use Rattle.cd_legal.specs.Legal.{state_at};
 ghost use Rattle.cd_legal.specs.Placed.{Placed, placed_entries};
 ghost use Rattle.cd_legal.specs.Serials.{last_conf, publishings};
 ghost use Rattle.cd_legal.specs.Signing.{IsHistory};
+ghost use Rattle.cd_legal.specs.State.{ticket_of};
 ghost use Rattle.cd_gate.specs.declared.view.View.{View};
 ghost use Rattle.cd_gate.specs.Counts.{begins_in};
 ghost use Rattle.cd_gate.specs.Growing.{Places, all_signed};
 ghost use Rattle.cd_gate.specs.Steps.{with_turn, without_turn, checking, worn, noted, superseded, settled};
 ghost use Rattle.cd_gate.specs.Tables.{Found, FoundInTurn, Begins, Ends};
 ghost use Rattle.cd_hall.specs.Caches.{IsCacheOf};
-ghost use Rattle.cd_hall.specs.Dues.{DueThen};
+ghost use Rattle.cd_hall.specs.Dues.{DueThen, MayRetireAll};
 ghost use Rattle.cd_hall.specs.Requests.{BegunNow};
 ghost use Rattle.cd_hall.specs.Since.{Since};
 ghost use Rattle.cd_hall.specs.Spread.{Spread};
@@ -60,10 +61,18 @@ pub fn the_beginning_of_a_request_is_one_entry<T: Stands>()
     ensures counted { (log : List Signed) → IsHistory log → begins_in log (state_at log).serial ≡ begins_now (entries log) }
 {}
 
-/// The end of a request is one entry, and its duty is the one that the state before it asks for.
+/// The end of a request is one entry, and its duty is the one that the state before it asks for. Its serial may then be retired.
 pub fn the_end_of_a_request_is_one_entry<T: Stands>()
     ensures turned { (v w : View T) (serial : ℕ) (due : Bool) (log : List Signed) → Ends v w serial due log → Turned v w log (Finish v.number ∷ []) }
     ensures duty { (v w : View T) (serial : ℕ) (due : Bool) (log : List Signed) → Ends v w serial due log → DueThen (state_at log) serial (cond due (serial ∷ []) []) }
+    ensures may { (v w : View T) (serial : ℕ) (due : Bool) (log : List Signed) → Ends v w serial due log → MayRetireAll (state_at w.seen) (cond due (serial ∷ []) []) }
+{}
+
+/// In one history two ends of requests that both give the duty of a serial are the same entry of the same pass.
+pub fn one_end_gives_the_duty_of_a_serial<T: Stands>()
+    ensures { (v w x y : View T) (found other log : List Signed) (n : ℕ) → Turned v w found (Finish v.number ∷ []) → Turned x y other (Finish x.number ∷ []) →
+        IsHistory log → IsPrefix w.seen log → IsPrefix y.seen log → ticket_of v.number (state_at found).tickets ≡ Some n → ticket_of x.number (state_at other).tickets ≡ Some n →
+        MayRetireAll (state_at w.seen) (n ∷ []) → MayRetireAll (state_at y.seen) (n ∷ []) → (found ≡ other) × (v.number ≡ x.number) }
 {}
 
 /// Without Begin and Finish a history is one too, and has the same calls of fixtures, failed keys, publishings, and configuration.

@@ -13,9 +13,10 @@
 //! turn where its entries stand; beginning.rt makes a hall; requests.rt begins and ends requests, caching.rt does so without
 //! waiting, with what a cache (cache.rt) keeps of the last request, and tickets.rt reads their tickets; drafting.rt makes drafts
 //! and what they consist of. publishing.rt, abandoning.rt, retiring.rt and halting.rt end in the same turn what they supersede,
-//! give up or retire, by superseding.rt and stopping.rt; a superseded serial is settled at last. closing.rt lets passes tell one
-//! another what they have seen, and brings them together at the end. Tickets, drafts, duties, holds and caches are values that are
-//! not dropped. Only `new`, `begin`, `fetch` and `draft` take memory.
+//! give up or retire, by superseding.rt and stopping.rt; a superseded serial is settled at last. What they take out of the board
+//! leaves the turn with them, and freeing.rt frees it. closing.rt lets passes tell one another what they have seen, and brings them
+//! together at the end. Tickets, drafts, duties, holds and caches are values that are not dropped. Only `new`, `begin`, `fetch` and
+//! `draft` take memory.
 #![tactic(auto)]
 
 mod abandoning;
@@ -26,6 +27,7 @@ mod closing;
 mod drafting;
 mod duty;
 mod faults;
+mod freeing;
 mod hall;
 mod halting;
 mod kept;
@@ -47,7 +49,8 @@ pub use faults::{BeginFault, Halted, KeyFailed, NoFetch};
 pub use hall::{Hall, Ticket};
 pub use kept::Kept;
 pub use laws::{
-    caches_keep_their_configurations, requests_begin_under_their_tickets, requests_leave_all_else,
+    caches_keep_their_configurations, one_end_gives_the_duty_of_a_serial,
+    requests_begin_under_their_tickets, requests_leave_all_else,
     the_beginning_of_a_request_is_one_entry, the_end_of_a_request_is_one_entry,
     tickets_keep_their_configurations, turns_go_on_by_steps, turns_place_their_entries,
     turns_spread_their_entries, turns_spread_what_they_made,

@@ -5,7 +5,7 @@ ghost use Rattle.cd_legal.specs.declared.entry.Signed.{Signed};
 ghost use Rattle.cd_legal.specs.declared.limits.TheConstants.{MAX_BEGINS};
 ghost use Rattle.cd_legal.specs.Begins.{begins_now};
 ghost use Rattle.cd_legal.specs.Entry.{entries};
-ghost use Rattle.cd_legal.specs.Legal.{state_at};
+ghost use Rattle.cd_legal.specs.Legal.{state_at, may_retire};
 ghost use Rattle.cd_legal.specs.Placed.{Placed};
 ghost use Rattle.cd_legal.specs.State.{ticket_of};
 ghost use Rattle.cd_legal.specs.Whole.{nothing_left};
@@ -17,7 +17,7 @@ ghost use Rattle.cd_gate.specs.Tables.{Found, FoundInTurn};
 ghost use Rattle.cd_life.specs.Standing.{Stood};
 ghost use Rattle.cd_hall.specs.declared.faults.BeginFault.TheVariants as fault;
 ghost use Rattle.cd_hall.specs.Calls.{IsPassOf, StaysCalm, duties_in};
-ghost use Rattle.cd_hall.specs.Dues.{DueThen};
+ghost use Rattle.cd_hall.specs.Dues.{DueThen, MayRetireAll};
 ghost use Rattle.cd_hall.specs.Requests.{BegunNow, HasLooked};
 ghost use Rattle.cd_hall.specs.Tickets.{IsTicketOf, HasBegun};
 ghost use Rattle.cd_hall.specs.Turned.{Turned, Makes};
@@ -92,14 +92,16 @@ impl<M: ModuleSet, F: Fixtures> Hall<M, F> {
         }
     }
 
-    /// Ends the request, by one atomic step, which waits for nobody. A duty comes where its serial is superseded, its apps are
-    /// stopped, and no request runs under it any more. The pass that halted may have the duty of the serial before the halt.
+    /// Ends the request, by one atomic step, which waits for nobody. The duty of its serial comes exactly where this is superseded
+    /// and no other request runs under it; but where the halt has superseded it, the duty may also not come. Where it comes the
+    /// serial may be retired: its apps are stopped, and no request runs under it.
     pub fn finish(&self, ticket: Ticket<M>, pass: &mut Pass<Board<M, F>>) -> Option<Duty>
         requires pass { IsPassOf self.now pass.old }
         requires ticket { IsTicketOf (view pass.old) ticket }
         ensures pass { IsPassOf self.now pass.new }
         ensures finishes { (found : List Signed) × Turned (view pass.old) (view pass.new) found (Finish (view pass.old).number ∷ []) × (ticket_of (view pass.old).number (state_at found).tickets ≡ Some ticket.serial) }
         ensures due { (found : List Signed) → Turned (view pass.old) (view pass.new) found (Finish (view pass.old).number ∷ []) → DueThen (state_at found) ticket.serial (duties_in result) }
+        ensures may { MayRetireAll (state_at (view pass.new).seen) (duties_in result) }
         ensures duties { (view pass.new).duties ≡ duties_in result ++ (view pass.old).duties }
     {
         let halted = ticket.halted();
@@ -159,6 +161,7 @@ pub(crate) fn end_request<T: Stands>(
     requires halted { halted ≡ ((state_at (view pass.old).seen).halted && (serial == (state_at (view pass.old).seen).serial)) }
     ensures pass { IsIdleOf gate.now pass.new }
     ensures finishes { (found : List Signed) × Turned (view pass.old) (view pass.new) found (Finish (view pass.old).number ∷ []) × (ticket_of (view pass.old).number (state_at found).tickets ≡ Some serial) × DueThen (state_at found) serial (cond result (serial ∷ []) []) }
+    ensures may { result ≡ true → may_retire (state_at (view pass.new).seen) serial ≡ true }
     ensures duties { (view pass.new).duties ≡ more_due result serial (view pass.old).duties }
 {
     gate.finish_step(pass, serial, halted)

@@ -12,9 +12,9 @@ clean_all-requires-clause-stopped g c κs within = ap (λ (z : Closing). z.apps)
 pub clean_all-requires-clause-may : goal.clean_all-requires-clause-may
 clean_all-requires-clause-may g c κs within more =
     let l = c.args.draft.left in
-    let number = number_is l.number l.made l.started c.note_abandon-closing.result c.note_abandon-closing.ensures.closing in
+    let number = number_is l.number l.made l.started c.note_abandon-removed.result.closing c.note_abandon-removed.ensures.closing in
     subst (λ z. MayClean c.stop_all.new.turn.value.desk.books z) (sym (ap (λ (z : Closing). z.number) c.stop_all.ensures.closing))
-    (c.stop_all.ensures.clean (subst (λ z. MayClean c.note_abandon-closing.new.turn.value.desk.books z) (sym number) c.note_abandon-closing.ensures.clean))
+    (c.stop_all.ensures.clean (subst (λ z. MayClean c.note_abandon-removed.new.turn.value.desk.books z) (sym number) c.note_abandon-removed.ensures.clean))
 
 pub closed-requires-clause-apps : goal.closed-requires-clause-apps
 closed-requires-clause-apps g c κs within = ap (λ (z : Closing). z.apps) c.clean_all.ensures.closing ∙ ap (λ (z : Closing). z.apps) c.stop_all.ensures.closing
@@ -28,13 +28,13 @@ returns-clause-turn g c = kept_turn g.F.Fixtures.calls g.F.Fixtures.faults g.M.M
 pub returns-clause-goes : goal.returns-clause-goes
 returns-clause-goes g c =
     let l = c.args.draft.left in
-    gave_up (view c.args.pass.now) (view c.note_abandon-closing.new.pass) (view c.stop_all.new.pass) (view c.clean_all.new.pass) l.number l.made l.started c.note_abandon-closing.result c.stop_all.new.closing
-    c.note_abandon-closing.ensures.goes c.note_abandon-closing.ensures.closing c.stop_all.ensures.goes c.stop_all.ensures.closing c.clean_all.ensures.goes
+    gave_up (view c.args.pass.now) (view c.note_abandon-removed.new.pass) (view c.stop_all.new.pass) (view c.clean_all.new.pass) l.number l.made l.started c.note_abandon-removed.result.closing c.stop_all.new.closing
+    c.note_abandon-removed.ensures.goes c.note_abandon-removed.ensures.closing c.stop_all.ensures.goes c.stop_all.ensures.closing c.clean_all.ensures.goes
 
 pub returns-clause-calm : goal.returns-clause-calm
 returns-clause-calm g c =
     let l = c.args.draft.left in
     abandoned_calm (view c.args.pass.now) (view c.clean_all.new.pass) c.args.draft c.requires.draft c.requires.turn.knows
-    (gave_up (view c.args.pass.now) (view c.note_abandon-closing.new.pass) (view c.stop_all.new.pass) (view c.clean_all.new.pass) l.number l.made l.started c.note_abandon-closing.result c.stop_all.new.closing
-    c.note_abandon-closing.ensures.goes c.note_abandon-closing.ensures.closing c.stop_all.ensures.goes c.stop_all.ensures.closing c.clean_all.ensures.goes)
-    (c.clean_all.ensures.unsettled ∙ (c.stop_all.ensures.unsettled ∙ c.note_abandon-closing.ensures.unsettled)) c.requires.left
+    (gave_up (view c.args.pass.now) (view c.note_abandon-removed.new.pass) (view c.stop_all.new.pass) (view c.clean_all.new.pass) l.number l.made l.started c.note_abandon-removed.result.closing c.stop_all.new.closing
+    c.note_abandon-removed.ensures.goes c.note_abandon-removed.ensures.closing c.stop_all.ensures.goes c.stop_all.ensures.closing c.clean_all.ensures.goes)
+    (c.clean_all.ensures.unsettled ∙ (c.stop_all.ensures.unsettled ∙ c.note_abandon-removed.ensures.unsettled)) c.requires.left

@@ -1,7 +1,7 @@
 use Rattle.std.proofs.Common.{ap}
 use Rattle.cd_gate.specs.declared.view.View.{View}
 use Rattle.cd_gate.specs.Passes.{view}
-use Rattle.cd_hall.proofs.DueThen.{due_then, turned_by_finish}
+use Rattle.cd_hall.proofs.DueThen.{due_then, finish_may, turned_by_finish}
 use Rattle.cd_hall.proofs.requests.end_request.Goals as goal
 
 pub returns-clause-finishes : goal.returns-clause-finishes
@@ -14,6 +14,11 @@ returns-clause-finishes g c =
       t.1.running,
       due_then v w c.args.serial c.finish_step.result t.0 t.1,
     )
+
+pub returns-clause-may : goal.returns-clause-may
+returns-clause-may g c =
+    let t = c.finish_step.ensures.ends in
+    finish_may (view c.args.pass.now) (view c.finish_step.new.pass) c.args.serial c.finish_step.result t.0 t.1
 
 pub returns-clause-duties : goal.returns-clause-duties
 returns-clause-duties g c = let t = c.finish_step.ensures.ends in ap (λ (z : View g.row.T.Denot). z.duties) t.1.is

@@ -27,6 +27,9 @@ returns-in-Some-take_at-clause-ready g c =
       ticket_ready v w c.args.cache.now t c.in-Some.serial b.0 c.requires.cache h.0 h.1 b.1,
     )
 
+pub returns-in-Some-take_at-clause-taken : goal.returns-in-Some-take_at-clause-taken
+returns-in-Some-take_at-clause-taken g c = let h = c.in-Some-take_at.ensures.here in h.0
+
 pub returns-in-None-clause-cache : goal.returns-in-None-clause-cache
 returns-in-None-clause-cache g c =
     let v = view c.args.pass.now in

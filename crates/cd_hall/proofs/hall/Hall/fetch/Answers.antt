@@ -1,6 +1,8 @@
 use Rattle.std.proofs.Common.{Some, sym, ap, ◌∙◌}
+use Rattle.cd_legal.specs.Legal.{state_at}
 use Rattle.cd_gate.specs.Passes.{view}
 use Rattle.cd_hall.proofs.Cached.{pass_ended, ends_then, runs_then, duties_then}
+use Rattle.cd_hall.proofs.DueThen.{duty_may}
 use Rattle.cd_hall.proofs.Requested.{finish_due, finish_duties}
 use Rattle.cd_hall.proofs.hall.Hall.fetch.Goals as goal
 
@@ -38,6 +40,9 @@ returns-in-Err-clause-due g c found u =
     let m = c.ticket_at.ensures.makes in
     let t = c.end_request-due.ensures.finishes in
     finish_due v x t.0 found c.args.hold.serial _ _ (ends_then v w x m.0 t.0 m.1 c.ticket_at.ensures.same t.1) t.3 c.duty_of.ensures u
+
+pub returns-in-Err-clause-may : goal.returns-in-Err-clause-may
+returns-in-Err-clause-may g c = duty_may (state_at (view c.end_request-due.new.pass).seen) c.end_request-due.result c.args.hold.serial _ c.end_request-due.ensures.may c.duty_of.ensures
 
 pub returns-in-Err-clause-duties : goal.returns-in-Err-clause-duties
 returns-in-Err-clause-duties g c =
