@@ -1,11 +1,12 @@
 -- What is acknowledged had been kept first.
-use Rattle.std.proofs.Common.{◌≡◌, ◌⊎◌, ◌<◌, ◌∙◌, ◌++◌, ◌+◌, ℕ, zero, suc, Bool, true, false, List, Some, None, [], ◌∷◌, length, inl, inr, refl, ap, sym, subst, arith}
+use Rattle.std.proofs.Common.{◌≡◌, ◌⊎◌, ◌<◌, ◌∙◌, ◌++◌, ◌+◌, ℕ, zero, suc, Bool, true, false, List, Option, Some, None, [], ◌∷◌, length, inl, inr, refl, ap, sym, subst, arith}
 use Rattle.std.specs.Prelude.{if◌then◌else◌, Contains}
 use Rattle.std.proofs.lemmas.List.{length-append, length-map, map-append, get_or-map}
 use Rattle.std.proofs.lemmas.List.Elements.{Contains-append_left, Contains-append_right, Contains-push}
 use Rattle.cd_outside.specs.declared.address.Address.{Address}
 use Rattle.cd_outside.specs.declared.past.KeepRecord.{KeepRecord}
 use Rattle.cd_outside.specs.declared.past.Logged.{Logged}
+use Rattle.cd_outside.specs.declared.past.Past.{Past}
 use Rattle.cd_tree.specs.declared.tree.Tree.{Tree}
 use Rattle.cd_tree.specs.Tree.{text}
 use Rattle.cd_wire.specs.declared.answer.Answer.{Answer}
@@ -19,13 +20,16 @@ use Rattle.cd_legal.specs.Serials.{publishings}
 use Rattle.cd_legal.specs.State.{Conf, draft_of}
 use Rattle.cd_admin.specs.Admin.{persists}
 use Rattle.cd_admin.specs.Deciding.{replace, decided}
+use Rattle.cd_serve.specs.declared.how.How.{How}
+use Rattle.cd_serve.specs.declared.how.How.TheVariants as how
 use Rattle.cd_serve.specs.Meanings.{Meaning, Sent, BreaksOff, Decides, kept_after, keeps_of}
 use Rattle.cd_serve.specs.Retirements.{Retirement, IsRetirement, due}
 use Rattle.cd_serve.specs.Changes.{IsGivenUp, IsHalting}
 use Rattle.cd_serve.specs.Episodes.{Episode, Kind, Outcome, Answers, Ends, Replaces}
 use Rattle.cd_serve.specs.Replies.{Reply, IsReply, AreReplies, all_sent}
-use Rattle.cd_serve.specs.Requests.{keeps_as, text_to_keep}
+use Rattle.cd_serve.specs.Requests.{IsSent, IsToKeep, keeps_as, text_to_keep}
 use Rattle.cd_serve.specs.Keeping.{HasPublished, AreKeptFirst}
+use Rattle.cd_serve.proofs.Sends.{sent-untold}
 use Rattle.cd_serve.proofs.Unpublished.{none-both, made-none, started-none, stopped-none, cleaned-none, until-none, undone-none, for-none}
 
 -- ---- what is kept
@@ -35,8 +39,15 @@ keeps-by serial tree true = refl
 keeps-by serial tree false = refl
 
 -- by the text of a tree is kept what is to be kept of it
-pub keeps-same : (serial : ℕ) (tree : Tree) → keeps_as serial (text_to_keep tree) ≡ keeps_of serial tree
+keeps-same : (serial : ℕ) (tree : Tree) → keeps_as serial (text_to_keep tree) ≡ keeps_of serial tree
 keeps-same serial tree = keeps-by serial tree (persists tree)
+
+-- with what was written out to be kept is sent what is to be sent
+pub sent-kept : (serial : ℕ) (tree : Tree) (bytes : Option (List ℕ)) (h : How) (q : Request) (r : Answer) (old new : Option Past) → IsToKeep old tree bytes → ¬ (h ≡ how.NoMemory) → IsSent h q r [] (keeps_as serial bytes) old new
+    → IsSent h q r [] (keeps_of serial tree) old new
+sent-kept serial tree bytes h q r old new (inl is) made s = subst (λ (keeps : List KeepRecord). IsSent h q r [] keeps old new) (ap (keeps_as serial) is ∙ keeps-same serial tree) s
+sent-kept serial tree bytes h q r old new (inr none) made s =
+    sent-untold (keeps_of serial tree) h q r [] old new none.1 made (subst (λ (some : Option (List ℕ)). IsSent h q r [] (keeps_as serial some) old new) none.0 s)
 
 -- what is to be kept is kept
 pub one-kept : (serial : ℕ) (tree : Tree) → persists tree ≡ true → keeps_of serial tree ≡ record { put = 0; serial = serial; text = text tree } ∷ []

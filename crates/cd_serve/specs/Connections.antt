@@ -67,7 +67,7 @@ module _ (m : Meaning) (k : ℕ) (history : List Signed) (own : List Placed) (at
   EndsBy (Way.interrupted Interruption.lacking) = LastIs Outcome.lacking replies × (again ≡ []) × (fixed ≡ [])
   EndsBy (Way.interrupted Interruption.logging) = LastIs Outcome.unlogged replies × (again ≡ []) × (fixed ≡ [])
   EndsBy (Way.interrupted Interruption.reading) = AllGoOn replies × (again ≡ []) × (fixed ≡ [])
-  EndsBy (Way.interrupted Interruption.beginning) = AllGoOn replies × HasFurther m k at rest again × (fixed ≡ [])
+  EndsBy (Way.interrupted Interruption.beginning) = ⊥
   EndsBy (Way.interrupted Interruption.wearing) = AllGoOn replies × HasFurther m k at rest again × IsWorn k history own × IsProperPrefix fixed (refusal_bytes 503)
   EndsBy (Way.interrupted (Interruption.refusing fault)) =
       AllGoOn replies × IsTail rest ended (Tail.refused fault) × (again ≡ []) × IsProperPrefix fixed (refusal_bytes (status_of fault))

@@ -1,5 +1,5 @@
 -- What serving one request does, call by call.
-use Rattle.std.specs.Prelude.{◌≡◌, ◌++◌, ◌∷◌, ℕ, Bool, true, false, List, [], Option, Some, None, option_map, ◌≤◌, ◌<◌, if◌then◌else◌, length, ◌+◌, IfSome}
+use Rattle.std.specs.Prelude.{◌≡◌, ◌⊎◌, ◌++◌, ◌∷◌, ℕ, Bool, true, false, List, [], Option, Some, None, option_map, ◌≤◌, ◌<◌, if◌then◌else◌, length, ◌+◌, IfSome}
 use mathlib.Core.List.{IsPrefix}
 use Rattle.cd_text.specs.Steps.{joined}
 use Rattle.cd_outside.specs.declared.address.Address.{Address}
@@ -109,16 +109,20 @@ pub record IsLogged (whole : Bool) (all : List Logged) (old new : Option Past) :
 abbrev pub text_to_keep : Tree → Option (List ℕ)
 text_to_keep tree = if persists tree then Some (text tree) else None
 
+-- a lane that has told this is to keep the configuration by this text, where there is one; one that tells nothing may be spared it
+abbrev pub IsToKeep : Option Past → Tree → Option (List ℕ) → Type 0
+IsToKeep told tree bytes = (bytes ≡ text_to_keep tree) ⊎ ((bytes ≡ None) × (told ≡ None))
+
 -- what is kept by this text as a serial, before anything is put
 abbrev pub keeps_as : ℕ → Option (List ℕ) → List KeepRecord
 keeps_as serial None = []
 keeps_as serial (Some bytes) = record { put = 0; serial = serial; text = bytes } ∷ []
 
--- what acknowledges the change to this tree, by this answer to a request under a serial, was written out
-pub record IsReady (a : Acknowledgement) (serial : ℕ) (tree : Tree) (q : Request) (r : Answer) : Type 0 where
+-- what acknowledges the change to this tree on a lane that has told this, by this answer to a request under a serial, was written out
+pub record IsReady (a : Acknowledgement) (serial : ℕ) (tree : Tree) (told : Option Past) (q : Request) (r : Answer) : Type 0 where
   pub bytes : a.bytes ≡ sent q r
   pub serial_is : a.serial ≡ serial + 1
-  pub text_is : a.text ≡ text_to_keep tree
+  pub text_is : IsToKeep told tree a.text
   pub short : IfSome a.text (λ bytes. length bytes ≤ MAX_KEPT_BYTES)
 
 -- configurations that were kept, and nothing else

@@ -10,7 +10,7 @@ ghost use Rattle.cd_serve.specs.Requests.{ActedQuietly, HasActed, KeepsConnectio
 
 use crate::changing::{halt, replace};
 use crate::how::How;
-use crate::replying::reply_with;
+use crate::replying::{reply_by, reply_with};
 use crate::responding::respond;
 use cd_admin::{Administered, Decision, decide};
 use cd_gate::Pass;
@@ -24,7 +24,7 @@ use std::alloc::Global;
 use std::sync::Wait;
 
 /// Does what the configuration of the ticket says for the request. None where it is to be decided again, since another pass was
-/// first.
+/// first. The answer of an app is written in place of what the vector holds.
 pub(crate) fn act<R: Wait, M: Administered, F: Fixtures, L: Lane>(
     rt: &R,
     alloc: Global,
@@ -32,6 +32,7 @@ pub(crate) fn act<R: Wait, M: Administered, F: Fixtures, L: Lane>(
     pass: &mut Pass<Board<M, F>>,
     ticket: &Ticket<M>,
     lane: &mut L,
+    out: &mut Vec<u8>,
     at: &Address,
     request: &Request,
 ) -> Option<How>
@@ -43,7 +44,7 @@ pub(crate) fn act<R: Wait, M: Administered, F: Fixtures, L: Lane>(
     let responder = M::target(ticket.compiled(), at);
     match responder.target {
         Target::Nobody => Some(unanswered(ticket)),
-        Target::App => Some(answer_by_app(alloc, ticket, lane, at, responder, request)),
+        Target::App => Some(answer_by_app(alloc, ticket, lane, out, at, responder, request)),
         Target::Admin => act_by_admin(rt, alloc, hall, pass, ticket, lane, at, request),
     }
 }
@@ -65,6 +66,7 @@ fn answer_by_app<M: ModuleSet, L: Lane>(
     alloc: Global,
     ticket: &Ticket<M>,
     lane: &mut L,
+    out: &mut Vec<u8>,
     at: &Address,
     responder: Responder,
     request: &Request,
@@ -77,9 +79,10 @@ fn answer_by_app<M: ModuleSet, L: Lane>(
     ensures running { ¬ (result ≡ how.Halted) }
 {
     match respond(alloc, ticket, at, responder, request) {
-        Ok(response) => reply_with(
+        Ok(response) => reply_by(
             alloc,
             lane,
+            out,
             request,
             &response.answer,
             response.lines.as_slice(),

@@ -50,7 +50,7 @@ pub(crate) fn replace<R: Wait, M: Administered, F: Fixtures, L: Lane>(
     ensures running { ¬ (result ≡ Some how.Halted) }
 {
     let answer = done(alloc);
-    match write_out(alloc, ticket, &loaded, request, &answer) {
+    match write_out(alloc, &*lane, ticket, &loaded, request, &answer) {
         Ok(ready) => make(
             rt, alloc, hall, pass, ticket, lane, at, request, loaded, &ready, &answer,
         ),
@@ -75,7 +75,7 @@ fn make<R: Wait, M: Administered, F: Fixtures, L: Lane>(
     requires may { MayAct hall.now pass.old ticket.now (L.busy lane.old) }
     requires asks { Asks M.change (conf_in ticket.now.share) request.now loaded.tree }
     requires decides { Decides (record { acts = M.acts; plan = M.plan }) (conf_in ticket.now.share) at.now request.now (replaces loaded.tree) }
-    requires ready { IsReady ready.now ticket.now.serial loaded.tree request.now answer.now }
+    requires ready { IsReady ready.now ticket.now.serial loaded.tree (L.past lane.old) request.now answer.now }
     requires answer { answer.now ≡ done }
     ensures acted { HasActed (record { acts = M.acts; plan = M.plan }) hall.now ticket.now at.now request.now result pass.old pass.new (L.past lane.old) (L.past lane.new) }
     ensures lane { KeepsConnection (is_fault_in result ≡ true) (L.busy lane.new) (L.faults lane.old) (L.faults lane.new) }

@@ -93,7 +93,8 @@ fn serve_next<R: Wait, M: Administered, F: Fixtures, L: Lane>(
 {
     match session.intake.next(session.ended) {
         Ok(Next::Request(request)) => {
-            let how = serve_request(rt, alloc, hall, pass, cache, lane, at, &request);
+            let out = &mut session.output;
+            let how = serve_request(rt, alloc, hall, pass, cache, lane, out, at, &request);
             after_request::<Board<M, F>, L>(session, lane, how)
         }
         Ok(Next::More) => read_more(session, lane),

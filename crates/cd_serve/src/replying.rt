@@ -8,7 +8,7 @@ ghost use Rattle.cd_serve.specs.Meanings.{logged, sent};
 ghost use Rattle.cd_serve.specs.Requests.{is_fault, IsLogged, IsSent, KeepsConnection};
 
 use crate::how::How;
-use crate::sending::{says_close, sent};
+use crate::sending::{says_close, sent, spare, write_sent};
 use cd_module_set::Line;
 use cd_outside::{Given, Lane};
 use cd_session::put;
@@ -31,6 +31,27 @@ pub(crate) fn reply_with<L: Lane>(
         return How::NoMemory;
     };
     send(lane, request, answer, bytes.as_slice(), lines)
+}
+
+/// The same. The answer is written in place of what the vector holds.
+pub(crate) fn reply_by<L: Lane>(
+    alloc: Global,
+    lane: &mut L,
+    out: &mut Vec<u8>,
+    request: &Request,
+    answer: &Answer<'_>,
+    lines: &[Line],
+) -> How
+    requires { L.busy lane.old ≡ true }
+    ensures sent { IsSent result request.now answer.now (map logged lines.now) [] (L.past lane.old) (L.past lane.new) }
+    ensures lane { KeepsConnection (is_fault result ≡ true) (L.busy lane.new) (L.faults lane.old) (L.faults lane.new) }
+{
+    let Ok(()) = write_sent(alloc, out, request, answer) else {
+        return How::NoMemory;
+    };
+    let how = send(lane, request, answer, out.as_slice(), lines);
+    spare(alloc, out);
+    how
 }
 
 /// Sends these bytes of an answer to the request, and logs these lines. That takes no memory.

@@ -25,7 +25,8 @@ use std::sync::Wait;
 /// Serves a request that came to the address of the connection that is there. The pass owes nothing, before and after.
 ///
 /// It begins, is answered under the configuration that is current then, and finishes; where another pass was first with a change,
-/// it does so again. What it made in the history, what was sent and what was logged belong together.
+/// it does so again. What it made in the history, what was sent and what was logged belong together. The answer of an app is written in
+/// place of what the vector holds.
 pub(crate) fn serve_request<R: Wait, M: Administered, F: Fixtures, L: Lane>(
     rt: &R,
     alloc: Global,
@@ -33,6 +34,7 @@ pub(crate) fn serve_request<R: Wait, M: Administered, F: Fixtures, L: Lane>(
     pass: &mut Pass<Board<M, F>>,
     cache: &mut Cache<M>,
     lane: &mut L,
+    out: &mut Vec<u8>,
     at: &Address,
     request: &Request,
 ) -> How
@@ -46,7 +48,7 @@ pub(crate) fn serve_request<R: Wait, M: Administered, F: Fixtures, L: Lane>(
     ensures worn { result ≡ how.Worn → MAX_BEGINS ≤ begins_now (entries (view pass.new).seen) }
 {
     for _ in rt.forever() {
-        match serve_once(rt, alloc, hall, pass, cache, lane, at, request) {
+        match serve_once(rt, alloc, hall, pass, cache, lane, out, at, request) {
             Some(how) => return how,
             None => {}
         }
@@ -62,6 +64,7 @@ fn serve_once<R: Wait, M: Administered, F: Fixtures, L: Lane>(
     pass: &mut Pass<Board<M, F>>,
     cache: &mut Cache<M>,
     lane: &mut L,
+    out: &mut Vec<u8>,
     at: &Address,
     request: &Request,
 ) -> Option<How>
@@ -78,7 +81,7 @@ fn serve_once<R: Wait, M: Administered, F: Fixtures, L: Lane>(
         Ok(ticket) => ticket,
         Err(how) => return Some(how),
     };
-    let how = act(rt, alloc, hall, pass, &ticket, lane, at, request);
+    let how = act(rt, alloc, hall, pass, &ticket, lane, out, at, request);
     conclude(rt, hall, ticket, pass, cache);
     how
 }

@@ -1,13 +1,12 @@
-use Rattle.std.proofs.Common.{◌≡◌, ◌+◌, ℕ, [], List, Option, rules, subst, ap, ◌∙◌}
-use Rattle.cd_outside.specs.declared.past.KeepRecord.{KeepRecord}
+use Rattle.std.proofs.Common.{◌+◌, ℕ, [], rules, subst}
 use Rattle.cd_wire.specs.declared.answer.Answer.{Answer}
 use Rattle.cd_gate.specs.Passes.{view}
 use Rattle.cd_life.specs.Shares.{conf_in}
 use Rattle.cd_admin.specs.Answers.{done}
-use Rattle.cd_serve.specs.Meanings.{Meaning, keeps_of}
+use Rattle.cd_serve.specs.Meanings.{Meaning}
 use Rattle.cd_serve.specs.Requests.{IsSent, keeps_as}
 use Rattle.cd_serve.proofs.Acts.{acted-published, acted-refused, acted-superseded, acted-lacking}
-use Rattle.cd_serve.proofs.KeptFirst.{keeps-same}
+use Rattle.cd_serve.proofs.KeptFirst.{sent-kept}
 use Rattle.cd_serve.proofs.changing.make.Goals as goal
 
 pub returns-in-Published-clause-acted : goal.returns-in-Published-clause-acted
@@ -17,16 +16,18 @@ returns-in-Published-clause-acted g c =
     let v = view c.args.pass.now in
     let w = view c.attempt_change.new.pass in
     let ready = c.requires.ready in
-    let kept : keeps_as c.args.ready.now.serial c.args.ready.now.text ≡ keeps_of (c.args.ticket.now.serial + 1) c.args.loaded.tree =
-    ap (λ (n : ℕ). keeps_as n c.args.ready.now.text) ready.serial_is
-    ∙ (ap (λ (made : Option (List ℕ)). keeps_as (c.args.ticket.now.serial + 1) made) ready.text_is ∙ keeps-same (c.args.ticket.now.serial + 1) c.args.loaded.tree) in
+    let old = g.L.Lane.past c.args.lane.now in
+    let new = g.L.Lane.past c.acknowledge.new.lane in
+    let next = c.args.ticket.now.serial + 1 in
+    let kept = sent-kept next c.args.loaded.tree c.args.ready.now.text c.acknowledge.result c.args.request.now done old new ready.text_is c.acknowledge.ensures.made
+    (subst (λ (n : ℕ). IsSent c.acknowledge.result c.args.request.now done [] (keeps_as n c.args.ready.now.text) old new) ready.serial_is
+    (subst (λ (r : Answer). IsSent c.acknowledge.result c.args.request.now r [] (keeps_as c.args.ready.now.serial c.args.ready.now.text) old new) c.requires.answer c.acknowledge.ensures.sent)) in
     record {
       pass = c.attempt_change.ensures.pass;
       owes = search rules;
-      acted = acted-published m c.args.at.now c.args.request.now (conf_in c.args.ticket.now.share) c.args.ticket.now.serial v w c.args.loaded.tree a.0 c.acknowledge.result (g.L.Lane.past c.args.lane.now) (g.L.Lane.past c.acknowledge.new.lane)
+      acted = acted-published m c.args.at.now c.args.request.now (conf_in c.args.ticket.now.share) c.args.ticket.now.serial v w c.args.loaded.tree a.0 c.acknowledge.result old new
           c.requires.decides a.1 a.2
-          (subst (λ (keeps : List KeepRecord). IsSent c.acknowledge.result c.args.request.now done [] keeps (g.L.Lane.past c.args.lane.now) (g.L.Lane.past c.acknowledge.new.lane)) kept
-          (subst (λ (r : Answer). IsSent c.acknowledge.result c.args.request.now r [] (keeps_as c.args.ready.now.serial c.args.ready.now.text) (g.L.Lane.past c.args.lane.now) (g.L.Lane.past c.acknowledge.new.lane)) c.requires.answer c.acknowledge.ensures.sent)) c.acknowledge.ensures.made;
+          kept c.acknowledge.ensures.made;
     }
 
 pub returns-in-Superseded-clause-acted : goal.returns-in-Superseded-clause-acted
