@@ -10,8 +10,8 @@
 //! 4. Sites become the routes of servers, which have the numbers of groups one after another (serving.rt). Those of a site are
 //!    counted before its routes are made (counting.rt), since the last line is read first.
 //!
-//! A tree that is too long or too deep is never made: each part is kept with the length of its text and its depth, and no longer
-//! than it is shallow enough (cd_parts). Sets of matchers are shared, so a tree takes no more memory than the file does.
+//! Each part is kept with the length of its text and its depth (cd_parts), so that a tree that is too long or too deep is known
+//! before it is put together. Sets of matchers are shared.
 #![tactic(auto)]
 
 mod adapting;

@@ -60,7 +60,7 @@ impl Index {
         }
     }
 
-    /// Where a request with this path goes on from the place of a position: at the first route from there on that it may match.
+    /// Where a request with this path goes on from the place of a position. No route that it may match is passed over.
     #[tactic(auto, using(crate::proofs::Indexes::skips, crate::proofs::Indexes::falls))]
     pub(crate) fn skip(&self, position: usize, n: usize, path: &[u8]) -> usize
         ensures meaning { (places : List PlaceOf) (back : Rest) (x : SceneOf) → IsSound places self.now → path.now ≡ x.current.path → at places result back x ≡ at places n back x }

@@ -9,7 +9,7 @@ use Rattle.cd_index.specs.declared.table.Table.{Table}
 abbrev pub bucket : Table → ℕ → List ℕ
 bucket table hash = get_or table.buckets.items (hash % length table.buckets.items) []
 
--- the number has a key of this length with the hash of the text's first bytes, in lower case
+-- the number stands where a key of this length would stand that has the hash of the text's first bytes, in lower case
 abbrev pub HasKeyOf : Table → List ℕ → ℕ → ℕ → Type 0
 HasKeyOf table text n long = (get_or table.lengths.items long false ≡ true) × (long ≤ length text) × Has n (bucket table (hash (str_to_ascii_lowercase (take long text))))
 

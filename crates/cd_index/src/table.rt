@@ -115,7 +115,7 @@ impl Table {
         larger(best, found)
     }
 
-    /// The greatest number up to a limit that may have a key the text begins with, in any case; 0 where there is none.
+    /// A number up to a limit. No number up to that limit that may have a key the text begins with, in any case, is greater.
     pub fn candidate(&self, text: &[u8], limit: usize) -> usize
         ensures at_most { result ≤ limit }
         ensures greatest { (n : ℕ) → IsCandidate self.now text.now n → n ≤ limit → n ≤ result }

@@ -2,8 +2,8 @@
 //!
 //! A directive's arguments make a handler (handlers.rt), and the lines of a matcher make the set of a route (sets.rt,
 //! matchers.rt). Both are trees from their members (making.rt). What is put together from trees is made with its measures
-//! (measured.rt), so a tree that is too long or too deep is known before it is made. Sets are shared, so a configuration takes
-//! no more memory than its file does.
+//! (measured.rt), so a tree that is too long or too deep is known before it is made. The set of a named matcher is made once
+//! and shared by all lines that name it.
 //!
 //! `cd_adapt` reads the lines and lays the parts out as routes and servers.
 #![tactic(auto)]
