@@ -21,7 +21,7 @@ use cd_ids::{IdFault, Index};
 use cd_path::{EditFault, Verb, edit, look};
 use cd_tags::{IfMatchFault, Tag, holds, read_if_match, tag_of_text};
 use cd_text::{List, NoMemory, Text};
-use cd_tree::{Path, Tree, equal, print, reads_back};
+use cd_tree::{Path, Tree, equal, one_text_is_of_one_tree, print};
 use cd_wire::Field;
 use std::alloc::Global;
 
@@ -224,7 +224,6 @@ fn is_same(old: &Tree, new: &Tree) -> bool
     requires new { IsSound new.now }
     ensures { result ≡ bytes_eq (text old.now) (text new.now) }
 {
-    reads_back(old);
-    reads_back(new);
+    one_text_is_of_one_tree(old, new);
     equal(old, new)
 }

@@ -14,3 +14,4 @@ pub mod ReadBack
 pub mod Utf8Texts
 mod LastBytes
 mod SolidWords
+mod Spots

@@ -244,10 +244,21 @@ written_reads t sound utf8 lexed =
     let shallow : json.depth r.given ≤ MAX_DEPTH = rw (is_same r.given t r.tree).deep p.shallow in
     is_tree (text t) r.given t p.short (reads (text t) r.given utf8 (text_read t r sound lexed)) shallow r.tree p.short
 
+-- the text of a sound tree is cut into the tokens that it is made of, whatever the bytes of its texts
+lexed_back : (t : Tree) (r : HasReading t) → lex.tokens (text t) ≡ tokens t
+lexed_back t r =
+    let same = (is_same r.given t r.tree).same in
+    ap (λ ts. lex.tokens (print ts)) (sym same) ∙ tokens-print (json_tokens (outline r.given)) (ArePrintable-json_tokens (outline r.given) r.numbers) ∙ same
+
+-- so the text has one reading, and that one tree
+pub one_text_one_tree : (t u : Tree) → IsSound t → IsSound u → text t ≡ text u → t ≡ u
+one_text_one_tree t u sound_t sound_u e =
+    let r = has_reading t (parts_of t sound_t).ordered in
+    let s = has_reading u (parts_of u sound_u).ordered in
+    let given : r.given ≡ s.given = cc (text_read t r sound_t (lexed_back t r), ap read e, text_read u s sound_u (lexed_back u s)) in
+    cc (r.tree, ap of_reading given, s.tree)
+
 -- of every tree whose texts are UTF-8
 pub tree_reads_back : (t : Tree) → IsSound t → are_text (tokens t) ≡ true → tree_of (text t) ≡ Ok t
 tree_reads_back t sound texts =
-    let r = has_reading t (parts_of t sound).ordered in
-    let same = (is_same r.given t r.tree).same in
-    let lexed = ap (λ ts. lex.tokens (print ts)) (sym same) ∙ tokens-print (json_tokens (outline r.given)) (ArePrintable-json_tokens (outline r.given) r.numbers) ∙ same in
-    written_reads t sound (printed_utf8 false (tokens t) texts) lexed
+    written_reads t sound (printed_utf8 false (tokens t) texts) (lexed_back t (has_reading t (parts_of t sound).ordered))

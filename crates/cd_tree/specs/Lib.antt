@@ -5,6 +5,7 @@ pub mod Lengths
 pub mod Marked
 pub mod Path
 pub mod Reading
+pub mod Spot
 pub mod Tree
 pub mod Utf8
 pub mod Way

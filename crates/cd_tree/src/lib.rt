@@ -9,7 +9,8 @@
 //! `place_of_json_fault` says in which line and column a text stops being JSON.
 //!
 //! `print` gives the compact text of a sound tree, which reads back as that tree; `reads_back` says the same of a tree that is
-//! not printed. `text_length` says how long the text is, and writes nothing. `equal` says whether two trees are equal.
+//! not printed, and `one_text_is_of_one_tree` that no two sound trees have one text. `text_length` says how long the text is,
+//! and writes nothing. `equal` says whether two trees are equal.
 //!
 //! Trees share their lists, objects and texts (`Shared`, `SharedText`): `copy` gives an equal tree that owns them together with
 //! the first, and takes no memory. Nothing is changed once it is shared. Contracts see plain data, whoever owns it: they compare
@@ -17,11 +18,13 @@
 //!
 //! `Fields` lends the members of an object by their names. What is lent from a sound object is sound. A reader is given the
 //! `Place` of its value, which borrows each part from the readers above it. Only a fault makes a `Path` of its own from it.
+//! What is kept is a `Spot`, and the spots below a `Base` share its parts.
 //!
 //! That a hand-made tree is sound is left to whoever makes it, and where in a configuration a tree is to whoever passes its
 //! place.
 #![tactic(auto)]
 
+mod base;
 mod copies;
 mod endings;
 mod equality;
@@ -41,10 +44,13 @@ mod reading;
 mod round_trip;
 mod shared;
 mod shared_text;
+mod spot;
+mod spot_parts;
 mod tree;
 mod way;
 mod whole;
 
+pub use base::Base;
 pub use copies::{copy, copy_member};
 pub use endings::no_tree_ends_in_zero;
 pub use equality::equal;
@@ -58,7 +64,8 @@ pub use path::Path;
 pub use place::Place;
 pub use printing::{print, print_ordered};
 pub use reading::read;
-pub use round_trip::reads_back;
+pub use round_trip::{one_text_is_of_one_tree, reads_back};
 pub use shared::Shared;
 pub use shared_text::SharedText;
+pub use spot::Spot;
 pub use tree::{Member, Num, Tree};

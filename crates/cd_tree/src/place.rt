@@ -1,8 +1,14 @@
 ghost use Rattle.std.specs.Prelude.{◌≡◌, [], decimal, IfOk};
 ghost use Rattle.cd_tree.specs.Path.{◌▸◌};
+ghost use Rattle.cd_tree.specs.Spot.{base_path};
 
+use crate::base::Base;
 use crate::path::Path;
-use crate::way::{Way, to_path};
+use crate::shared::Shared;
+use crate::shared_text::SharedText;
+use crate::spot::Spot;
+use crate::spot_parts::SpotPart;
+use crate::way::{Way, to_base, to_parts, to_path};
 use cd_text::NoMemory;
 use std::alloc::Global;
 use std::marker::Model;
@@ -32,12 +38,39 @@ impl<'a> Place<'a> {
         Place { way: Way::Top }
     }
 
+    /// The place of a base of these parts.
+    pub(crate) fn at_base(parts: &'a Shared<SpotPart>) -> Place<'a>
+        ensures { result ≡ base_path parts.now }
+    {
+        Place {
+            way: Way::base(parts),
+        }
+    }
+
     /// The place of a member of the value that is here.
     pub fn member<'b>(&'b self, name: &'b str) -> Place<'b>
         ensures { result ≡ self.now ▸ name.now }
     {
         Place {
             way: Way::member(&self.way, name),
+        }
+    }
+
+    /// The same of a name that is a word of the program, which a spot keeps without a copy.
+    pub fn word<'b>(&'b self, word: &'static str) -> Place<'b>
+        ensures { result ≡ self.now ▸ word.now }
+    {
+        Place {
+            way: Way::word(&self.way, word),
+        }
+    }
+
+    /// The same of a name that has several owners, of which a spot becomes one more.
+    pub fn named<'b>(&'b self, name: &'b SharedText) -> Place<'b>
+        ensures { result ≡ self.now ▸ name.now }
+    {
+        Place {
+            way: Way::named(&self.way, name),
         }
     }
 
@@ -55,5 +88,19 @@ impl<'a> Place<'a> {
         ensures { IfOk result (λ path. path ≡ self.now) }
     {
         to_path(alloc, &self.way)
+    }
+    /// The spot of this place, which outlasts it.
+    pub fn to_spot(&self, alloc: Global) -> Result<Spot, NoMemory>
+        ensures { IfOk result (λ spot. spot ≡ self.now) }
+    {
+        let parts = to_parts(alloc, &self.way, 0)?;
+        Ok(Spot::of(parts))
+    }
+    /// The base of this place, which outlasts it, for spots below.
+    pub fn to_base(&self, alloc: Global) -> Result<Base, NoMemory>
+        ensures { IfOk result (λ base. base ≡ self.now) }
+    {
+        let parts = to_base(alloc, &self.way)?;
+        Ok(Base::of(parts))
     }
 }

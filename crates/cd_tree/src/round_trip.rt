@@ -18,6 +18,13 @@ pub fn reads_back(tree: &Tree)
     see(tree);
 }
 
+/// The law that two sound trees with one text are equal. A call does nothing.
+pub fn one_text_is_of_one_tree(one: &Tree, other: &Tree)
+    requires one { IsSound one.now }
+    requires other { IsSound other.now }
+    ensures { text one.now ≡ text other.now → one.now ≡ other.now }
+{}
+
 /// Every key, text and number of the tree is written in UTF-8.
 #[cycle(see)]
 fn see(tree: &Tree)
