@@ -1,4 +1,4 @@
-ghost use Rattle.std.specs.Prelude.{◌≡◌, ◌<◌, ◌≤◌, ◌++◌, List, ℕ, Bool, true, false, length, Option, None, option_map};
+ghost use Rattle.std.specs.Prelude.{◌≡◌, ◌<◌, ◌≤◌, ◌++◌, List, ℕ, Bool, true, false, length, Option, option_map};
 ghost use Rattle.cd_outside.specs.declared.taken.Taken.TheVariants as taken;
 ghost use Rattle.cd_outside.specs.declared.given.Given.TheVariants as given;
 ghost use Rattle.cd_outside.specs.declared.accepted.Accepted.TheVariants as accepted;
@@ -63,13 +63,6 @@ pub trait Lane {
         ensures busy { busy self.new ≡ true }
         ensures past { past self.new ≡ option_map (after_line result key.now line.now) (past self.old) }
         ensures cause { Rises (faults self.old) (faults self.new) (result ≡ given.Failed) };
-
-    /// Whether it keeps configurations. One that does not tells nothing of what has happened, and need not be given any.
-    fn keeps(&self) -> bool
-        ensures { result ≡ false → past self.now ≡ None }
-    {
-        true
-    }
 
     /// Keeps the configuration of this serial, by its compact text, so that it outlasts the program. At `Failed` it may have
     /// been kept or not. It may wait for another lane that keeps one.

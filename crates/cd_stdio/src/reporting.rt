@@ -146,10 +146,6 @@ impl<'m, R: Wait, L: Lane + Explains, W: TakesNow> Lane for Reporting<'m, R, L, 
         given
     }
 
-    fn keeps(&self) -> bool {
-        self.lane.keeps()
-    }
-
     fn keep<S: Wait>(&mut self, rt: &S, serial: u32, text: &[u8]) -> Given {
         self.lane.keep(rt, serial, text)
     }

@@ -133,10 +133,6 @@ impl<'r, R: Wait + Files<File = File>, I: Read, O: Write, E: Write> Lane
 
     ghost past = { λ _. None };
 
-    fn keeps(&self) -> bool {
-        false
-    }
-
     fn accept(&mut self) -> Accepted
         requires { self.old.connected ≡ false }
         ensures busy { self.new.connected ≡ is_connection result }

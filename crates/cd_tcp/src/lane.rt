@@ -99,10 +99,6 @@ impl<'d, R: Wait + Clock> Lane for TcpLane<'d, R> {
 
     ghost past = { λ _. None };
 
-    fn keeps(&self) -> bool {
-        false
-    }
-
     fn accept(&mut self) -> Accepted {
         match self.wait() {
             Waited::Connection(held, address) => {
