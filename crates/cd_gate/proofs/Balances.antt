@@ -79,6 +79,16 @@ in_table false n = omega arith
 pub place_in : (s : State) (n : ℕ) → place_of s n < 1 + MAX_UNRETIRED
 place_in s n = in_table (s.halted && (n == s.serial)) n
 
+-- the place of the halted serial is no other's
+zero_no : (z : ℕ) → 0 ≡ 1 + z → ⊥
+zero_no z e = absurd (omega arith)
+
+in_range : (n len : ℕ) → len ≡ 1 + MAX_UNRETIRED → 1 + n % MAX_UNRETIRED < len
+in_range n len is = omega arith
+
+lower : (n serial : ℕ) → n < serial → n ≤ serial
+lower n serial low = omega arith
+
 -- two serials of one window have two places
 pub two_places : (a b e : ℕ) → a ≤ e → b ≤ e → e < a + MAX_UNRETIRED → e < b + MAX_UNRETIRED → a ≢ b → 1 + a % MAX_UNRETIRED ≢ 1 + b % MAX_UNRETIRED
 two_places a b e la lb ha hb ne same = ne (omega arith)
@@ -98,24 +108,18 @@ module _ (s : State) (unsettled : Option ℕ) (edge : ℕ) (o : Ordered s unsett
   places_apart a b la lb ha hb ne same = ⊎_elim
       (λ (p : (s.halted && (a == s.serial)) ≡ true). ⊎_elim
       (λ (q : (s.halted && (b == s.serial)) ≡ true). ne (eqb-true a s.serial (second s.halted (a == s.serial) p) ∙ sym (eqb-true b s.serial (second s.halted (b == s.serial) q))))
-      (λ (q : (s.halted && (b == s.serial)) ≡ false). mixed (b % MAX_UNRETIRED) (sym (place_halted s a p) ∙ (same ∙ place_open s b q))) (tells (s.halted && (b == s.serial))))
+      (λ (q : (s.halted && (b == s.serial)) ≡ false). zero_no (b % MAX_UNRETIRED) (sym (place_halted s a p) ∙ (same ∙ place_open s b q))) (tells (s.halted && (b == s.serial))))
       (λ (p : (s.halted && (a == s.serial)) ≡ false). ⊎_elim
-      (λ (q : (s.halted && (b == s.serial)) ≡ true). mixed (a % MAX_UNRETIRED) (sym (place_halted s b q) ∙ (sym same ∙ place_open s a p)))
+      (λ (q : (s.halted && (b == s.serial)) ≡ true). zero_no (a % MAX_UNRETIRED) (sym (place_halted s b q) ∙ (sym same ∙ place_open s a p)))
       (λ (q : (s.halted && (b == s.serial)) ≡ false). two_places a b edge (edge_above a p la) (edge_above b q lb) ha hb ne (sym (place_open s a p) ∙ (same ∙ place_open s b q))) (tells (s.halted && (b == s.serial))))
       (tells (s.halted && (a == s.serial)))
-    where
-      mixed : (z : ℕ) → 0 ≡ 1 + z → ⊥
-      mixed z e = absurd (omega arith)
 
   -- the place of a serial is not that of a balance that no serial has used
   pub unused_apart : (n m : ℕ) → n ≤ s.serial → edge < m → m < MAX_UNRETIRED → place_of s n ≢ 1 + m
   unused_apart n m le above few same = ⊎_elim
-      (λ q. first_place m (sym (place_halted s n q) ∙ same))
+      (λ q. zero_no m (sym (place_halted s n q) ∙ same))
       (λ q. apart n m edge (edge_above n q le) above few (sym (place_open s n q) ∙ same)) (tells (s.halted && (n == s.serial)))
     where
-      first_place : (z : ℕ) → 0 ≡ 1 + z → ⊥
-      first_place z e = absurd (omega arith)
-
       apart : (n m e : ℕ) → n ≤ e → e < m → m < MAX_UNRETIRED → 1 + n % MAX_UNRETIRED ≡ 1 + m → ⊥
       apart n m e le above few same = absurd (omega arith)
 
@@ -262,12 +266,6 @@ module _ (p : ℕ) (bs : List ℕ) (s : State) (unsettled : Option ℕ) (edge : 
       few = λ m un. subst (λ (z : ℕ). z < SERIAL_STEP) (sym (same m)) (c.few m un);
       unbegun = λ m low. same m ∙ c.unbegun m low;
     }
-      where
-        lower : (m serial : ℕ) → m < serial → m ≤ serial
-        lower m serial low = omega arith
-
-        zero_no : (z : ℕ) → 0 ≡ 1 + z → ⊥
-        zero_no z e = absurd (omega arith)
 
   -- the coming serial's balance is made ready
   pub counts_reset : s.halted ≡ false → Counts p (set bs (1 + (s.serial + 1) % MAX_UNRETIRED) FULL_BALANCE) s unsettled (s.serial + 1) b
@@ -292,15 +290,6 @@ module _ (p : ℕ) (bs : List ℕ) (s : State) (unsettled : Option ℕ) (edge : 
 
       before_it : (e c serial m : ℕ) → e + c ≤ serial + 1 → serial + 1 < m → e < m
       before_it e c serial m high above = omega arith
-
-      lower : (m serial : ℕ) → m < serial → m ≤ serial
-      lower m serial low = omega arith
-
-      zero_no : (z : ℕ) → 0 ≡ 1 + z → ⊥
-      zero_no z e = absurd (omega arith)
-
-      in_range : (n len : ℕ) → len ≡ 1 + MAX_UNRETIRED → 1 + n % MAX_UNRETIRED < len
-      in_range n len is = omega arith
 
       fits : (e c serial n : ℕ) → e + c ≤ serial + 1 → serial + 1 < n + MAX_UNRETIRED → e < n + MAX_UNRETIRED
       fits e c serial n high used = omega arith
@@ -373,15 +362,6 @@ module _ (p : ℕ) (bs : List ℕ) (s : State) (unsettled : Option ℕ) (edge : 
         low : (n serial : ℕ) → n + 1 ≡ serial → n ≤ serial
         low n serial e = omega arith
 
-        lower : (m serial : ℕ) → m < serial → m ≤ serial
-        lower m serial low = omega arith
-
-        zero_no : (z : ℕ) → 0 ≡ 1 + z → ⊥
-        zero_no z e = absurd (omega arith)
-
-        in_range : (n len : ℕ) → len ≡ 1 + MAX_UNRETIRED → 1 + n % MAX_UNRETIRED < len
-        in_range n len is = omega arith
-
         earlier : is_settled s None n ≡ true
         earlier = settled_is s None n (less n s.serial before) (λ e. none_some n e)
           where
@@ -424,9 +404,6 @@ module _ (p : ℕ) (bs : List ℕ) (s : State) (unsettled : Option ℕ) (edge : 
 
       old : (n x y : ℕ) → n ≤ y → y ≡ x + 1 → n ≢ x + 1 → n ≤ x
       old n x y le e ne = grind arith
-
-      lower : (m serial : ℕ) → m < serial → m ≤ serial
-      lower m serial low = omega arith
 
       further : (x y n : ℕ) → y ≡ x + 1 → y < n → x < n
       further x y n e low = omega arith

@@ -17,12 +17,13 @@ use Rattle.cd_gate.specs.declared.view.View.{View}
 use Rattle.cd_gate.specs.declared.view.Unsettled.{Unsettled}
 use Rattle.cd_gate.specs.Counts.{Counts, Ordered, Crowd, is_ready, noted_in, begins_in}
 use Rattle.cd_gate.specs.Duties.{is_due}
-use Rattle.cd_gate.specs.Rule.{Fits, Dutiful, IsKept}
+use Rattle.cd_gate.specs.Rule.{Fits, Numbered, Dutiful, IsKept, unsettled_in}
+use Rattle.cd_gate.specs.Steps.{adding}
 use Rattle.cd_gate.specs.Words.{Slot, Moment, owed}
 use Rattle.cd_gate.proofs.Entries.{left_same}
 use Rattle.cd_gate.proofs.Longer.{prefix_self}
 use Rattle.cd_gate.proofs.Numbers.{tells}
-use Rattle.cd_gate.proofs.Views.{fits_set, face, makes, numbers_stay, holder_stays}
+use Rattle.cd_gate.proofs.Views.{fits_set, face, makes, numbers_stay, Holder, holder_stays}
 
 -- what a step of the pass k leaves to the others
 pub record Goes (log log' : List Signed) (k : ℕ) : Type 0 where
@@ -87,14 +88,33 @@ module _ {T : Type 0} (opening : T) (turn : ℕ) (log : List Signed) (unsettled 
   abbrev log' : List Signed
   log' = log ++ signed v.number e ∷ []
 
-  pub older_more : (i : ℕ) (l : List Signed) → get_elem? v.older i ≡ some l → IsPrefix l log'
+  older_more : (i : ℕ) (l : List Signed) → get_elem? v.older i ≡ some l → IsPrefix l log'
   older_more i l is = prefix_more l log (signed v.number e ∷ []) (prefix_trans l v.seen log (f.older i l is) f.seen)
 
-  pub own_more : v.live ≡ true → mine v.number log' ≡ v.mine ++ signed v.number e ∷ []
+  own_more : v.live ≡ true → mine v.number log' ≡ v.mine ++ signed v.number e ∷ []
   own_more live = mine-own log v.number e ∙ ap (λ (l : List Signed). l ++ signed v.number e ∷ []) (f.own live)
 
-  pub owes_more : v.live ≡ true → owes_of v.number log' ≡ owes_by (owed v) e
+  owes_more : v.live ≡ true → owes_of v.number log' ≡ owes_by (owed v) e
   owes_more live = owes-own v.number log e ∙ ap (λ (o : Owes). owes_by o e) (f.owes live)
+
+  -- its view with that entry fits this history, whatever it says of serials, of duties and of room
+  pub fits_more : (w : View T) → w ≡ record (adding v log e) { checked = w.checked; ready = w.ready; unsettled = w.unsettled; duties = w.duties }
+      → (unsettled' : Option ℕ) → (v.turn ≡ true → (unsettled_in w ≡ unsettled') × (w.ready ≡ is_ready (state_at log') edge)) → (v.turn ≡ false → (w.unsettled ≡ None) × (w.ready ≡ false))
+      → ((l : Unsettled) → w.unsettled ≡ Some l → l.begins ≡ begins_in log' l.serial) → ((l : Unsettled) → w.unsettled ≡ Some l → (state_at log').halted ≡ false → (owes_by (owed v) e).ticket ≡ Some l.serial)
+      → (w.checked ≡ true → v.live ≡ true) → Fits opening turn log' unsettled' edge w
+  fits_more w is unsettled' knows waits begun lends checks = subst (Fits opening turn log' unsettled' edge) (sym is) record {
+    opened = f.opened;
+    seen = prefix_self log';
+    older = older_more;
+    own = own_more;
+    own_seen = own_more;
+    owes = owes_more;
+    holds = λ has. let g = f.holds has in let k = knows has in (g.0, g.1, refl, k.0, k.1);
+    waits = waits;
+    begun = begun;
+    lends = lends;
+    checks = checks;
+  }
 
 module _ {T : Type 0} (stands : T → T → List Signed → Type 0) (opening : T) (log : List Signed) (m : Moment T) (r : IsKept stands opening log m) where
   -- only one view has the turn
@@ -102,6 +122,24 @@ module _ {T : Type 0} (stands : T → T → List Signed → Type 0) (opening : T
   others_wait id v at has j u apart e also =
       let a = (r.each id v at).holds has in let b = (r.each j u e).holds also in
       apart (r.numbers.apart j id u v e at b.0 a.0 (let x = a.1 in let y = b.1 in omega arith))
+
+  -- another board, or other views, beside the same words and the same history
+  pub with_others : (board : Slot T) (views : List (View T)) → Crowd (begins_in log (state_at log).serial) views → ((j : ℕ) (u : View T) → get_elem? views j ≡ some u → Fits opening m.turn log r.unsettled r.edge u) → Numbered log views → Dutiful (is_due (state_at log) r.unsettled) views
+      → (m.turn ≡ 0 → board ≡ m.board) → (0 < m.turn → Holder views × ((x : Option T) × (board ≡ Slot.Held x))) → IsKept stands opening log (record m { board = board; views = views })
+  with_others board views crowd each numbers duties home taken = record {
+    unsettled = r.unsettled;
+    edge = r.edge;
+    history = r.history;
+    counted = r.counted;
+    order = r.order;
+    counts = r.counts;
+    crowd = crowd;
+    each = each;
+    numbers = numbers;
+    duties = duties;
+    free = λ z. let f = r.free z in ((f.0.0, home z ∙ f.0.1, f.0.2), f.1, f.2, f.3);
+    taken = taken;
+  }
 
   module _ (id : ℕ) (v w : View T) (at : get_elem? m.views id ≡ some v) (live : v.live ≡ true) (same : face w ≡ face v) (made : makes w ≡ makes v) (log' : List Signed) (unsettled' : Option ℕ) (edge' packed turn counted : ℕ) (balances : List ℕ) (board : Slot T) where
     abbrev now : Moment T

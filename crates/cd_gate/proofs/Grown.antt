@@ -16,7 +16,7 @@ entries_all : (k : ℕ) (es : List Entry) → entries (all_signed k es) ≡ es
 entries_all k [] = refl
 entries_all k (e ∷ es) = ap (λ (l : List Entry). e ∷ l) (entries_all k es)
 
-all-append : (k : ℕ) (xs ys : List Entry) → all_signed k (xs ++ ys) ≡ all_signed k xs ++ all_signed k ys
+pub all-append : (k : ℕ) (xs ys : List Entry) → all_signed k (xs ++ ys) ≡ all_signed k xs ++ all_signed k ys
 all-append k [] ys = refl
 all-append k (x ∷ xs) ys = ap (λ (l : List Signed). signed k x ∷ l) (all-append k xs ys)
 
@@ -48,7 +48,7 @@ through_last k [] q more = refl
 through_last k (p ∷ []) q more = refl
 through_last k (p ∷ r ∷ own) q more = through_last k (r ∷ own) q more
 
-through_both : (k : ℕ) (own more : List Placed) (front whole : List Signed) → IsPrefix (through k own) front → IsPrefix front whole → IsPrefix (through k more) whole → IsPrefix (through k (own ++ more)) whole
+pub through_both : (k : ℕ) (own more : List Placed) (front whole : List Signed) → IsPrefix (through k own) front → IsPrefix front whole → IsPrefix (through k more) whole → IsPrefix (through k (own ++ more)) whole
 through_both k own [] front whole one goes two = subst (λ (l : List Placed). IsPrefix (through k l) whole) (sym (append-nil own)) (prefix_trans (through k own) front whole one goes)
 through_both k own (q ∷ more) front whole one goes two = subst (λ (l : List Signed). IsPrefix l whole) (sym (through_last k own q more)) two
 

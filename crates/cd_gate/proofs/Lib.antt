@@ -22,6 +22,7 @@ pub mod Fates
 pub mod Readied
 pub mod Starting
 pub mod Halted
+pub mod Tabled
 pub mod RequestSteps
 pub mod SerialSteps
 pub mod TurnSteps

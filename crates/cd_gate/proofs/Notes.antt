@@ -1,7 +1,6 @@
 -- An entry is noted.
 use Rattle.std.proofs.Common.{◌≡◌, ℕ, ◌+◌, ◌%◌, ◌^◌, ◌≤◌, ◌==◌, Bool, true, false, not, cond, nat_lt, List, [], ◌∷◌, ◌++◌, set, Some, refl, sym, ap, ◌∙◌, subst, arith, ne_eqb}
 use Rattle.std.specs.Prelude.{◌&&◌}
-use Rattle.std.proofs.lemmas.List.{append-nil}
 use mathlib.Core.Option.{some}
 use lib.ListN.{get_elem?}
 use Rattle.atomic_table.proofs.Lists.{set_here}
@@ -28,7 +27,7 @@ use Rattle.cd_gate.specs.Words.{Moment, owed}
 use Rattle.cd_gate.proofs.Balances.{settled_low, settled_not, counts_same}
 use Rattle.cd_gate.proofs.Dues.{duties_same, duties_ended}
 use Rattle.cd_gate.proofs.Entries.{Quiet, quiet, retired_stays, retired_same, retires_none, Kind, kind_of, follows_plain, allowed_same, begins_noted, noted_more}
-use Rattle.cd_gate.proofs.Frames.{goes_on, others_wait, older_more, own_more, owes_more, next, not_free}
+use Rattle.cd_gate.proofs.Frames.{goes_on, others_wait, fits_more, next, not_free}
 use Rattle.cd_gate.proofs.Numbers.{has_append, has_this, right, off}
 use Rattle.cd_gate.proofs.Requesting.{crowd_same}
 use Rattle.cd_gate.proofs.Retiring.{retires, apps_stay}
@@ -149,19 +148,9 @@ module _ {T : Type 0} (stands : T → T → List Signed → Type 0) (opening : T
       (counts_same m.packed m.balances s r.unsettled r.edge (begins_in log) r.order r.counts (after s e) (begins_in log') begins_same q.serial q.halted q.tickets))
       (subst (λ (z : ℕ). Crowd (begins_in log' z) (set m.views id w)) (sym (ap (λ (z : State). z.serial) state_now ∙ q.serial))
       (crowd_same stands opening log m r id v at live w live refl refl (begins_in log' s.serial) (le (begins_in log' s.serial) (begins_in log s.serial) (begins_same s.serial))))
-      record {
-        opened = fit.opened;
-        seen = ([], append-nil log');
-        older = older_more opening m.turn log r.unsettled r.edge v e fit;
-        own = own_more opening m.turn log r.unsettled r.edge v e fit;
-        own_seen = own_more opening m.turn log r.unsettled r.edge v e fit;
-        owes = owes_more opening m.turn log r.unsettled r.edge v e fit;
-        holds = λ h. let g = fit.holds h in (g.0, g.1, refl, g.3, g.4 ∙ sym ready_same);
-        waits = fit.waits;
-        begun = λ l h. fit.begun l h ∙ sym (begins_same l.serial);
-        lends = λ l h on. ticket_same (fit.lends l h (sym q.halted ∙ (ap (λ (z : State). z.halted) (sym state_now) ∙ on)));
-        checks = fit.checks;
-      }
+      (fits_more opening m.turn log r.unsettled r.edge v e fit w refl r.unsettled
+      (λ h. let g = fit.holds h in (g.3, g.4 ∙ sym ready_same)) fit.waits (λ l h. fit.begun l h ∙ sym (begins_same l.serial))
+      (λ l h on. ticket_same (fit.lends l h (sym q.halted ∙ (ap (λ (z : State). z.halted) (sym state_now) ∙ on)))) fit.checks)
       (goes_on log v.number e (λ h. sym q.halted ∙ (ap (λ (z : State). z.halted) (sym state_now) ∙ h)))
       (λ j u apart ex also. absurd (others_wait stands opening log m r id v at has j u apart ex also))
       (subst (λ (z : State). Dutiful (is_due z r.unsettled) (set m.views id w)) (sym state_now) (duties_by (kind_of e is)))

@@ -7,7 +7,7 @@ use mathlib.Core.Option.{none, some, some-injective}
 use mathlib.Core.Logic.{dite}
 use native.Mathlib.Decide.{ℕ_discrete}
 use lib.ListN.{get_elem?}
-use Rattle.atomic_table.specs.Table.{State, Me, step, keeps, stepped, Allows}
+use Rattle.atomic_table.specs.Table.{step, keeps, stepped, Allows}
 use Rattle.cd_legal.specs.declared.entry.Entry.TheVariants.{Begin, Finish}
 use Rattle.cd_legal.specs.declared.entry.Signed.{Signed}
 use Rattle.cd_legal.specs.declared.limits.TheConstants.{MAX_BEGINS, LAST_SERIAL, MAX_UNRETIRED}
@@ -33,6 +33,7 @@ use Rattle.cd_gate.proofs.Halted.{is_halt, halt_seen}
 use Rattle.cd_gate.proofs.Numbers.{some_is}
 use Rattle.cd_gate.proofs.Requesting.{step_check, step_worn, step_begin, few_begun, history_begun, step_finish, history_ended, has, born, used, due_now, due_allowed}
 use Rattle.cd_gate.proofs.Tickets.{ticket_seen}
+use Rattle.cd_gate.proofs.Tabled.{Table, AtSeat}
 
 -- ---- numbers
 
@@ -57,46 +58,40 @@ mapped f (Some a) b is = (a, refl, cc)
 
 -- what a look at the word has told
 module _ {T : Type 0} where
-  abbrev Looked : Me (Option T) (View T) → Me (Option T) (View T) → ℕ → Type 0
+  abbrev Looked : AtSeat T → AtSeat T → ℕ → Type 0
   Looked m m' found = (log : List Signed) × Found m.0 log × (found % SERIAL_STEP ≡ begins_in log (state_at log).serial) × (m' ≡ (cond (nat_lt (found % SERIAL_STEP) MAX_BEGINS) (checking m.0 log) (worn m.0 log), m.1))
 
-  pub room_of : (m m' : Me (Option T) (View T)) (found : ℕ) → Looked m m' found → nat_lt (found % SERIAL_STEP) MAX_BEGINS ≡ true
+  pub room_of : (m m' : AtSeat T) (found : ℕ) → Looked m m' found → nat_lt (found % SERIAL_STEP) MAX_BEGINS ≡ true
       → (log : List Signed) × Found m.0 log × (begins_in log (state_at log).serial < MAX_BEGINS) × (m' ≡ (checking m.0 log, m.1))
   room_of m m' found t is = (
     t.0,
     t.1,
     subst (λ (z : ℕ). z < MAX_BEGINS) t.2 (is-less (found % SERIAL_STEP) MAX_BEGINS is),
-    t.3 ∙ ap (λ (b : Bool). let p : Me (Option T) (View T) = (cond b (checking m.0 t.0) (worn m.0 t.0), m.1) in p) is,
+    t.3 ∙ ap (λ (b : Bool). let p : AtSeat T = (cond b (checking m.0 t.0) (worn m.0 t.0), m.1) in p) is,
   )
 
-  pub none_of : (m m' : Me (Option T) (View T)) (found : ℕ) → Looked m m' found → nat_lt (found % SERIAL_STEP) MAX_BEGINS ≡ false
+  pub none_of : (m m' : AtSeat T) (found : ℕ) → Looked m m' found → nat_lt (found % SERIAL_STEP) MAX_BEGINS ≡ false
       → (log : List Signed) × Found m.0 log × (MAX_BEGINS ≤ begins_in log (state_at log).serial) × (m' ≡ (worn m.0 log, m.1))
   none_of m m' found t is = (
     t.0,
     t.1,
     subst (λ (z : ℕ). MAX_BEGINS ≤ z) t.2 (ltb-false (found % SERIAL_STEP) MAX_BEGINS is),
-    t.3 ∙ ap (λ (b : Bool). let p : Me (Option T) (View T) = (cond b (checking m.0 t.0) (worn m.0 t.0), m.1) in p) is,
+    t.3 ∙ ap (λ (b : Bool). let p : AtSeat T = (cond b (checking m.0 t.0) (worn m.0 t.0), m.1) in p) is,
   )
 
 module _ {T : Type 0} (stands : T → T → List Signed → Type 0) (first : T) where
-  abbrev St : Type 0
-  St = State (Option T) (View T)
-
-  abbrev M : Type 0
-  M = Me (Option T) (View T)
-
-  abbrev Rule : St → Type 0
+  abbrev Rule : Table T → Type 0
   Rule = Holds stands first
 
   -- the rule of a table with these words
-  pub shows : (log : List Signed) (slot : Slot T) (s : St) (p t c : ℕ) (bs : List ℕ) → get_or s.words 0 0 ≡ p → get_or s.words 1 0 ≡ t → get_or s.words 2 0 ≡ c → drop 3 s.words ≡ bs
+  pub shows : (log : List Signed) (slot : Slot T) (s : Table T) (p t c : ℕ) (bs : List ℕ) → get_or s.words 0 0 ≡ p → get_or s.words 1 0 ≡ t → get_or s.words 2 0 ≡ c → drop 3 s.words ≡ bs
       → IsKept stands first log (record { packed = p; turn = t; counted = c; balances = bs; board = slot; views = s.views }) → IsKept stands first log (moment_of s slot)
   shows log slot s p t c bs is_p is_t is_c is_bs k = subst (IsKept stands first log) (λ i. record { packed = sym is_p i; turn = sym is_t i; counted = sym is_c i; balances = sym is_bs i; board = slot; views = s.views }) k
 
-  pub found_by : (s : St) (r : Rule s) (id : ℕ) (v : View T) → get_elem? s.views id ≡ some v → v.live ≡ true → Found v r.log
+  pub found_by : (s : Table T) (r : Rule s) (id : ℕ) (v : View T) → get_elem? s.views id ≡ some v → v.live ≡ true → Found v r.log
   found_by s r id v at live = let f = r.kept.each id v at in record { history = r.kept.history; seen = f.seen; own = f.own live; own_seen = f.own_seen live; owes = f.owes live; in_turn = λ has. sym (f.holds has).2 }
 
-  pub few_now : (s : St) (r : Rule s) → begins_in r.log (state_at r.log).serial < SERIAL_STEP
+  pub few_now : (s : Table T) (r : Rule s) → begins_in r.log (state_at r.log).serial < SERIAL_STEP
   few_now s r = r.kept.counts.few (state_at r.log).serial (settled_no (state_at r.log) r.kept.unsettled (state_at r.log).serial (self (state_at r.log).serial))
     where
       self : (n : ℕ) → n ≤ n
@@ -105,16 +100,16 @@ module _ {T : Type 0} (stands : T → T → List Signed → Type 0) (first : T) 
   -- ---- check
 
   -- the words stay
-  same_words : (s : St) (id : ℕ) (w : View T) → Rule record { words = s.words; homes = s.homes; views = set s.views id w } → Rule record { words = set s.words 0 (get_or s.words 0 0); homes = s.homes; views = set s.views id w }
+  same_words : (s : Table T) (id : ℕ) (w : View T) → Rule record { words = s.words; homes = s.homes; views = set s.views id w } → Rule record { words = set s.words 0 (get_or s.words 0 0); homes = s.homes; views = set s.views id w }
   same_words s id w k = subst (λ (ws : List ℕ). Rule record { words = ws; homes = s.homes; views = set s.views id w }) (sym (set-get_or s.words 0 0)) k
 
-  look : (s : St) (r : Rule s) (id : ℕ) (v : View T) → get_elem? s.views id ≡ some v → v.live ≡ true → (b : Bool) → nat_lt (get_or s.words 0 0 % SERIAL_STEP) MAX_BEGINS ≡ b
+  look : (s : Table T) (r : Rule s) (id : ℕ) (v : View T) → get_elem? s.views id ≡ some v → v.live ≡ true → (b : Bool) → nat_lt (get_or s.words 0 0 % SERIAL_STEP) MAX_BEGINS ≡ b
       → IsKept stands first r.log (moment_of (record { words = s.words; homes = s.homes; views = set s.views id (cond b (checking v r.log) (worn v r.log)) }) r.slot)
   look s r id v at live true is = step_check stands first r.log (moment_of s r.slot) r.kept id v at live
       (subst (λ (z : ℕ). z < MAX_BEGINS) (parts (get_or s.words 0 0) (state_at r.log).serial (begins_in r.log (state_at r.log).serial) r.kept.counts.packed_is (few_now s r)).0 (is-less (get_or s.words 0 0 % SERIAL_STEP) MAX_BEGINS is))
   look s r id v at live false is = step_worn stands first r.log (moment_of s r.slot) r.kept id v at live
 
-  pub looks_for_room : (slots id : ℕ) (m : M) → m.0.live ≡ true → Allows Rule slots id m 0 (λ n. n) (has_checked (step slots 0 0 0 none) m)
+  pub looks_for_room : (slots id : ℕ) (m : AtSeat T) → m.0.live ≡ true → Allows Rule slots id m 0 (λ n. n) (has_checked (step slots 0 0 0 none) m)
   looks_for_room slots id m live s r deep at low =
       let v : View T = m.0 in
       let w : View T = cond (nat_lt (get_or s.words 0 0 % SERIAL_STEP) MAX_BEGINS) (checking v r.log) (worn v r.log) in (
@@ -134,7 +129,7 @@ module _ {T : Type 0} (stands : T → T → List Signed → Type 0) (first : T) 
 
   -- ---- begin
 
-  pub begins : (slots id : ℕ) (m : M) → m.0.live ≡ true → m.0.ticket ≡ None → m.0.checked ≡ true → Allows Rule slots id m 0 (λ n. (n + 1) % 2 ^ 64) (has_begun (step slots 0 1 0 none) m)
+  pub begins : (slots id : ℕ) (m : AtSeat T) → m.0.live ≡ true → m.0.ticket ≡ None → m.0.checked ≡ true → Allows Rule slots id m 0 (λ n. (n + 1) % 2 ^ 64) (has_begun (step slots 0 1 0 none) m)
   begins slots id m live idle checked s r deep at low =
       let v : View T = m.0 in
       let host : Host = state_at r.log in
@@ -144,7 +139,7 @@ module _ {T : Type 0} (stands : T → T → List Signed → Type 0) (first : T) 
       let serial_is : p / SERIAL_STEP ≡ host.serial = (parts p host.serial (begins_in r.log host.serial) r.kept.counts.packed_is (few_now s r)).1 in
       let w : View T = begun v r.log host.serial in
       let log' : List Signed = r.log ++ signed v.number (Begin v.number host.serial) ∷ [] in
-      let after' : St = stepped s 0 (p + 1) id m.1 w keeps in (
+      let after' : Table T = stepped s 0 (p + 1) id m.1 w keeps in (
         w,
         keeps,
         tt,
@@ -175,7 +170,7 @@ module _ {T : Type 0} (stands : T → T → List Signed → Type 0) (first : T) 
   -- ---- finish
 
   -- which serial is unsettled, by the view that has the turn
-  unsettled_by : (s : St) (r : Rule s) (id : ℕ) (v : View T) → get_elem? s.views id ≡ some v → v.live ≡ true → v.unsettled ≡ None → UnsettledThen (state_at r.log) v.number r.kept.unsettled
+  unsettled_by : (s : Table T) (r : Rule s) (id : ℕ) (v : View T) → get_elem? s.views id ≡ some v → v.live ≡ true → v.unsettled ≡ None → UnsettledThen (state_at r.log) v.number r.kept.unsettled
   unsettled_by s r id v at live quiet = record {
     last = r.kept.order.last;
     lent = λ n is on. dite (ℕ_discrete (moment_of s r.slot).turn 0)
@@ -194,7 +189,7 @@ module _ {T : Type 0} (stands : T → T → List Signed → Type 0) (first : T) 
       pos : (z : ℕ) → z ≢ 0 → 0 < z
       pos z ne = grind arith
 
-  pub finishes : (slots id i n : ℕ) (m : M) → m.0.live ≡ true → m.0.ticket ≡ Some n → m.0.unsettled ≡ None → i ≡ 3 + cond (is_halt (state_at m.0.seen) n) 0 (1 + n % MAX_UNRETIRED)
+  pub finishes : (slots id i n : ℕ) (m : AtSeat T) → m.0.live ≡ true → m.0.ticket ≡ Some n → m.0.unsettled ≡ None → i ≡ 3 + cond (is_halt (state_at m.0.seen) n) 0 (1 + n % MAX_UNRETIRED)
       → Allows Rule slots id m i (λ b. (b + (2 ^ 64 - 1)) % 2 ^ 64) (has_ended (step slots i 1 0 none) m)
   finishes slots id i n m live ticket quiet place_is s r deep at low =
       let v : View T = m.0 in
@@ -208,7 +203,7 @@ module _ {T : Type 0} (stands : T → T → List Signed → Type 0) (first : T) 
       subst (λ (j : ℕ). (get_or s.words j 0 < 2 ^ 64) → (w : View T) × (a : _) × Rattle.atomic_table.specs.Table.Valid s.homes m.1 a × Rule (stepped s j ((get_or s.words j 0 + (2 ^ 64 - 1)) % 2 ^ 64) id m.1 w a) × has_ended (step slots j 1 0 none) m (get_or s.words j 0) (w, Rattle.atomic_table.specs.Table.carried_after m.1 a)) here
       (λ low'. at_place slots id n m live ticket quiet s r at low') low
     where
-      at_place : (slots id n : ℕ) (m : M) → m.0.live ≡ true → m.0.ticket ≡ Some n → m.0.unsettled ≡ None → (s : St) (r : Rule s) → get_elem? s.views id ≡ some m.0 → get_or s.words (3 + place_of (state_at r.log) n) 0 < 2 ^ 64
+      at_place : (slots id n : ℕ) (m : AtSeat T) → m.0.live ≡ true → m.0.ticket ≡ Some n → m.0.unsettled ≡ None → (s : Table T) (r : Rule s) → get_elem? s.views id ≡ some m.0 → get_or s.words (3 + place_of (state_at r.log) n) 0 < 2 ^ 64
           → (w : View T) × (a : _) × Rattle.atomic_table.specs.Table.Valid s.homes m.1 a × Rule (stepped s (3 + place_of (state_at r.log) n) ((get_or s.words (3 + place_of (state_at r.log) n) 0 + (2 ^ 64 - 1)) % 2 ^ 64) id m.1 w a)
           × has_ended (step slots (3 + place_of (state_at r.log) n) 1 0 none) m (get_or s.words (3 + place_of (state_at r.log) n) 0) (w, Rattle.atomic_table.specs.Table.carried_after m.1 a)
       at_place slots id n m live ticket quiet s r at low =
@@ -223,7 +218,7 @@ module _ {T : Type 0} (stands : T → T → List Signed → Type 0) (first : T) 
           let whole : (g + (2 ^ 64 - 1)) % 2 ^ 64 ≡ g - 1 = one_off g some_left low in
           let w : View T = finished v r.log n (g == 1) in
           let log' : List Signed = r.log ++ signed v.number (Finish v.number) ∷ [] in
-          let after' : St = stepped s (3 + p) (g - 1) id m.1 w keeps in (
+          let after' : Table T = stepped s (3 + p) (g - 1) id m.1 w keeps in (
             w,
             keeps,
             tt,

@@ -1,7 +1,6 @@
 -- Requests begin and end, each by one step.
 use Rattle.std.proofs.Common.{◌≡◌, ◌≢◌, ◌⊎◌, inl, inr, ℕ, suc, ◌+◌, ◌-◌, ◌*◌, ◌%◌, ◌^◌, ◌<◌, ◌≤◌, ◌==◌, Bool, true, false, not, cond, nat_lt, List, [], ◌∷◌, ◌++◌, get_or, set, Option, Some, None, refl, sym, ap, ◌∙◌, subst, ⊎_elim, arith, ne_eqb}
 use Rattle.std.specs.Prelude.{◌&&◌}
-use Rattle.std.proofs.lemmas.List.{append-nil}
 use mathlib.Core.Option.{some}
 use lib.ListN.{get_elem?}
 use Rattle.cd_legal.specs.declared.entry.Entry.{Entry}
@@ -29,7 +28,7 @@ use Rattle.cd_gate.proofs.Balances.{settled_low, counts_begin, counts_finish, fo
 use Rattle.cd_gate.proofs.Crowd.{total_set, total_le}
 use Rattle.cd_gate.proofs.Dues.{duties_same, duties_given}
 use Rattle.cd_gate.proofs.Entries.{core_quiet, begins_more, begins_kept, noted_kept}
-use Rattle.cd_gate.proofs.Frames.{Stays, goes_nowhere, goes_on, stays_put, none_some, unsettled_known, older_more, own_more, owes_more, next, free_stays, taken_stays}
+use Rattle.cd_gate.proofs.Frames.{Stays, goes_nowhere, goes_on, stays_put, none_some, unsettled_known, fits_more, next, free_stays, taken_stays}
 use Rattle.cd_gate.proofs.Longer.{prefix_self}
 use Rattle.cd_gate.proofs.Numbers.{tells, off}
 use Rattle.cd_gate.proofs.Orders.{ordered_same, due_retires}
@@ -76,8 +75,9 @@ module _ {T : Type 0} (stands : T → T → List Signed → Type 0) (opening : T
   abbrev with_room : View T
   with_room = checking v log
 
-  looked : (w : View T) → w ≡ worn v log → Fits opening m.turn log r.unsettled r.edge w
-  looked w is = subst (λ (z : View T). Fits opening m.turn log r.unsettled r.edge z) (sym is) record {
+  -- the view fits the history that it has seen whole, whether or not it found room
+  looked : (room : Bool) → (room ≡ true → v.live ≡ true) → Fits opening m.turn log r.unsettled r.edge (record v { checked = room; seen = log })
+  looked room checks = record {
     opened = fit.opened;
     seen = prefix_self log;
     older = λ i l e. prefix_trans l v.seen log (fit.older i l e) fit.seen;
@@ -88,7 +88,7 @@ module _ {T : Type 0} (stands : T → T → List Signed → Type 0) (opening : T
     waits = fit.waits;
     begun = fit.begun;
     lends = fit.lends;
-    checks = fit.checks;
+    checks = checks;
   }
 
   room_checked : begins_in log s.serial < MAX_BEGINS → (u : View T) → get_elem? (set m.views id with_room) 0 ≡ some u → begins_in log s.serial + total (λ (x : View T). cond x.checked 1 0) (set m.views id with_room) ≤ MAX_BEGINS + u.made
@@ -116,20 +116,7 @@ module _ {T : Type 0} (stands : T → T → List Signed → Type 0) (opening : T
   step_check few =
       let stays = stays_put m.turn log r.unsettled r.edge in
       next stands opening log m r id v with_room at live refl refl log r.unsettled r.edge m.packed m.turn m.counted m.balances m.board
-      r.history r.counted r.order r.counts (record { few = few_stays with_room live refl; room = room_checked few })
-      record {
-        opened = fit.opened;
-        seen = prefix_self log;
-        older = λ i l e. prefix_trans l v.seen log (fit.older i l e) fit.seen;
-        own = fit.own;
-        own_seen = fit.own;
-        owes = fit.owes;
-        holds = λ has. let g = fit.holds has in (g.0, g.1, refl, g.3, g.4);
-        waits = fit.waits;
-        begun = fit.begun;
-        lends = fit.lends;
-        checks = λ _. live;
-      }
+      r.history r.counted r.order r.counts (record { few = few_stays with_room live refl; room = room_checked few }) (looked true (λ _. live))
       (goes_nowhere log v.number) (λ j u apart e also. stays)
       (duties_same m.views id v with_room at live live (is_due s r.unsettled) (is_due s r.unsettled) r.duties (λ n. refl) refl)
       (free_stays stands opening log m r id v with_room at live refl refl log r.unsettled r.edge m.packed m.turn m.counted m.balances m.board refl refl stays)
@@ -140,7 +127,7 @@ module _ {T : Type 0} (stands : T → T → List Signed → Type 0) (opening : T
       let w : View T = worn v log in
       let stays = stays_put m.turn log r.unsettled r.edge in
       next stands opening log m r id v w at live refl refl log r.unsettled r.edge m.packed m.turn m.counted m.balances m.board
-      r.history r.counted r.order r.counts (crowd_same w live refl refl (begins_in log s.serial) (self (begins_in log s.serial))) (looked w refl)
+      r.history r.counted r.order r.counts (crowd_same w live refl refl (begins_in log s.serial) (self (begins_in log s.serial))) (looked v.checked fit.checks)
       (goes_nowhere log v.number) (λ j u apart e also. stays)
       (duties_same m.views id v w at live live (is_due s r.unsettled) (is_due s r.unsettled) r.duties (λ n. refl) refl)
       (free_stays stands opening log m r id v w at live refl refl log r.unsettled r.edge m.packed m.turn m.counted m.balances m.board refl refl stays)
@@ -229,19 +216,9 @@ module _ {T : Type 0} (stands : T → T → List Signed → Type 0) (opening : T
           few = few_stays w_begun live refl;
           room = λ u e. subst (λ (z : ℕ). z + total (λ (x : View T). cond x.checked 1 0) (set m.views id w_begun) ≤ MAX_BEGINS + u.made) (sym (ap (λ (z : State). begins_in begun_log z.serial) state_begun ∙ one_more)) (less_room u e);
         }
-        record {
-          opened = fit.opened;
-          seen = ([], append-nil begun_log);
-          older = older_more opening m.turn log r.unsettled r.edge v first_entry fit;
-          own = own_more opening m.turn log r.unsettled r.edge v first_entry fit;
-          own_seen = own_more opening m.turn log r.unsettled r.edge v first_entry fit;
-          owes = owes_more opening m.turn log r.unsettled r.edge v first_entry fit;
-          holds = λ has. let g = fit.holds has in (g.0, g.1, refl, g.3, g.4 ∙ sym ready_begun);
-          waits = fit.waits;
-          begun = λ l is. fit.begun l is ∙ sym (begun_same l.serial (unsettled_known stands opening log m r id v at l is));
-          lends = λ l is on. absurd (none_some v.ticket l.serial idle (fit.lends l is (ap (λ (z : State). z.halted) (sym state_begun) ∙ on)));
-          checks = λ h. absurd (off h);
-        }
+        (fits_more opening m.turn log r.unsettled r.edge v first_entry fit w_begun refl r.unsettled
+        (λ has. let g = fit.holds has in (g.3, g.4 ∙ sym ready_begun)) fit.waits (λ l is. fit.begun l is ∙ sym (begun_same l.serial (unsettled_known stands opening log m r id v at l is)))
+        (λ l is on. absurd (none_some v.ticket l.serial idle (fit.lends l is (ap (λ (z : State). z.halted) (sym state_begun) ∙ on)))) (λ h. absurd (off h)))
         (goes_on log v.number first_entry (λ h. ap (λ (z : State). z.halted) (sym state_begun) ∙ h)) (λ j u apart e also. stays_begun)
         (duties_same m.views id v w_begun at live live (is_due s r.unsettled) (is_due (state_at begun_log) r.unsettled) r.duties (λ n. ap (λ (z : State). is_due z r.unsettled n) state_begun ∙ due_same n) refl)
         (free_stays stands opening log m r id v w_begun at live refl refl begun_log r.unsettled r.edge (m.packed + 1) m.turn m.counted m.balances m.board refl refl stays_begun)
@@ -376,19 +353,9 @@ module _ {T : Type 0} (stands : T → T → List Signed → Type 0) (opening : T
         (counts_finish m.packed m.balances s r.unsettled r.edge (begins_in log) r.order r.counts n v.number has one born used (begins_in ended_log) begins_same))
         (subst (λ (z : State). Crowd (begins_in ended_log z.serial) (set m.views id w_ended)) (sym state_ended)
         (crowd_same w_ended live refl refl (begins_in ended_log s.serial) (same_le (begins_in ended_log s.serial) (begins_in log s.serial) (begins_same s.serial))))
-        record {
-          opened = fit.opened;
-          seen = ([], append-nil ended_log);
-          older = older_more opening m.turn log r.unsettled r.edge v last_entry fit;
-          own = own_more opening m.turn log r.unsettled r.edge v last_entry fit;
-          own_seen = own_more opening m.turn log r.unsettled r.edge v last_entry fit;
-          owes = owes_more opening m.turn log r.unsettled r.edge v last_entry fit;
-          holds = λ h. let g = fit.holds h in (g.0, g.1, refl, g.3, g.4 ∙ sym ready_ended);
-          waits = fit.waits;
-          begun = λ l is. absurd (none_some v.unsettled l quiet is);
-          lends = λ l is on. absurd (none_some v.unsettled l quiet is);
-          checks = fit.checks;
-        }
+        (fits_more opening m.turn log r.unsettled r.edge v last_entry fit w_ended refl r.unsettled
+        (λ h. let g = fit.holds h in (g.3, g.4 ∙ sym ready_ended)) fit.waits
+        (λ l is. absurd (none_some v.unsettled l quiet is)) (λ l is on. absurd (none_some v.unsettled l quiet is)) fit.checks)
         (goes_on log v.number last_entry (λ h. ap (λ (z : State). z.halted) (sym state_ended) ∙ h)) (λ j u apart e also. stays_ended)
         (duties_given m.views id v w_ended at live live (is_due s r.unsettled) (is_due (state_at ended_log) r.unsettled) r.duties n flag due_before
         (ap (λ (z : State). is_due z r.unsettled n) state_ended ∙ due_now)

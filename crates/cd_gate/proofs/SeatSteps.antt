@@ -1,8 +1,8 @@
 -- The steps on the table by which passes come, go and tell one another, and its beginning.
-use Rattle.std.proofs.Common.{◌≡◌, ℕ, suc, ◌+◌, ◌<◌, true, false, List, [], ◌∷◌, length, set, replicate, refl, sym, ap, ◌∙◌, subst, Option, Some, arith}
+use Rattle.std.proofs.Common.{◌≡◌, ℕ, suc, ◌+◌, ◌<◌, true, false, List, [], ◌∷◌, length, set, replicate, refl, sym, ap, ◌∙◌, subst, Some, arith}
 use Rattle.std.proofs.lemmas.List.{set-get_or, length-replicate}
 use mathlib.Core.Option.{none, some}
-use Rattle.atomic_table.specs.Table.{State, Me, step, keeps, Allows, Splits, Joins, opening}
+use Rattle.atomic_table.specs.Table.{step, keeps, Allows, Splits, Joins, opening}
 use Rattle.atomic_table.proofs.Lists.{set_else}
 use Rattle.cd_legal.specs.declared.entry.Signed.{Signed}
 use Rattle.cd_legal.specs.declared.limits.TheConstants.{MAX_PASSES, MAX_UNRETIRED}
@@ -15,6 +15,7 @@ use Rattle.cd_gate.specs.Tables.{Holds, moment_of, has_compared, first_words}
 use Rattle.cd_gate.proofs.Seats.{splits, joins}
 use Rattle.cd_gate.proofs.Telling.{copies, hands_over, compares}
 use Rattle.cd_gate.proofs.Starting.{begins_by_rule}
+use Rattle.cd_gate.proofs.Tabled.{Table, AtSeat, home_is}
 
 first_count : length first_balances ≡ 1 + MAX_UNRETIRED
 unfolding first_balances
@@ -29,13 +30,7 @@ unfolding first_balances
 words_written = set_three (1 + MAX_UNRETIRED) FULL_BALANCE
 
 module _ {T : Type 0} (stands : T → T → List Signed → Type 0) (first : T) where
-  abbrev St : Type 0
-  St = State (Option T) (View T)
-
-  abbrev M : Type 0
-  M = Me (Option T) (View T)
-
-  abbrev Rule : St → Type 0
+  abbrev Rule : Table T → Type 0
   Rule = Holds stands first
 
   -- ---- seats
@@ -80,7 +75,7 @@ module _ {T : Type 0} (stands : T → T → List Signed → Type 0) (first : T) 
     home = r.home;
   }
 
-  pub compares_lists : (slots id : ℕ) (m : M) → Allows Rule slots id m SERIAL_WORD (λ n. n) (has_compared (step slots SERIAL_WORD 0 0 none) m)
+  pub compares_lists : (slots id : ℕ) (m : AtSeat T) → Allows Rule slots id m SERIAL_WORD (λ n. n) (has_compared (step slots SERIAL_WORD 0 0 none) m)
   compares_lists slots id m s r deep at low =
       let v : View T = m.0 in
       let w : View T = compared v in (
@@ -99,9 +94,6 @@ module _ {T : Type 0} (stands : T → T → List Signed → Type 0) (first : T) 
       )
 
   -- ---- the beginning
-
-  home_is : (b c : T) → Slot.Home b ≡ Slot.Home c → b ≡ c
-  home_is b c e = cc
 
   pub starts : stands first first [] → Rule (opening first_words (Some first ∷ []) (first_view first))
   starts board = record {

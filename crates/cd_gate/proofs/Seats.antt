@@ -24,7 +24,7 @@ use Rattle.cd_gate.specs.Words.{Moment, owed}
 use Rattle.cd_gate.proofs.Longer.{longer_first, longer_whole, between, none_before, core_between}
 use Rattle.cd_gate.proofs.Dues.{duties_stay}
 use Rattle.cd_gate.proofs.Seated.{crowd_set, crowd_less, crowd_split}
-use Rattle.cd_gate.proofs.Frames.{none_some}
+use Rattle.cd_gate.proofs.Frames.{none_some, with_others}
 use Rattle.cd_gate.proofs.Numbers.{off}
 use Rattle.cd_gate.proofs.Views.{in_range, at_new, fits_set, was, will, face, holder_stays}
 
@@ -234,37 +234,29 @@ module _ {T : Type 0} (stands : T → T → List Signed → Type 0) (opening : T
       let root' = root_seat log m.views id v r.numbers at live number in
       let none_yet : mine v.made log ≡ [] = r.numbers.unmade v.made (let d : v.made ≡ r.numbers.root.made = ap (λ (z : View T). z.made) root'.1 in omega arith) in
       let now' : List (View T) = set m.views id (splitting v) in
-      record {
-        unsettled = r.unsettled;
-        edge = r.edge;
-        history = r.history;
-        counted = r.counted;
-        order = r.order;
-        counts = r.counts;
-        crowd = crowd_split (begins_in log (state_at log).serial) m.views id v at root'.0 r.crowd;
-        each = λ j u e. ⊎_elim
-            (λ e'. fits_set (Fits opening m.turn log r.unsettled r.edge) m.views id (splitting v)
-            record { opened = mine_fit.opened; seen = mine_fit.seen; older = mine_fit.older; own = mine_fit.own; own_seen = mine_fit.own_seen; owes = mine_fit.owes; holds = mine_fit.holds; waits = mine_fit.waits; begun = mine_fit.begun; lends = mine_fit.lends; checks = mine_fit.checks }
-            (λ i x _ at'. r.each i x at') j u e')
-            (λ (new : split_off v ≡ u). subst (Fits opening m.turn log r.unsettled r.edge) new record {
-              opened = λ _. mine_fit.opened live;
-              seen = mine_fit.seen;
-              older = λ i l e'. absurd (some-ne-none l (sym e'));
-              own = λ _. none_yet;
-              own_seen = λ _. none_before v.made v.seen log mine_fit.seen none_yet;
-              owes = λ _. owes-none v.made log none_yet;
-              holds = λ has. absurd (off has);
-              waits = λ _. (refl, refl);
-              begun = λ l is. absurd (none_some None l refl is);
-              lends = λ l is on. absurd (none_some None l refl is);
-              checks = λ h. absurd (off h);
-            })
-            (at_snoc now' (split_off v) u j e);
-        numbers = split_numbers log m.views id v at live number r.numbers room;
-        duties = duties_more (is_due (state_at log) r.unsettled) now' (split_off v) refl (duties_stay (is_due (state_at log) r.unsettled) m.views id v (splitting v) at refl r.duties);
-        free = r.free;
-        taken = λ more. let t = r.taken more in let h = holder_stays m.views id v (splitting v) at refl t.0 in ((h.0, h.1, at_longer now' (split_off v ∷ []) h.0 h.1 h.2, h.3), t.1);
-      }
+      with_others stands opening log m r m.board (now' ++ split_off v ∷ [])
+      (crowd_split (begins_in log (state_at log).serial) m.views id v at root'.0 r.crowd)
+      (λ j u e. ⊎_elim
+      (λ e'. fits_set (Fits opening m.turn log r.unsettled r.edge) m.views id (splitting v)
+      record { opened = mine_fit.opened; seen = mine_fit.seen; older = mine_fit.older; own = mine_fit.own; own_seen = mine_fit.own_seen; owes = mine_fit.owes; holds = mine_fit.holds; waits = mine_fit.waits; begun = mine_fit.begun; lends = mine_fit.lends; checks = mine_fit.checks }
+      (λ i x _ at'. r.each i x at') j u e')
+      (λ (new : split_off v ≡ u). subst (Fits opening m.turn log r.unsettled r.edge) new record {
+        opened = λ _. mine_fit.opened live;
+        seen = mine_fit.seen;
+        older = λ i l e'. absurd (some-ne-none l (sym e'));
+        own = λ _. none_yet;
+        own_seen = λ _. none_before v.made v.seen log mine_fit.seen none_yet;
+        owes = λ _. owes-none v.made log none_yet;
+        holds = λ has. absurd (off has);
+        waits = λ _. (refl, refl);
+        begun = λ l is. absurd (none_some None l refl is);
+        lends = λ l is on. absurd (none_some None l refl is);
+        checks = λ h. absurd (off h);
+      })
+      (at_snoc now' (split_off v) u j e))
+      (split_numbers log m.views id v at live number r.numbers room)
+      (duties_more (is_due (state_at log) r.unsettled) now' (split_off v) refl (duties_stay (is_due (state_at log) r.unsettled) m.views id v (splitting v) at refl r.duties))
+      (λ _. refl) (λ more. let t = r.taken more in let h = holder_stays m.views id v (splitting v) at refl t.0 in ((h.0, h.1, at_longer now' (split_off v ∷ []) h.0 h.1 h.2, h.3), t.1))
 
   -- a view whose seen list is longer
   pub longer_fits : (v w : View T) (u : View T) → Fits opening m.turn log r.unsettled r.edge v → IsPrefix w.seen log → u ≡ record v { seen = longer v.seen w.seen; older = u.older; made = u.made; joined = u.joined }
@@ -295,23 +287,16 @@ module _ {T : Type 0} (stands : T → T → List Signed → Type 0) (opening : T
         seen = g.seen;
         own = g.own live';
         owes = g.owes live' ∙ free;
-      } in record {
-        unsettled = r.unsettled;
-        edge = r.edge;
-        history = r.history;
-        counted = r.counted;
-        order = r.order;
-        counts = r.counts;
-        crowd = crowd_less (begins_in log (state_at log).serial) now' other w there' (λ e. apart (sym e ∙ sym (root_seat log m.views id v r.numbers at live number).0)) (crowd_set (begins_in log (state_at log).serial) m.views id v (joining v w) at (self _) (self _) refl r.crowd);
-        each = fits_set (Fits opening m.turn log r.unsettled r.edge) now' other spent_view (dead_fits opening m.turn log r.unsettled r.edge [] (log, refl))
-            (λ j u _ e. fits_set (Fits opening m.turn log r.unsettled r.edge) m.views id (joining v w)
-            (longer_fits v w (joining v w) f g.seen refl (λ i l e'. prefix_trans l v.seen (longer v.seen w.seen) (f.older i l e') (longer_first v.seen w.seen)))
-            (λ i x _ at'. r.each i x at') j u e);
-        numbers = join_numbers log m.views id v other w at there apart live number live' r.numbers left;
-        duties = duties_less (is_due (state_at log) r.unsettled) now' other w there' none (duties_stay (is_due (state_at log) r.unsettled) m.views id v (joining v w) at refl r.duties);
-        free = r.free;
-        taken = λ more. let t = r.taken more in (holder_stays now' other w spent_view there' (sym idle) (holder_stays m.views id v (joining v w) at refl t.0), t.1);
-      }
+      } in
+      with_others stands opening log m r m.board (set now' other spent_view)
+      (crowd_less (begins_in log (state_at log).serial) now' other w there' (λ e. apart (sym e ∙ sym (root_seat log m.views id v r.numbers at live number).0)) (crowd_set (begins_in log (state_at log).serial) m.views id v (joining v w) at (self _) (self _) refl r.crowd))
+      (fits_set (Fits opening m.turn log r.unsettled r.edge) now' other spent_view (dead_fits opening m.turn log r.unsettled r.edge [] (log, refl))
+      (λ j u _ e. fits_set (Fits opening m.turn log r.unsettled r.edge) m.views id (joining v w)
+      (longer_fits v w (joining v w) f g.seen refl (λ i l e'. prefix_trans l v.seen (longer v.seen w.seen) (f.older i l e') (longer_first v.seen w.seen)))
+      (λ i x _ at'. r.each i x at') j u e))
+      (join_numbers log m.views id v other w at there apart live number live' r.numbers left)
+      (duties_less (is_due (state_at log) r.unsettled) now' other w there' none (duties_stay (is_due (state_at log) r.unsettled) m.views id v (joining v w) at refl r.duties))
+      (λ _. refl) (λ more. let t = r.taken more in (holder_stays now' other w spent_view there' (sym idle) (holder_stays m.views id v (joining v w) at refl t.0), t.1))
     where
       self : (n : ℕ) → n ≤ n
       self n = omega arith

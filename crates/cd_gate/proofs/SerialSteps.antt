@@ -5,7 +5,7 @@ use mathlib.Core.Option.{none, some}
 use mathlib.Core.Logic.{dite}
 use native.Mathlib.Decide.{ℕ_discrete}
 use lib.ListN.{get_elem?}
-use Rattle.atomic_table.specs.Table.{State, Me, step, keeps, stepped, Allows}
+use Rattle.atomic_table.specs.Table.{step, keeps, stepped, Allows}
 use Rattle.cd_legal.specs.declared.entry.Change.{Change}
 use Rattle.cd_legal.specs.declared.entry.Entry.{Entry}
 use Rattle.cd_legal.specs.declared.entry.Entry.TheVariants.{Publish, Halt}
@@ -28,6 +28,7 @@ use Rattle.cd_gate.proofs.Serials.{Supersedes, step_reset, step_supersede, step_
 use Rattle.cd_gate.proofs.Balances.{parts}
 use Rattle.cd_gate.proofs.RequestSteps.{shows, found_by}
 use Rattle.cd_gate.proofs.RequestSteps.{few_now as few_current}
+use Rattle.cd_gate.proofs.Tabled.{Table, AtSeat}
 
 -- ---- numbers
 
@@ -49,17 +50,11 @@ place_sum : (z : ℕ) → 3 + (1 + z) ≡ 4 + z
 place_sum z = omega arith
 
 module _ {T : Type 0} (stands : T → T → List Signed → Type 0) (first : T) where
-  abbrev St : Type 0
-  St = State (Option T) (View T)
-
-  abbrev M : Type 0
-  M = Me (Option T) (View T)
-
-  abbrev Rule : St → Type 0
+  abbrev Rule : Table T → Type 0
   Rule = Holds stands first
 
   -- a balance was written
-  writes : (s : St) (r : Rule s) (id p n : ℕ) (w : View T) (cs : List (ℕ × Option T))
+  writes : (s : Table T) (r : Rule s) (id p n : ℕ) (w : View T) (cs : List (ℕ × Option T))
       → IsKept stands first r.log (record { packed = get_or s.words 0 0; turn = get_or s.words 1 0; counted = get_or s.words 2 0; balances = set (drop 3 s.words) p n; board = r.slot; views = set s.views id w })
       → Rule (stepped s (3 + p) n id cs w keeps)
   writes s r id p n w cs k = record {
@@ -73,7 +68,7 @@ module _ {T : Type 0} (stands : T → T → List Signed → Type 0) (first : T) 
     home = r.home;
   }
 
-  pub readies : (slots id i q : ℕ) (m : M) → i ≡ 4 + (q + 1) % MAX_UNRETIRED → m.0.turn ≡ true → m.0.unsettled ≡ None → q ≡ (state_at m.0.seen).serial → (state_at m.0.seen).halted ≡ false
+  pub readies : (slots id i q : ℕ) (m : AtSeat T) → i ≡ 4 + (q + 1) % MAX_UNRETIRED → m.0.turn ≡ true → m.0.unsettled ≡ None → q ≡ (state_at m.0.seen).serial → (state_at m.0.seen).halted ≡ false
       → ((k : ℕ) → k + MAX_UNRETIRED ≡ q + 1 → has_number k (state_at m.0.seen).retired ≡ true)
       → Allows Rule slots id m i (λ n. FULL_BALANCE) (λ _. has_readied (step slots i FULL_BALANCE 0 none) m FULL_BALANCE)
   readies slots id i q m place has quiet is on free s r deep at low =
@@ -88,7 +83,7 @@ module _ {T : Type 0} (stands : T → T → List Signed → Type 0) (first : T) 
       )
 
   -- an entry that supersedes the serial
-  swaps : (slots id q : ℕ) (e : Entry) (m : M) (s : St) (r : Rule s) (at : get_elem? s.views id ≡ some m.0) (has : m.0.turn ≡ true) → m.0.unsettled ≡ None → q ≡ (state_at m.0.seen).serial
+  swaps : (slots id q : ℕ) (e : Entry) (m : AtSeat T) (s : Table T) (r : Rule s) (at : get_elem? s.views id ≡ some m.0) (has : m.0.turn ≡ true) → m.0.unsettled ≡ None → q ≡ (state_at m.0.seen).serial
       → Supersedes stands first r.log (moment_of s r.slot) r.kept id m.0 at has q e
       → (w : View T) × (a : _) × Rattle.atomic_table.specs.Table.Valid s.homes m.1 a × Rule (stepped s 0 ((q + 1) * SERIAL_STEP) id m.1 w a) × superseded_at q e (step slots 0 ((q + 1) * SERIAL_STEP) 0 none) m (get_or s.words 0 0) (w, Rattle.atomic_table.specs.Table.carried_after m.1 a)
   swaps slots id q e m s r at has quiet is u =
@@ -123,18 +118,18 @@ module _ {T : Type 0} (stands : T → T → List Signed → Type 0) (first : T) 
       )
 
   -- whatever the entry is, by the serial
-  swaps_by : (slots id q : ℕ) (by : ℕ → Entry) (m : M) (s : St) (r : Rule s) (at : get_elem? s.views id ≡ some m.0) (has : m.0.turn ≡ true) → m.0.unsettled ≡ None → (is : q ≡ (state_at m.0.seen).serial)
+  swaps_by : (slots id q : ℕ) (by : ℕ → Entry) (m : AtSeat T) (s : Table T) (r : Rule s) (at : get_elem? s.views id ≡ some m.0) (has : m.0.turn ≡ true) → m.0.unsettled ≡ None → (is : q ≡ (state_at m.0.seen).serial)
       → Supersedes stands first r.log (moment_of s r.slot) r.kept id m.0 at has q (by q)
       → (w : View T) × (a : _) × Rattle.atomic_table.specs.Table.Valid s.homes m.1 a × Rule (stepped s 0 ((q + 1) * SERIAL_STEP) id m.1 w a) × has_superseded by (step slots 0 ((q + 1) * SERIAL_STEP) 0 none) m (get_or s.words 0 0) (w, Rattle.atomic_table.specs.Table.carried_after m.1 a)
   swaps_by slots id q by m s r at has quiet is u =
       let t = swaps slots id q (by q) m s r at has quiet is u in
       (t.0, t.1, t.2, t.3, λ n now. subst (λ (z : ℕ). superseded_at z (by z) (step slots 0 ((q + 1) * SERIAL_STEP) 0 none) m (get_or s.words 0 0) (t.0, Rattle.atomic_table.specs.Table.carried_after m.1 t.1)) (is ∙ sym now) t.4)
 
-  pub halts_now : (slots id q : ℕ) (m : M) → m.0.turn ≡ true → m.0.unsettled ≡ None → q ≡ (state_at m.0.seen).serial → (state_at m.0.seen).halted ≡ false
+  pub halts_now : (slots id q : ℕ) (m : AtSeat T) → m.0.turn ≡ true → m.0.unsettled ≡ None → q ≡ (state_at m.0.seen).serial → (state_at m.0.seen).halted ≡ false
       → Allows Rule slots id m 0 (λ _. (q + 1) * SERIAL_STEP) (has_superseded (λ n. Halt (n + 1)) (step slots 0 ((q + 1) * SERIAL_STEP) 0 none) m)
   halts_now slots id q m has quiet is on s r deep at low = swaps_by slots id q (λ n. Halt (n + 1)) m s r at has quiet is (halts stands first r.log (moment_of s r.slot) r.kept id m.0 at has q is on)
 
-  pub publishes_now : (slots id q d k : ℕ) (c : Change) (e : Entry) (m : M) → e ≡ Publish d k q c → m.0.turn ≡ true → m.0.unsettled ≡ None → m.0.ready ≡ true → m.0.ticket ≡ Some q → q ≡ (state_at m.0.seen).serial → q < LAST_SERIAL
+  pub publishes_now : (slots id q d k : ℕ) (c : Change) (e : Entry) (m : AtSeat T) → e ≡ Publish d k q c → m.0.turn ≡ true → m.0.unsettled ≡ None → m.0.ready ≡ true → m.0.ticket ≡ Some q → q ≡ (state_at m.0.seen).serial → q < LAST_SERIAL
       → allowed (state_at m.0.seen) e ≡ true → may_sign m.0.number (owed m.0) e ≡ true
       → Allows Rule slots id m 0 (λ _. (q + 1) * SERIAL_STEP) (has_superseded (λ _. e) (step slots 0 ((q + 1) * SERIAL_STEP) 0 none) m)
   publishes_now slots id q d k c e m same has quiet ready ticket is room may signs s r deep at low =
@@ -142,7 +137,7 @@ module _ {T : Type 0} (stands : T → T → List Signed → Type 0) (first : T) 
       (subst (λ (z : Entry). Supersedes stands first r.log (moment_of s r.slot) r.kept id m.0 at has q z) (sym same)
       (publishes stands first r.log (moment_of s r.slot) r.kept id m.0 at has d k q c is (ap (λ (z : Entry). allowed (state_at m.0.seen) z) (sym same) ∙ may) (ap (λ (z : Entry). may_sign m.0.number (owed m.0) z) (sym same) ∙ signs) quiet ready ticket room))
 
-  pub settles_now : (slots id i n b : ℕ) (m : M) → i ≡ 4 + n % MAX_UNRETIRED → m.0.turn ≡ true → m.0.unsettled ≡ Some (record { serial = n; begins = b }) → apps_stopped (state_at m.0.seen) n ≡ true
+  pub settles_now : (slots id i n b : ℕ) (m : AtSeat T) → i ≡ 4 + n % MAX_UNRETIRED → m.0.turn ≡ true → m.0.unsettled ≡ Some (record { serial = n; begins = b }) → apps_stopped (state_at m.0.seen) n ≡ true
       → Allows Rule slots id m i (λ g. (g + (2 ^ 64 - (FULL_BALANCE - b))) % 2 ^ 64) (has_settled (step slots i (FULL_BALANCE - b) 0 none) m)
   settles_now slots id i n b m place has unsettled stopped s r deep at low =
       let v : View T = m.0 in
@@ -167,7 +162,7 @@ module _ {T : Type 0} (stands : T → T → List Signed → Type 0) (first : T) 
           r.log,
           record { found = found_by stands first s r id v at held.0; core_is = sym held.2 },
           due ∙ ap (λ (z : Unsettled). open_at z.serial host.tickets == 0) same,
-          ap (λ (z : Unsettled). let q : M = (settled v z.serial (open_at n host.tickets == 0), m.1) in q) same ∙ ap (λ (z : Bool). let q : M = (settled v l.serial z, m.1) in q) (sym due),
+          ap (λ (z : Unsettled). let q : AtSeat T = (settled v z.serial (open_at n host.tickets == 0), m.1) in q) same ∙ ap (λ (z : Bool). let q : AtSeat T = (settled v l.serial z, m.1) in q) (sym due),
         )),
       )
     where

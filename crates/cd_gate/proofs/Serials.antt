@@ -2,7 +2,6 @@
 use Rattle.std.proofs.Common.{◌≡◌, ◌≢◌, ℕ, ◌+◌, ◌*◌, ◌%◌, ◌^◌, ◌<◌, ◌≤◌, ◌==◌, Bool, true, false, not, cond, nat_lt, List, [], ◌∷◌, ◌++◌, get_or, set, Option, Some, None, refl, sym, ap, ◌∙◌, subst, ⊎_elim, arith, eq-eqb, ne_eqb}
 use Rattle.std.specs.Prelude.{◌&&◌, option_map}
 use Rattle.std.proofs.lemmas.Bool.{eqb-true}
-use Rattle.std.proofs.lemmas.List.{append-nil}
 use mathlib.Core.Option.{some}
 use lib.ListN.{get_elem?}
 use Rattle.atomic_table.proofs.Lists.{set_here}
@@ -35,7 +34,7 @@ use Rattle.cd_gate.specs.Words.{Moment, owed}
 use Rattle.cd_gate.proofs.Balances.{settled_is, settled_low, settled_no, unsettled_no, place_open, place_low, place_halted, running, counts_reset, counts_superseded, counts_settle, unsettled_sum, unsettled_few}
 use Rattle.cd_gate.proofs.Dues.{duties_same, duties_given}
 use Rattle.cd_gate.proofs.Entries.{bare_same, begins_kept, noted_kept, allowed_same}
-use Rattle.cd_gate.proofs.Frames.{goes_nowhere, goes_on, none_some, others_wait, older_more, own_more, owes_more, next, not_free}
+use Rattle.cd_gate.proofs.Frames.{goes_nowhere, goes_on, none_some, others_wait, fits_more, next, not_free}
 use Rattle.cd_gate.proofs.Numbers.{tells, off}
 use Rattle.cd_gate.proofs.Orders.{ordered_reset, ordered_superseded, ordered_settle}
 use Rattle.cd_gate.proofs.Requesting.{crowd_same}
@@ -78,6 +77,23 @@ module _ {T : Type 0} (stands : T → T → List Signed → Type 0) (opening : T
   unsettled_by : v.unsettled ≡ None → r.unsettled ≡ None
   unsettled_by quiet = sym held.3 ∙ ap (λ (o : Option Unsettled). option_map (λ (z : Unsettled). z.serial) o) quiet
 
+  -- its view fits, whatever else it says of serials and of duties
+  still : (w : View T) → w ≡ record v { ready = w.ready; unsettled = w.unsettled; duties = w.duties } → (unsettled' : Option ℕ) (edge' : ℕ) → unsettled_in w ≡ unsettled' → w.ready ≡ is_ready s edge'
+      → ((l : Unsettled) → w.unsettled ≡ Some l → l.begins ≡ begins_in log l.serial) → ((l : Unsettled) → w.unsettled ≡ Some l → s.halted ≡ false → v.ticket ≡ Some l.serial) → Fits opening m.turn log unsettled' edge' w
+  still w is unsettled' edge' left ready begun lends = subst (Fits opening m.turn log unsettled' edge') (sym is) record {
+    opened = fit.opened;
+    seen = fit.seen;
+    older = fit.older;
+    own = fit.own;
+    own_seen = fit.own_seen;
+    owes = fit.owes;
+    holds = λ _. (live, held.1, held.2, left, ready);
+    waits = λ idle. absurd (off (sym idle ∙ has));
+    begun = begun;
+    lends = lends;
+    checks = fit.checks;
+  }
+
   -- ---- reset
 
   abbrev w_ready : View T
@@ -92,19 +108,7 @@ module _ {T : Type 0} (stands : T → T → List Signed → Type 0) (opening : T
       next stands opening log m r id v w_ready at live refl refl log r.unsettled (s.serial + 1) m.packed m.turn m.counted ready_balances m.board
       r.history r.counted (ordered_reset s r.unsettled r.edge r.order on alone reused) (counts_reset m.packed m.balances s r.unsettled r.edge (begins_in log) r.order r.counts on)
       (crowd_same stands opening log m r id v at live w_ready live refl refl (begins_in log s.serial) (self (begins_in log s.serial)))
-      record {
-        opened = fit.opened;
-        seen = fit.seen;
-        older = fit.older;
-        own = fit.own;
-        own_seen = fit.own_seen;
-        owes = fit.owes;
-        holds = λ _. (live, held.1, held.2, held.3, sym ready_now);
-        waits = λ idle. absurd (off (sym idle ∙ has));
-        begun = fit.begun;
-        lends = fit.lends;
-        checks = fit.checks;
-      }
+      (still w_ready refl r.unsettled (s.serial + 1) held.3 (sym ready_now) fit.begun fit.lends)
       (goes_nowhere log v.number) (λ j u apart e also. absurd (others_wait stands opening log m r id v at has j u apart e also))
       (duties_same m.views id v w_ready at live live (is_due s r.unsettled) (is_due s r.unsettled) r.duties (λ k. refl) refl)
       (not_free stands opening log m r id v w_ready at live refl refl log r.unsettled (s.serial + 1) m.packed m.turn m.counted ready_balances m.board refl refl has)
@@ -217,19 +221,9 @@ module _ {T : Type 0} (stands : T → T → List Signed → Type 0) (opening : T
         (subst (λ (z : State). Ordered z (Some s.serial) r.edge) (sym state_now) order_now)
         (subst (λ (z : State). Counts ((s.serial + 1) * SERIAL_STEP) m.balances z (Some s.serial) r.edge (begins_in log')) (sym state_now) counts_now)
         (subst (λ (z : State). Crowd (begins_in log' z.serial) (set m.views id w)) (sym state_now) (crowd_same stands opening log m r id v at live w live refl refl (begins_in log' (after s e).serial) begins_now))
-        record {
-          opened = fit.opened;
-          seen = ([], append-nil log');
-          older = older_more opening m.turn log r.unsettled r.edge v e fit;
-          own = own_more opening m.turn log r.unsettled r.edge v e fit;
-          own_seen = own_more opening m.turn log r.unsettled r.edge v e fit;
-          owes = owes_more opening m.turn log r.unsettled r.edge v e fit;
-          holds = λ _. (live, held.1, refl, ap (λ (z : ℕ). Some z) is_serial, sym (ap (λ (z : State). is_ready z r.edge) state_now ∙ u.unready));
-          waits = λ idle. absurd (off (sym idle ∙ has));
-          begun = λ l is. begun_by l is;
-          lends = λ l is on. u.ticket (ap (λ (z : State). z.halted) (sym state_now) ∙ on) ∙ ap (λ (z : Unsettled). Some z.serial) (some_is _ l is);
-          checks = fit.checks;
-        }
+        (fits_more opening m.turn log r.unsettled r.edge v e fit w refl (Some s.serial)
+        (λ _. (ap (λ (z : ℕ). Some z) is_serial, sym (ap (λ (z : State). is_ready z r.edge) state_now ∙ u.unready))) (λ idle. absurd (off (sym idle ∙ has))) begun_by
+        (λ l is on. u.ticket (ap (λ (z : State). z.halted) (sym state_now) ∙ on) ∙ ap (λ (z : Unsettled). Some z.serial) (some_is _ l is)) fit.checks)
         (goes_on log v.number e (λ h. u.runs)) (λ j x apart e' also. absurd (others_wait stands opening log m r id v at has j x apart e' also))
         (duties_same m.views id v w at live live (is_due s r.unsettled) (is_due (state_at log') (Some s.serial)) r.duties (λ k. ap (λ (z : State). is_due z (Some s.serial) k) state_now ∙ due_same k) refl)
         (not_free stands opening log m r id v w at live refl refl log' (Some s.serial) r.edge ((s.serial + 1) * SERIAL_STEP) m.turn m.counted m.balances m.board refl refl has)
@@ -378,19 +372,7 @@ module _ {T : Type 0} (stands : T → T → List Signed → Type 0) (opening : T
         next stands opening log m r id v w_settled at live refl refl log None r.edge m.packed m.turn m.counted bs m.board
         r.history r.counted (ordered_settle s r.unsettled r.edge r.order n is_unsettled (sym (seen_stopped n) ∙ stopped)) (counts_settle m.packed m.balances s r.unsettled r.edge (begins_in log) r.order r.counts n is_unsettled)
         (crowd_same stands opening log m r id v at live w_settled live refl refl (begins_in log s.serial) (self (begins_in log s.serial)))
-        record {
-          opened = fit.opened;
-          seen = fit.seen;
-          older = fit.older;
-          own = fit.own;
-          own_seen = fit.own_seen;
-          owes = fit.owes;
-          holds = λ _. (live, held.1, held.2, refl, held.4);
-          waits = λ idle. absurd (off (sym idle ∙ has));
-          begun = λ l is. absurd (none_some None l refl is);
-          lends = λ l is on. absurd (none_some None l refl is);
-          checks = fit.checks;
-        }
+        (still w_settled refl None r.edge refl held.4 (λ l is. absurd (none_some None l refl is)) (λ l is on. absurd (none_some None l refl is)))
         (goes_nowhere log v.number) (λ j u apart e also. absurd (others_wait stands opening log m r id v at has j u apart e also))
         (duties_given m.views id v w_settled at live live (is_due s r.unsettled) (is_due s None) r.duties n (open_now == 0) due_before due_settled due_other refl)
         (not_free stands opening log m r id v w_settled at live refl refl log None r.edge m.packed m.turn m.counted bs m.board refl refl has)

@@ -14,6 +14,7 @@ use Rattle.cd_gate.specs.Steps.{longer, messenger, spent_view, told, compared, w
 use Rattle.cd_gate.specs.Words.{Moment}
 use Rattle.cd_gate.proofs.Longer.{longer_first, longer_second}
 use Rattle.cd_gate.proofs.Dues.{duties_stay}
+use Rattle.cd_gate.proofs.Frames.{with_others}
 use Rattle.cd_gate.proofs.Seated.{crowd_set, crowd_less, crowd_more}
 use Rattle.cd_gate.proofs.Numbers.{off}
 use Rattle.cd_gate.proofs.Views.{fits_set, left_same, numbers_stay, holder_stays}
@@ -88,22 +89,14 @@ module _ {T : Type 0} (stands : T → T → List Signed → Type 0) (opening : T
   root_elsewhere other w dead there e = off (sym dead ∙ (ap (λ (z : View T). z.live) (some-injective _ _ (sym there ∙ (ap (get_elem? m.views) (sym e) ∙ r.numbers.root_at))) ∙ r.numbers.root_is.0))
 
   sends : (id : ℕ) (v : View T) → get_elem? m.views id ≡ some v → IsKept stands opening log (with_seat m (messenger v.seen))
-  sends id v at = record {
-    unsettled = r.unsettled;
-    edge = r.edge;
-    history = r.history;
-    counted = r.counted;
-    order = r.order;
-    counts = r.counts;
-    crowd = crowd_more (begins_in log (state_at log).serial) m.views r.numbers.root (messenger v.seen) r.numbers.root_at refl refl r.crowd;
-    each = λ j u e. ⊎_elim (λ e'. r.each j u e')
-        (λ (new : messenger v.seen ≡ u). subst (Fits opening m.turn log r.unsettled r.edge) new (dead_fits opening m.turn log r.unsettled r.edge v.seen (r.each id v at).seen))
-        (at_snoc m.views (messenger v.seen) u j e);
-    numbers = dead_comes log m.views (messenger v.seen) refl r.numbers;
-    duties = duties_more (is_due (state_at log) r.unsettled) m.views (messenger v.seen) refl r.duties;
-    free = r.free;
-    taken = λ more. let t = r.taken more in ((t.0.0, t.0.1, at_longer m.views (messenger v.seen ∷ []) t.0.0 t.0.1 t.0.2, t.0.3), t.1);
-  }
+  sends id v at = with_others stands opening log m r m.board (m.views ++ messenger v.seen ∷ [])
+      (crowd_more (begins_in log (state_at log).serial) m.views r.numbers.root (messenger v.seen) r.numbers.root_at refl refl r.crowd)
+      (λ j u e. ⊎_elim (λ e'. r.each j u e')
+      (λ (new : messenger v.seen ≡ u). subst (Fits opening m.turn log r.unsettled r.edge) new (dead_fits opening m.turn log r.unsettled r.edge v.seen (r.each id v at).seen))
+      (at_snoc m.views (messenger v.seen) u j e))
+      (dead_comes log m.views (messenger v.seen) refl r.numbers)
+      (duties_more (is_due (state_at log) r.unsettled) m.views (messenger v.seen) refl r.duties)
+      (λ _. refl) (λ more. let t = r.taken more in ((t.0.0, t.0.1, at_longer m.views (messenger v.seen ∷ []) t.0.0 t.0.1 t.0.2, t.0.3), t.1))
 
   pub copies : (id : ℕ) (v : View T) → get_elem? m.views id ≡ some v → IsKept stands opening log (copy m id v)
   copies id v at = subst (λ (vs : List (View T)). IsKept stands opening log (record m { views = vs ++ messenger v.seen ∷ [] })) (sym (set_again m.views id v at)) (sends id v at)
@@ -116,22 +109,14 @@ module _ {T : Type 0} (stands : T → T → List Signed → Type 0) (opening : T
       let now : List (View T) = set m.views id u in
       let there' : get_elem? now other ≡ some w = set_else m.views id other u apart ∙ there in
       let idle : w.turn ≡ false = no_turn w.turn (λ has. sym dead ∙ (g.holds has).0) in
-      record {
-        unsettled = r.unsettled;
-        edge = r.edge;
-        history = r.history;
-        counted = r.counted;
-        order = r.order;
-        counts = r.counts;
-        crowd = crowd_less (begins_in log (state_at log).serial) now other w there' (root_elsewhere other w dead there) (crowd_set (begins_in log (state_at log).serial) m.views id v u at (self _) (self _) refl r.crowd);
-        each = fits_set (Fits opening m.turn log r.unsettled r.edge) now other spent_view (dead_fits opening m.turn log r.unsettled r.edge [] (log, refl))
-            (λ j x _ e. fits_set (Fits opening m.turn log r.unsettled r.edge) m.views id u
-            (longer_fits stands opening log m r v w u f g.seen refl (olds v.seen w.seen log f.seen g.seen)) (λ i y _ at'. r.each i y at') j x e);
-        numbers = dead_goes log now other w there' dead (numbers_stay log log m.views id v u at refl refl r.numbers r.numbers.unmade (left_same log m.views));
-        duties = duties_went (is_due (state_at log) r.unsettled) now other w there' dead (duties_stay (is_due (state_at log) r.unsettled) m.views id v u at refl r.duties);
-        free = r.free;
-        taken = λ more. let t = r.taken more in (holder_stays now other w spent_view there' (sym idle) (holder_stays m.views id v u at refl t.0), t.1);
-      }
+      with_others stands opening log m r m.board (set now other spent_view)
+      (crowd_less (begins_in log (state_at log).serial) now other w there' (root_elsewhere other w dead there) (crowd_set (begins_in log (state_at log).serial) m.views id v u at (self _) (self _) refl r.crowd))
+      (fits_set (Fits opening m.turn log r.unsettled r.edge) now other spent_view (dead_fits opening m.turn log r.unsettled r.edge [] (log, refl))
+      (λ j x _ e. fits_set (Fits opening m.turn log r.unsettled r.edge) m.views id u
+      (longer_fits stands opening log m r v w u f g.seen refl (olds v.seen w.seen log f.seen g.seen)) (λ i y _ at'. r.each i y at') j x e))
+      (dead_goes log now other w there' dead (numbers_stay log log m.views id v u at refl refl r.numbers r.numbers.unmade (left_same log m.views)))
+      (duties_went (is_due (state_at log) r.unsettled) now other w there' dead (duties_stay (is_due (state_at log) r.unsettled) m.views id v u at refl r.duties))
+      (λ _. refl) (λ more. let t = r.taken more in (holder_stays now other w spent_view there' (sym idle) (holder_stays m.views id v u at refl t.0), t.1))
     where
       no_turn : (b : Bool) → (b ≡ true → false ≡ true) → b ≡ false
       no_turn true never = sym (never refl)
@@ -141,18 +126,10 @@ module _ {T : Type 0} (stands : T → T → List Signed → Type 0) (opening : T
   compares id v at =
       let f = r.each id v at in
       let w : View T = compared v in
-      record {
-        unsettled = r.unsettled;
-        edge = r.edge;
-        history = r.history;
-        counted = r.counted;
-        order = r.order;
-        counts = r.counts;
-        crowd = crowd_set (begins_in log (state_at log).serial) m.views id v w at (self _) (self _) refl r.crowd;
-        each = fits_set (Fits opening m.turn log r.unsettled r.edge) m.views id w
-            record { opened = f.opened; seen = f.seen; older = λ i l e. absurd (some-ne-none l (sym e)); own = f.own; own_seen = f.own_seen; owes = f.owes; holds = f.holds; waits = f.waits; begun = f.begun; lends = f.lends; checks = f.checks } (λ j u _ e. r.each j u e);
-        numbers = numbers_stay log log m.views id v w at refl refl r.numbers r.numbers.unmade (left_same log m.views);
-        duties = duties_stay (is_due (state_at log) r.unsettled) m.views id v w at refl r.duties;
-        free = r.free;
-        taken = λ more. let t = r.taken more in (holder_stays m.views id v w at refl t.0, t.1);
-      }
+      with_others stands opening log m r m.board (set m.views id w)
+      (crowd_set (begins_in log (state_at log).serial) m.views id v w at (self _) (self _) refl r.crowd)
+      (fits_set (Fits opening m.turn log r.unsettled r.edge) m.views id w
+      record { opened = f.opened; seen = f.seen; older = λ i l e. absurd (some-ne-none l (sym e)); own = f.own; own_seen = f.own_seen; owes = f.owes; holds = f.holds; waits = f.waits; begun = f.begun; lends = f.lends; checks = f.checks } (λ j u _ e. r.each j u e))
+      (numbers_stay log log m.views id v w at refl refl r.numbers r.numbers.unmade (left_same log m.views))
+      (duties_stay (is_due (state_at log) r.unsettled) m.views id v w at refl r.duties)
+      (λ _. refl) (λ more. let t = r.taken more in (holder_stays m.views id v w at refl t.0, t.1))

@@ -4,7 +4,7 @@ use Rattle.std.proofs.lemmas.List.{set-get_or, drop-set-lt}
 use mathlib.Core.Option.{none, some}
 use lib.ListN.{get_elem?}
 use prog.Atomic.{either}
-use Rattle.atomic_table.specs.Table.{State, Me, step, Act, keeps, takes, gives, stepped, carried_after, Valid, Allows}
+use Rattle.atomic_table.specs.Table.{step, Act, keeps, takes, gives, stepped, carried_after, Valid, Allows}
 use Rattle.atomic_table.proofs.Lists.{set_here, set_again, exchanged}
 use Rattle.cd_legal.specs.declared.entry.Entry.{Entry}
 use Rattle.cd_legal.specs.declared.entry.Signed.{Signed}
@@ -21,6 +21,7 @@ use Rattle.cd_gate.proofs.Fates.{duty_allowed}
 use Rattle.cd_gate.proofs.Notes.{step_note, history_now}
 use Rattle.cd_gate.proofs.RequestSteps.{shows, found_by}
 use Rattle.cd_gate.proofs.Turns.{acquires, releases}
+use Rattle.cd_gate.proofs.Tabled.{Table, AtSeat, home_is}
 
 abbrev or_else : {A : Type 0} → A → Option A → A
 or_else d None = d
@@ -31,28 +32,19 @@ room_of true n le is = absurd (let e : true ≡ false = is in cc)
 room_of false n le is = omega arith
 
 module _ {T : Type 0} (stands : T → T → List Signed → Type 0) (first : T) where
-  abbrev St : Type 0
-  St = State (Option T) (View T)
-
-  abbrev M : Type 0
-  M = Me (Option T) (View T)
-
-  abbrev Rule : St → Type 0
+  abbrev Rule : Table T → Type 0
   Rule = Holds stands first
 
   not_home : (x : Option T) (b : T) → Slot.Held x ≡ Slot.Home b → ⊥
   not_home x b e = absurd (cc)
 
-  home_is : (b c : T) → Slot.Home b ≡ Slot.Home c → b ≡ c
-  home_is b c e = cc
-
   -- ---- the turn is taken
 
   -- what a compare-exchange of the turn asks, where the word becomes n
-  abbrev Turning : (slots id turn : ℕ) (m : M) (s : St) → ℕ → Type 0
+  abbrev Turning : (slots id turn : ℕ) (m : AtSeat T) (s : Table T) → ℕ → Type 0
   Turning slots id turn m s n = (w : View T) × (a : Act (Option T)) × Valid s.homes m.1 a × Rule (stepped s 1 n id m.1 w a) × acquired stands (step slots 1 0 turn none) m (get_or s.words 1 0) (w, carried_after m.1 a)
 
-  takes_turn : (slots id turn : ℕ) (m : M) (s : St) (r : Rule s) → m.0.live ≡ true → turn ≡ m.0.number + 1 → get_elem? s.views id ≡ some m.0 → get_or s.words 1 0 ≡ 0 → Turning slots id turn m s turn
+  takes_turn : (slots id turn : ℕ) (m : AtSeat T) (s : Table T) (r : Rule s) → m.0.live ≡ true → turn ≡ m.0.number + 1 → get_elem? s.views id ≡ some m.0 → get_or s.words 1 0 ≡ 0 → Turning slots id turn m s turn
   takes_turn slots id turn m s r live turn_is at free =
       let v : View T = m.0 in
       let home = r.kept.free free in
@@ -94,11 +86,11 @@ module _ {T : Type 0} (stands : T → T → List Signed → Type 0) (first : T) 
         ),
       )
 
-  same_state : (id : ℕ) (v : View T) (s : St) → Rule s → get_elem? s.views id ≡ some v → Rule record { words = set s.words 1 (get_or s.words 1 0); homes = s.homes; views = set s.views id v }
+  same_state : (id : ℕ) (v : View T) (s : Table T) → Rule s → get_elem? s.views id ≡ some v → Rule record { words = set s.words 1 (get_or s.words 1 0); homes = s.homes; views = set s.views id v }
   same_state id v s r at = subst (λ (ws : List ℕ). Rule record { words = ws; homes = s.homes; views = set s.views id v }) (sym (set-get_or s.words 1 0))
       (subst (λ (vs : List (View T)). Rule record { words = s.words; homes = s.homes; views = vs }) (sym (set_again s.views id v at)) r)
 
-  pub takes_the_turn : (slots id turn : ℕ) (m : M) → m.0.live ≡ true → turn ≡ m.0.number + 1
+  pub takes_the_turn : (slots id turn : ℕ) (m : AtSeat T) → m.0.live ≡ true → turn ≡ m.0.number + 1
       → Allows Rule slots id m 1 (λ n. either (n == 0) turn n) (acquired stands (step slots 1 0 turn none) m)
   takes_the_turn slots id turn m live turn_is s r deep at low = exchanged (get_or s.words 1 0) 0 turn (Turning slots id turn m s)
       (λ hit. takes_turn slots id turn m s r live turn_is at hit)
@@ -106,7 +98,7 @@ module _ {T : Type 0} (stands : T → T → List Signed → Type 0) (first : T) 
 
   -- ---- an entry is noted
 
-  pub notes_now : (slots id : ℕ) (m : M) (e : Entry) → m.0.turn ≡ true → may_note m.0 e ≡ true
+  pub notes_now : (slots id : ℕ) (m : AtSeat T) (e : Entry) → m.0.turn ≡ true → may_note m.0 e ≡ true
       → Allows Rule slots id m 2 (λ n. (n + 1) % 2 ^ 64) (wrote e (step slots 2 1 0 none) m)
   notes_now slots id m e has may s r deep at low =
       let v : View T = m.0 in
@@ -133,14 +125,14 @@ module _ {T : Type 0} (stands : T → T → List Signed → Type 0) (first : T) 
 
   -- ---- the turn is given back
 
-  pub gives_back : (slots id : ℕ) (m : M) (o b : T) → m.0.live ≡ true → m.0.turn ≡ true → m.0.unsettled ≡ None → m.0.ready ≡ false → m.1 ≡ (0, Some b) ∷ [] → m.0.opening ≡ Some o → stands o b (core_at m.0.seen) → nothing_left (state_at m.0.seen) ≡ true
+  pub gives_back : (slots id : ℕ) (m : AtSeat T) (o b : T) → m.0.live ≡ true → m.0.turn ≡ true → m.0.unsettled ≡ None → m.0.ready ≡ false → m.1 ≡ (0, Some b) ∷ [] → m.0.opening ≡ Some o → stands o b (core_at m.0.seen) → nothing_left (state_at m.0.seen) ≡ true
       → Allows Rule slots id m 1 (λ _. 0) (λ _. released (step slots 1 0 0 none) m 0)
   gives_back slots id m o b live has quiet unready carried opened board left s r deep at low =
       let v : View T = m.0 in
       let w : View T = without_turn v in
       let f = r.kept.each id v at in
       let same : o ≡ first = ap (or_else o) (sym opened ∙ f.opened live) in
-      let after : St = record { words = set s.words 1 0; homes = set s.homes 0 (some (Some b)); views = set s.views id w } in (
+      let after : Table T = record { words = set s.words 1 0; homes = set s.homes 0 (some (Some b)); views = set s.views id w } in (
         w,
         gives,
         tt,

@@ -16,7 +16,7 @@ use Rattle.cd_gate.specs.Steps.{with_turn, without_turn, with_view, acquire, mov
 use Rattle.cd_gate.specs.Words.{Slot, Moment}
 use Rattle.cd_gate.proofs.Dues.{duties_same}
 use Rattle.cd_gate.proofs.Entries.{left_same}
-use Rattle.cd_gate.proofs.Frames.{goes_nowhere, others_wait, next}
+use Rattle.cd_gate.proofs.Frames.{goes_nowhere, others_wait, with_others, next}
 use Rattle.cd_gate.proofs.Longer.{prefix_self}
 use Rattle.cd_gate.proofs.Numbers.{tells, off}
 use Rattle.cd_gate.proofs.Requesting.{crowd_same}
@@ -60,20 +60,8 @@ module _ {T : Type 0} (stands : T → T → List Signed → Type 0) (opening : T
   same_view id v at = subst (λ (vs : List (View T)). IsKept stands opening log (record m { views = vs })) (sym (set_again m.views id v at)) r
 
   pub moves : (id : ℕ) (v : View T) (x : Option T) → get_elem? m.views id ≡ some v → v.turn ≡ true → IsKept stands opening log (move_board m x)
-  moves id v x at has = record {
-    unsettled = r.unsettled;
-    edge = r.edge;
-    history = r.history;
-    counted = r.counted;
-    order = r.order;
-    counts = r.counts;
-    crowd = r.crowd;
-    each = r.each;
-    numbers = r.numbers;
-    duties = r.duties;
-    free = λ z. absurd (nobody m.turn v.number z ((r.each id v at).holds has).1);
-    taken = λ more. ((r.taken more).0, (x, refl));
-  }
+  moves id v x at has = with_others stands opening log m r (Slot.Held x) m.views r.crowd r.each r.numbers r.duties
+      (λ z. absurd (nobody m.turn v.number z ((r.each id v at).holds has).1)) (λ more. ((r.taken more).0, (x, refl)))
 
   pub releases : (id : ℕ) (v : View T) (b : T) → get_elem? m.views id ≡ some v → v.turn ≡ true → v.unsettled ≡ None → v.ready ≡ false → stands opening b (core_at v.seen) → nothing_left (state_at v.seen) ≡ true → IsKept stands opening log (release m id v b)
   releases id v b at has quiet unready board left =
