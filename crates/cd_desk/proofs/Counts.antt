@@ -1,5 +1,5 @@
 -- What is known of a draft after one more is opened.
-use Rattle.std.proofs.Common.{◌≡◌, ℕ, ◌+◌, ◌<◌, false, Option, Result, sym, ap, ◌∙◌, arith, List, length, slice_get, subst, is_err}
+use Rattle.std.proofs.Common.{◌≡◌, ℕ, ◌+◌, ◌<◌, false, Option, Result, refl, sym, ap, ◌∙◌, arith, List, length, slice_get, subst, is_err}
 use Rattle.std.proofs.lemmas.List.{length-set}
 use Rattle.cd_tree.specs.declared.tree.Tree.{Tree}
 use Rattle.cd_outside.specs.declared.key.Key.{Key}
@@ -22,7 +22,8 @@ use Rattle.cd_desk.specs.Rows.{line_at}
 use Rattle.cd_desk.specs.Drafting.{HasNew}
 use Rattle.cd_legal.specs.declared.state.Life.TheVariants.{Live}
 use Rattle.cd_desk.proofs.Wholes.{live_whole}
-use Rattle.cd_desk.proofs.Openings.{line_part, line_plan, length_map}
+use Rattle.cd_desk.proofs.Parts.{line_part, line_plan}
+use Rattle.cd_desk.proofs.Openings.{length_map}
 use Rattle.cd_desk.proofs.Lists.{get_set_same, same_at}
 use Rattle.cd_desk.proofs.Numbers.{at_place, number_of}
 
@@ -48,46 +49,41 @@ can_start b t l i ready more unfailed =
     let all = f.apps in
     record { place = i.place; row = i.row; at = i.at; live = f.live; unfailed = f.failed ∙ unfailed; ready = f.made ∙ (ready ∙ sym f.modules); left = omega arith; unended = f.unended.1 }
 
+-- what is left of the draft, where its row changes
+left_on : (v w : Books) (l k : Left) (place : ℕ) → HasRowAt v l.number place → (m : Changes place v w) → k.number ≡ l.number → (Follows l m.was → Follows k m.is) → (t : Tree) → IsLeft v t l → IsLeft w t k
+left_on v w l k place number m same on t i =
+    let was : i.row ≡ m.was = was_at v w l.number place i.place i.row m number i.at in
+    let now = now_at v w l.number place m number in
+    record {
+      place = place;
+      row = m.is;
+      at = record { number = same ∙ now.number; there = now.there };
+      follows = on (subst (λ z. Follows l z) was i.follows);
+      tree = ap (λ z. z.value) m.tree ∙ (ap (λ z. z.tree.value) (sym was) ∙ i.tree);
+    }
+
 module _ (v w : Books) (l : Left) (place : ℕ) (before after : Option (List FixtureCall)) (result : Result (Unit {0}) Key) (number : HasRowAt v l.number place) where
   pub made_left : Opens Instance place v w before after result → (t : Tree) → IsLeft v t l → IsLeft w t (one_made l (is_err result))
-  made_left o t i =
-      let same : i.row ≡ o.changes.was = was_at v w l.number place i.place i.row o.changes number i.at in
-      let f : Follows l o.changes.was = subst (λ z. Follows l z) same i.follows in
-      record {
-        place = place;
-        row = o.changes.is;
-        at = now_at v w l.number place o.changes number;
-        follows = record {
-          live = o.life ∙ f.live;
-          failed = o.failed;
-          made = o.opens.opened ∙ ap (λ (z : ℕ). z + 1) f.made;
-          modules = ap length o.opens.parts ∙ (length-set o.changes.was.modules.parts.items o.changes.was.modules.opened o.opens.is ∙ f.modules);
-          started = ap (λ z. z.opened) o.others ∙ f.started;
-          apps = ap (λ z. length z.parts.items) o.others ∙ f.apps;
-          unended = (o.opens.ended ∙ f.unended.0, ap (λ z. z.ended) o.others ∙ f.unended.1);
-        };
-        tree = ap (λ z. z.value) o.changes.tree ∙ (ap (λ z. z.tree.value) (sym same) ∙ i.tree);
-      }
+  made_left o = left_on v w l (one_made l (is_err result)) place number o.changes refl (λ f. record {
+    live = o.life ∙ f.live;
+    failed = o.failed;
+    made = o.opens.opened ∙ ap (λ (z : ℕ). z + 1) f.made;
+    modules = ap length o.opens.parts ∙ (length-set o.changes.was.modules.parts.items o.changes.was.modules.opened o.opens.is ∙ f.modules);
+    started = ap (λ z. z.opened) o.others ∙ f.started;
+    apps = ap (λ z. length z.parts.items) o.others ∙ f.apps;
+    unended = (o.opens.ended ∙ f.unended.0, ap (λ z. z.ended) o.others ∙ f.unended.1);
+  })
 
   pub started_left : Opens App place v w before after result → (t : Tree) → IsLeft v t l → IsLeft w t (one_started l (is_err result))
-  started_left o t i =
-      let same : i.row ≡ o.changes.was = was_at v w l.number place i.place i.row o.changes number i.at in
-      let f : Follows l o.changes.was = subst (λ z. Follows l z) same i.follows in
-      record {
-        place = place;
-        row = o.changes.is;
-        at = now_at v w l.number place o.changes number;
-        follows = record {
-          live = o.life ∙ f.live;
-          failed = o.failed;
-          made = ap (λ z. z.opened) o.others ∙ f.made;
-          modules = ap (λ z. length z.parts.items) o.others ∙ f.modules;
-          started = o.opens.opened ∙ ap (λ (z : ℕ). z + 1) f.started;
-          apps = ap length o.opens.parts ∙ (length-set o.changes.was.apps.parts.items o.changes.was.apps.opened o.opens.is ∙ f.apps);
-          unended = (ap (λ z. z.ended) o.others ∙ f.unended.0, o.opens.ended ∙ f.unended.1);
-        };
-        tree = ap (λ z. z.value) o.changes.tree ∙ (ap (λ z. z.tree.value) (sym same) ∙ i.tree);
-      }
+  started_left o = left_on v w l (one_started l (is_err result)) place number o.changes refl (λ f. record {
+    live = o.life ∙ f.live;
+    failed = o.failed;
+    made = ap (λ z. z.opened) o.others ∙ f.made;
+    modules = ap (λ z. length z.parts.items) o.others ∙ f.modules;
+    started = o.opens.opened ∙ ap (λ (z : ℕ). z + 1) f.started;
+    apps = ap length o.opens.parts ∙ (length-set o.changes.was.apps.parts.items o.changes.was.apps.opened o.opens.is ∙ f.apps);
+    unended = (ap (λ z. z.ended) o.others ∙ f.unended.0, o.opens.ended ∙ f.unended.1);
+  })
 
 made_place : (v w : Books) (t : Tree) (l : Left) (place : ℕ) (before after : Option (List FixtureCall)) (result : Result (Unit {0}) Key) → HasRowAt v l.number place → (o : Opens Instance place v w before after result) → IsLeft v t l → o.changes.was.modules.opened ≡ l.made
 made_place v w t l place before after result number o i = ap (λ z. z.modules.opened) (sym (was_at v w l.number place i.place i.row o.changes number i.at)) ∙ i.follows.made

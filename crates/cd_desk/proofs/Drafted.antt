@@ -23,7 +23,7 @@ use Rattle.cd_desk.specs.Desks.{Keeps}
 use Rattle.cd_desk.specs.Drafting.{IsUnused, drafts_in}
 use Rattle.cd_desk.proofs.Numbers.{with_none_after, with_push_other, with_push_same}
 use Rattle.cd_desk.proofs.Lists.{some_none}
-use Rattle.cd_desk.proofs.Standing.{Steps, rows_added, closed_stays, plain_calls}
+use Rattle.cd_desk.proofs.Standing.{Steps, rows_added, closed_stays, plain_calls, with_books}
 use Rattle.cd_desk.proofs.Ticketing.{no_calls}
 
 -- the row of a new draft shows it
@@ -50,21 +50,11 @@ module _ {F : Type 0} (calls : F → Option (List FixtureCall)) where
       let were : length s.drafts ≡ v.books.next = a.drafts in
       let unknown : row_with row.number v.books.rows.items ≡ None = with_none_after row.number 0 v.books.rows.items v.books.next (omega (arith, number)) v.books.numbers in (
         may,
-        record {
-          serial = a.serial;
-          halted = a.halted;
-          begun = a.begun;
-          drafts = omega (arith, longer, more, were);
-          rows = λ j. subst (λ z. ShowsAt s.retired (row_with j z) (slice_get (s.drafts ++ x ∷ []) j)) (sym rows) (rows_added s.retired v.books.rows.items s.drafts v.books.next row x v.books.numbers number were (shows s.retired) a.rows j);
-          closed = λ j lt none. closed_stays s (Draft d tree plan) j may (old j lt unknown (subst (λ z. row_with j z ≡ None) rows none));
-          retired = a.retired;
-          opening_retired = a.opening_retired;
-          pairs = a.pairs ∙ ap pairs (sym held);
-          tickets = a.tickets;
-          at_serial = a.at_serial;
-          callers = a.callers;
-          told_on = subst (λ z. CallsGrow (calls opening.fixtures) z (calls v.fixtures)) (no_calls told (entry_calls s (Draft d tree plan)) (plain_calls s (Draft d tree plan) may known.steady refl)) a.told_on;
-        },
+        with_books calls opening v s told count a books (s.drafts ++ x ∷ []) (told ++ entry_calls s (Draft d tree plan)) (omega (arith, longer, more, were))
+            (λ j. subst (λ z. ShowsAt s.retired (row_with j z) (slice_get (s.drafts ++ x ∷ []) j)) (sym rows) (rows_added s.retired v.books.rows.items s.drafts v.books.next row x v.books.numbers number were (shows s.retired) a.rows j))
+            (λ j lt none. closed_stays s (Draft d tree plan) j may (old j lt unknown (subst (λ z. row_with j z ≡ None) rows none)))
+            (a.pairs ∙ ap pairs (sym held))
+            (subst (λ z. CallsGrow (calls opening.fixtures) z (calls v.fixtures)) (no_calls told (entry_calls s (Draft d tree plan)) (plain_calls s (Draft d tree plan) may known.steady refl)) a.told_on),
       )
     where
       -- one without a row had none
@@ -83,19 +73,6 @@ module _ {F : Type 0} (calls : F → Option (List FixtureCall)) where
       let a = h.agrees in
       let s : State = state_at log in record {
         is_legal = h.is_legal;
-        agrees = record {
-          serial = a.serial;
-          halted = a.halted;
-          begun = a.begun;
-          drafts = a.drafts ∙ sym next;
-          rows = λ j. subst (λ z. ShowsAt s.retired (row_with j z) (slice_get s.drafts j)) (sym rows) (a.rows j);
-          closed = λ j lt none. a.closed j (subst (λ z. j < z) next lt) (subst (λ z. row_with j z ≡ None) rows none);
-          retired = a.retired;
-          opening_retired = a.opening_retired;
-          pairs = a.pairs ∙ ap pairs (sym held);
-          tickets = a.tickets;
-          at_serial = a.at_serial;
-          callers = a.callers;
-          told_on = a.told_on;
-        };
+        agrees = with_books calls opening v s _ _ a books s.drafts _ (a.drafts ∙ sym next) (λ j. subst (λ z. ShowsAt s.retired (row_with j z) (slice_get s.drafts j)) (sym rows) (a.rows j))
+            (λ j lt none. a.closed j (subst (λ z. j < z) next lt) (subst (λ z. row_with j z ≡ None) rows none)) (a.pairs ∙ ap pairs (sym held)) a.told_on;
       }

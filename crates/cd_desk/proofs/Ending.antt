@@ -1,5 +1,5 @@
 -- What a desk stands for after a draft is published, or given up.
-use Rattle.std.proofs.Common.{◌≡◌, ℕ, ◌+◌, ◌<◌, Bool, true, false, List, length, refl, sym, ap, ◌∙◌, arith, Some, None, Option, slice_get, subst}
+use Rattle.std.proofs.Common.{◌≡◌, ℕ, ◌+◌, ◌<◌, ◌++◌, Bool, true, false, List, length, refl, sym, ap, ◌∙◌, arith, Some, None, Option, slice_get, subst}
 use Rattle.cd_outside.specs.declared.fixtures.FixtureCall.{FixtureCall}
 use Rattle.cd_outside.specs.FixtureCall.{CallsGrow}
 use Rattle.cd_pool.specs.Pairs.{pairs}
@@ -23,9 +23,10 @@ use Rattle.cd_desk.specs.Rows.{Shows, ShowsAt, line_at, is_retired, row_with}
 use Rattle.cd_desk.specs.Books.{HasRowAt, Lives}
 use Rattle.cd_desk.specs.Publishing.{IsComplete, CanPublish, CanAbandon}
 use Rattle.cd_desk.proofs.Lists.{same_at}
-use Rattle.cd_desk.proofs.Numbers.{with_at, at_place, number_of, none_before}
-use Rattle.cd_desk.proofs.Standing.{Steps, Shown, shown, rows_after, closed_stays, plain_calls}
-use Rattle.cd_desk.proofs.Openings.{none_is, length_map, line_part, line_plan}
+use Rattle.cd_desk.proofs.Numbers.{at_place, number_of, none_before}
+use Rattle.cd_desk.proofs.Standing.{Steps, Shown, shown_at, rows_after, closed_stays, plain_calls, with_books}
+use Rattle.cd_desk.proofs.Openings.{none_is, length_map}
+use Rattle.cd_desk.proofs.Parts.{line_part, line_plan}
 use Rattle.cd_desk.proofs.Ticketing.{no_calls}
 use Rattle.cd_desk.proofs.Wholes.{live_whole}
 
@@ -61,8 +62,7 @@ module _ {F : Type 0} (calls : F → Option (List FixtureCall)) where
       let n : ℕ = v.serial + 1 in
       let number : d ≡ r.number = number_of v.books books d place m.changes at in
       let row_is : can.row ≡ r = same_at v.books.rows.items place can.row r (at_place v.books d can.place place can.row can.at at) m.changes.there in
-      let with_is : row_with d v.books.rows.items ≡ Some r = ap (λ (z : ℕ). row_with z v.books.rows.items) number ∙ with_at 0 v.books.rows.items v.books.next place r v.books.numbers m.changes.there in
-      let sh : Shown s.retired r (slice_get s.drafts d) = shown s.retired r (slice_get s.drafts d) (subst (λ z. ShowsAt s.retired z (slice_get s.drafts d)) with_is (a.rows d)) in
+      let sh : Shown s.retired r (slice_get s.drafts d) = shown_at calls opening v s told count a d place r number m.changes.there in
       let x : Drafted = sh.draft in
       let there : slice_get s.drafts d ≡ Some x = sh.is in
       let whole : IsComplete r = subst (λ z. IsComplete z) row_is can.complete in
@@ -101,30 +101,19 @@ module _ {F : Type 0} (calls : F → Option (List FixtureCall)) where
       let r : Row = m.changes.was in
       let number : d ≡ r.number = number_of v.books books d place m.changes at in
       let row_is : can.row ≡ r = same_at v.books.rows.items place can.row r (at_place v.books d can.place place can.row can.at at) m.changes.there in
-      let with_is : row_with d v.books.rows.items ≡ Some r = ap (λ (z : ℕ). row_with z v.books.rows.items) number ∙ with_at 0 v.books.rows.items v.books.next place r v.books.numbers m.changes.there in
       let live : r.life ≡ Live = ap (λ z. z.life) (sym row_is) ∙ can.live in
-      let sh : Shown s.retired r (slice_get s.drafts d) = shown s.retired r (slice_get s.drafts d) (subst (λ z. ShowsAt s.retired z (slice_get s.drafts d)) with_is (a.rows d)) in
+      let sh : Shown s.retired r (slice_get s.drafts d) = shown_at calls opening v s told count a d place r number m.changes.there in
       let x : Drafted = sh.draft in
       let there : slice_get s.drafts d ≡ Some x = sh.is in
       let may : allowed s (Abandon d) ≡ true = ap (holds (λ x. is_live x.life)) there ∙ ap is_live (sh.shows.life ∙ live) in
       let f : Drafted → Drafted = λ y. record y { life = Abandoned } in
       let over : is_retired s.retired Abandoned ≡ r.retired = sym (live_unretired s.retired r x sh.shows live) in (
         may,
-        record {
-          serial = a.serial;
-          halted = a.halted;
-          begun = a.begun;
-          drafts = length_change f s.drafts d ∙ (a.drafts ∙ sym m.changes.next);
-          rows = λ j. subst (λ z. ShowsAt s.retired (row_with j z) (slice_get (change_at f d s.drafts) j)) (sym m.changes.rows)
-              (rows_after s.retired v.books.rows.items s.drafts f d v.books.next place r m.changes.is x v.books.numbers m.changes.there m.changes.number number sh.is (lives_shows s.retired Abandoned place v.books books x m sh.shows over) a.rows j);
-          closed = λ j lt none. closed_stays s (Abandon d) j may
-              (a.closed j (subst (λ z. j < z) m.changes.next lt) (none_before j 0 v.books.rows.items v.books.next place r m.changes.is v.books.numbers m.changes.there m.changes.number (subst (λ z. row_with j z ≡ None) m.changes.rows none)));
-          retired = a.retired;
-          opening_retired = a.opening_retired;
-          pairs = a.pairs ∙ ap (λ z. pairs z.held) (sym m.pool);
-          tickets = a.tickets;
-          at_serial = a.at_serial;
-          callers = a.callers;
-          told_on = subst (λ z. CallsGrow (calls opening.fixtures) z (calls v.fixtures)) (no_calls told (entry_calls s (Abandon d)) (plain_calls s (Abandon d) may known.steady refl)) a.told_on;
-        },
+        with_books calls opening v s told count a books (change_at f d s.drafts) (told ++ entry_calls s (Abandon d)) (length_change f s.drafts d ∙ (a.drafts ∙ sym m.changes.next))
+            (λ j. subst (λ z. ShowsAt s.retired (row_with j z) (slice_get (change_at f d s.drafts) j)) (sym m.changes.rows)
+            (rows_after s.retired v.books.rows.items s.drafts f d v.books.next place r m.changes.is x v.books.numbers m.changes.there m.changes.number number sh.is (lives_shows s.retired Abandoned place v.books books x m sh.shows over) a.rows j))
+            (λ j lt none. closed_stays s (Abandon d) j may
+            (a.closed j (subst (λ z. j < z) m.changes.next lt) (none_before j 0 v.books.rows.items v.books.next place r m.changes.is v.books.numbers m.changes.there m.changes.number (subst (λ z. row_with j z ≡ None) m.changes.rows none))))
+            (a.pairs ∙ ap (λ z. pairs z.held) (sym m.pool))
+            (subst (λ z. CallsGrow (calls opening.fixtures) z (calls v.fixtures)) (no_calls told (entry_calls s (Abandon d)) (plain_calls s (Abandon d) may known.steady refl)) a.told_on),
       )

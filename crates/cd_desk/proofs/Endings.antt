@@ -31,9 +31,9 @@ use Rattle.cd_desk.specs.Desks.{Agrees}
 use Rattle.cd_desk.specs.Closings.{CanEndOf, MayEnd, ending_entry}
 use Rattle.cd_desk.proofs.Keeping.{calls_join}
 use Rattle.cd_desk.proofs.Lists.{same_at}
-use Rattle.cd_desk.proofs.Numbers.{with_at, at_place, number_of, none_before}
-use Rattle.cd_desk.proofs.Openings.{line_part}
-use Rattle.cd_desk.proofs.Standing.{Known, Shown, shown, rows_after, closed_stays}
+use Rattle.cd_desk.proofs.Numbers.{at_place, number_of, none_before}
+use Rattle.cd_desk.proofs.Parts.{line_part}
+use Rattle.cd_desk.proofs.Standing.{Known, Shown, shown_at, rows_after, closed_stays}
 
 clean_life : (l : Life) (b : Bool) (retired : List ℕ) → is_retired retired l ≡ b → (is_abandoned l || b) ≡ true → may_clean_instances retired l ≡ true
 clean_life Live b retired is e = let f : false ≡ true = is ∙ e in cc
@@ -115,8 +115,7 @@ module _ {F : Type 0} (calls : F → Option (List FixtureCall)) where
       let e : Entry = ending_entry p d i in
       let number : d ≡ r.number = number_of v.books books d place o.changes at in
       let row_is : can.row ≡ r = same_at v.books.rows.items place can.row r (at_place v.books d can.place place can.row can.at at) o.changes.there in
-      let with_is : row_with d v.books.rows.items ≡ Some r = ap (λ (z : ℕ). row_with z v.books.rows.items) number ∙ with_at 0 v.books.rows.items v.books.next place r v.books.numbers o.changes.there in
-      let sh : Shown s.retired r (slice_get s.drafts d) = shown s.retired r (slice_get s.drafts d) (subst (λ z. ShowsAt s.retired z (slice_get s.drafts d)) with_is (a.rows d)) in
+      let sh : Shown s.retired r (slice_get s.drafts d) = shown_at calls opening v s told count a d place r number o.changes.there in
       let x : Drafted = sh.draft in
       let there : slice_get s.drafts d ≡ Some x = sh.is in
       let left : (line_at p r).ended < (line_at p r).opened = subst (λ (z : Row). (line_at p z).ended < (line_at p z).opened) row_is can.left in

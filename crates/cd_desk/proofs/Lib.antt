@@ -21,3 +21,4 @@ pub mod Supersedings
 pub mod Trims
 pub mod Emptied
 pub mod Wholes
+pub mod Lined

@@ -29,15 +29,16 @@ use Rattle.cd_desk.specs.declared.books.Books.{Books}
 use Rattle.cd_desk.specs.declared.desk.Desk.{Desk}
 use Rattle.cd_desk.specs.Instances.{Ends, failed_of}
 use Rattle.cd_desk.specs.Rows.{Shows, ShowsAt, line_at, row_with}
-use Rattle.cd_desk.specs.Books.{HasRowAt, Opens, other}
+use Rattle.cd_desk.specs.Books.{HasRowAt, CanOpen, Opens, other}
 use Rattle.cd_desk.specs.Desks.{Agrees}
-use Rattle.cd_desk.specs.Opening.{CanOpenOf, IsReady, opening_entry}
+use Rattle.cd_desk.specs.Opening.{CanOpenOf, OpensEntry, IsReady, opening_entry}
 use Rattle.cd_legal.specs.declared.state.Life.TheVariants.{Live}
 use Rattle.cd_desk.proofs.Wholes.{live_whole}
 use Rattle.cd_desk.proofs.Keeping.{calls_join}
 use Rattle.cd_desk.proofs.Lists.{same_at}
-use Rattle.cd_desk.proofs.Numbers.{with_at, at_place, number_of, none_before}
-use Rattle.cd_desk.proofs.Standing.{Known, Steps, Shown, shown, rows_after, closed_stays, plain_calls}
+use Rattle.cd_desk.proofs.Numbers.{at_place, number_of, none_before}
+use Rattle.cd_desk.proofs.Parts.{line_part, line_plan}
+use Rattle.cd_desk.proofs.Standing.{Known, Steps, Shown, shown_at, adds, rows_after, closed_stays, plain_calls}
 
 slice_get-seam : {A : Type 0} (xs ys : List A) (y : A) → slice_get (xs ++ y ∷ ys) (length xs) ≡ Some y
 slice_get-seam [] ys y = refl
@@ -68,14 +69,6 @@ keys_there : (keys : List (List Key)) (i : ℕ) → i < length keys → slice_ge
 keys_there [] i lt = absurd (omega arith)
 keys_there (k ∷ keys) zero lt = refl
 keys_there (k ∷ keys) (suc i) lt = keys_there keys i (omega arith)
-
-pub line_part : (p : Part) (r : Row) → (line_at p r).part ≡ p
-line_part Instance r = r.instances
-line_part App r = r.started
-
-pub line_plan : (p : Part) (r : Row) → (line_at p r).plan.value ≡ r.plan.value
-line_plan Instance r = r.modules_plan
-line_plan App r = r.apps_plan
 
 shows_count : (p : Part) (retired : List ℕ) (r : Row) (x : Drafted) → Shows retired r x → opened_in p x ≡ (line_at p r).opened
 shows_count Instance retired r x sh = sh.made
@@ -134,8 +127,12 @@ entry_begun : (p : Part) (d i taken : ℕ) (failed : Option Key) (count : ℕ) �
 entry_begun Instance d i taken failed count = refl
 entry_begun App d i taken failed count = refl
 
+-- what the opening at a place asks for
+pub can_open : (p : Part) (b : Books) (d place : ℕ) → CanOpenOf p b d → HasRowAt b d place → CanOpen p b place
+can_open p b d place can at = (can.row, at_place b d can.place place can.row can.at at, can.left, can.unended)
+
 module _ {F : Type 0} (calls : F → Option (List FixtureCall)) where
-  pub opens : (p : Part) (v : Desk F) (fixtures : F) (books : Books) (d place : ℕ) (result : Result (Unit {0}) Key) (can : CanOpenOf p v.books d) → HasRowAt v.books d place → (o : Opens p place v.books books (calls v.fixtures) (calls fixtures) result)
+  opens : (p : Part) (v : Desk F) (fixtures : F) (books : Books) (d place : ℕ) (result : Result (Unit {0}) Key) (can : CanOpenOf p v.books d) → HasRowAt v.books d place → (o : Opens p place v.books books (calls v.fixtures) (calls fixtures) result)
       → Steps calls v (record v { fixtures = fixtures; books = books }) (opening_entry p d (line_at p o.changes.was).opened (length o.opens.takes.0) (failed_of result))
   opens p v fixtures books d place result can at o opening s told count known a =
       let w : Desk F = record v { fixtures = fixtures; books = books } in
@@ -147,8 +144,7 @@ module _ {F : Type 0} (calls : F → Option (List FixtureCall)) where
       let e : Entry = opening_entry p d i (length done) failed in
       let number : d ≡ r.number = number_of v.books books d place o.changes at in
       let row_is : can.row ≡ r = same_at v.books.rows.items place can.row r (at_place v.books d can.place place can.row can.at at) o.changes.there in
-      let with_is : row_with d v.books.rows.items ≡ Some r = ap (λ (z : ℕ). row_with z v.books.rows.items) number ∙ with_at 0 v.books.rows.items v.books.next place r v.books.numbers o.changes.there in
-      let sh : Shown s.retired r (slice_get s.drafts d) = shown s.retired r (slice_get s.drafts d) (subst (λ z. ShowsAt s.retired z (slice_get s.drafts d)) with_is (a.rows d)) in
+      let sh : Shown s.retired r (slice_get s.drafts d) = shown_at calls opening v s told count a d place r number o.changes.there in
       let x : Drafted = sh.draft in
       let there : slice_get s.drafts d ≡ Some x = sh.is in
       let live : r.life ≡ Live = ap (λ (z : Row). z.life) (sym row_is) ∙ can.live in
@@ -194,3 +190,7 @@ module _ {F : Type 0} (calls : F → Option (List FixtureCall)) where
                   (calls_join (calls opening.fixtures) (calls v.fixtures) (calls fixtures) told (takings s.pairs done ++ failing failed) a.told_on (subst (λ z. CallsGrow (calls v.fixtures) (takings z done ++ failing failed) (calls fixtures)) (sym a.pairs) o.opens.takes.2.calls));
             }),
       )
+
+  pub opens_entry : (p : Part) (v : Desk F) (fixtures : F) (books : Books) (d place : ℕ) (result : Result (Unit {0}) Key) (can : CanOpenOf p v.books d) → HasRowAt v.books d place → (o : Opens p place v.books books (calls v.fixtures) (calls fixtures) result)
+      → OpensEntry calls p v (record v { fixtures = fixtures; books = books }) d result
+  opens_entry p v fixtures books d place result can at o = record { place = place; at = at; opens = o; adds = adds calls v _ _ (opens p v fixtures books d place result can at o) }

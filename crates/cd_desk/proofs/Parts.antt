@@ -39,6 +39,14 @@ by_at : (p : Part) (r : Row) → line_by (is_app p) r ≡ line_at p r
 by_at Instance r = refl
 by_at App r = refl
 
+pub line_part : (p : Part) (r : Row) → (line_at p r).part ≡ p
+line_part Instance r = r.instances
+line_part App r = r.started
+
+pub line_plan : (p : Part) (r : Row) → (line_at p r).plan.value ≡ r.plan.value
+line_plan Instance r = r.modules_plan
+line_plan App r = r.apps_plan
+
 pub room_for : (rows : List Row) (p : Part) (j : ℕ) (r : Row) (i f : ℕ) → slice_get rows j ≡ Some r → sum_by row_waits rows ≤ f → IfSome (slice_get (line_at p r).parts.items i) (λ a. waits a ≤ f)
 room_for rows p j r i f there room = part_room (slice_get (line_at p r).parts.items i) f (λ a e. let one = one_of_sum waits (line_at p r).parts.items i a e in let all = one_of_sum row_waits rows j r there in let whole = split_waits p r in omega arith)
 

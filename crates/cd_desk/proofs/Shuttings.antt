@@ -16,7 +16,7 @@ use Rattle.cd_legal.proofs.Places.{get_change_same, get_change_other}
 use Rattle.cd_desk.specs.declared.desk.Desk.{Desk}
 use Rattle.cd_desk.specs.Desks.{Agrees}
 use Rattle.cd_desk.proofs.Keeping.{calls_join}
-use Rattle.cd_desk.proofs.Standing.{no_shutting}
+use Rattle.cd_desk.proofs.Standing.{no_shutting, with_tickets}
 
 pub last_at : (xs : List ℕ) → last_of xs ≡ draft_of (length xs) xs
 last_at [] = refl
@@ -72,18 +72,5 @@ module _ (s : State) (d i : ℕ) (x : Drafted) (a : Agree s) (may : allowed s (S
 
 -- the same with further calls of the fixtures
 pub with_calls : {F : Type 0} (calls : F → Option (List FixtureCall)) (opening w : Desk F) (fixtures : F) (s : State) (told more : List FixtureCall) (count : ℕ) → CallsGrow (calls w.fixtures) more (calls fixtures) → Agrees calls opening w s told count → Agrees calls opening (record w { fixtures = fixtures }) s (told ++ more) count
-with_calls calls opening w fixtures s told more count grow a = record {
-  serial = a.serial;
-  halted = a.halted;
-  begun = a.begun;
-  drafts = a.drafts;
-  rows = a.rows;
-  closed = a.closed;
-  retired = a.retired;
-  opening_retired = a.opening_retired;
-  pairs = a.pairs;
-  tickets = a.tickets;
-  at_serial = a.at_serial;
-  callers = a.callers;
-  told_on = calls_join (calls opening.fixtures) (calls w.fixtures) (calls fixtures) told more a.told_on grow;
-}
+with_calls calls opening w fixtures s told more count grow a =
+    with_tickets calls opening w s told count a fixtures w.tickets w.begun s.tickets (told ++ more) count a.begun a.tickets a.at_serial a.callers (calls_join (calls opening.fixtures) (calls w.fixtures) (calls fixtures) told more a.told_on grow)

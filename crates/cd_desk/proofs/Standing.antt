@@ -1,19 +1,23 @@
 -- What a desk stands for after one entry more.
-use Rattle.std.proofs.Common.{◌≡◌, ℕ, zero, suc, ◌+◌, ◌≤◌, ◌==◌, Bool, true, false, ◌||◌, List, [], ◌∷◌, ◌++◌, length, refl, sym, ap, ◌∙◌, arith, Some, None, Option, set, slice_get, ⊎_elim, subst, IsTrue, option_map}
+use Rattle.std.proofs.Common.{◌≡◌, ℕ, zero, suc, ◌+◌, ◌<◌, ◌≤◌, ◌==◌, min, Bool, true, false, ◌||◌, List, [], ◌∷◌, ◌++◌, length, refl, sym, ap, ◌∙◌, arith, Some, None, Option, set, slice_get, ⊎_elim, subst, IsTrue, option_map}
 use Rattle.std.proofs.lemmas.List.{append-nil}
 use Rattle.std.proofs.lemmas.Bool.{eqb-true}
 use Rattle.std.proofs.lemmas.Bool.Decides.{eqb_tells}
 use Rattle.cd_outside.specs.declared.fixtures.FixtureCall.{FixtureCall}
+use Rattle.cd_outside.specs.FixtureCall.{CallsGrow}
+use Rattle.cd_outside.specs.Counts.{count_end}
+use Rattle.cd_pool.specs.Pairs.{pairs}
 use Rattle.cd_legal.specs.declared.part.Part.TheVariants.{Instance, App}
 use Rattle.cd_legal.specs.declared.entry.Entry.{Entry}
 use Rattle.cd_legal.specs.declared.entry.Entry.TheVariants.{Draft, Made, Started, Publish, Abandon, Stopped, Begin, Finish, Retire, Cleaned, Halt}
 use Rattle.cd_legal.specs.declared.entry.Signed.{Signed}
 use Rattle.cd_legal.specs.declared.state.State.{State}
 use Rattle.cd_legal.specs.declared.state.Drafted.{Drafted}
+use Rattle.cd_legal.specs.declared.state.OpenTicket.{OpenTicket}
 use Rattle.cd_legal.specs.declared.state.Life.{Life}
 use Rattle.cd_legal.specs.declared.state.Life.TheVariants.{Live, Published, Abandoned}
 use Rattle.cd_legal.specs.Entry.{signed, entries}
-use Rattle.cd_legal.specs.State.{opening_state, holds, has_number, is_live, may_clean_instances, all_stopped, change_at, open_by, new_draft}
+use Rattle.cd_legal.specs.State.{opening_state, holds, has_number, is_live, may_clean_instances, all_stopped, change_at, ticket_of, open_at, open_by, new_draft}
 use Rattle.cd_legal.specs.Legal.{allowed, after, legal, state_of, may_open, may_stop, may_clean, is_complete}
 use Rattle.cd_legal.specs.Calls.{fixture_calls, entry_calls, key_calls, shutting, is_shut}
 use Rattle.cd_legal.specs.Begins.{begins_by, begins_now}
@@ -26,10 +30,12 @@ use Rattle.cd_legal.proofs.Facts.{opens, completes, stops, cleans, can}
 use Rattle.cd_legal.proofs.Places.{holds_kept, holds_push}
 use Rattle.cd_legal.proofs.Shutting.{shut_kept, may_shut}
 use Rattle.cd_desk.specs.declared.desk.Desk.{Desk}
+use Rattle.cd_desk.specs.declared.books.Books.{Books}
+use Rattle.cd_desk.specs.declared.callers.Tickets.{Tickets}
 use Rattle.cd_desk.specs.declared.row.Row.{Row}
 use Rattle.cd_desk.specs.Rows.{Numbered, Shows, ShowsAt, row_with}
-use Rattle.cd_desk.specs.Desks.{Agrees, AddsTo}
-use Rattle.cd_desk.proofs.Numbers.{with_set_same, with_set_other, with_none_after, with_push_same, with_push_other}
+use Rattle.cd_desk.specs.Desks.{Agrees, AddsTo, told_ticket, told_at}
+use Rattle.cd_desk.proofs.Numbers.{with_set_same, with_set_other, with_none_after, with_push_same, with_push_other, row_with_at}
 use Rattle.cd_desk.proofs.Lists.{get_last}
 use Rattle.cd_legal.proofs.Places.{get_change_same, get_change_other}
 
@@ -110,6 +116,11 @@ pub shown : (retired : List ℕ) (r : Row) (o : Option Drafted) → ShowsAt reti
 shown retired r None h = absurd h
 shown retired r (Some x) h = record { draft = x; is = refl; shows = h }
 
+-- the row of a draft shows it
+pub shown_at : {F : Type 0} (calls : F → Option (List FixtureCall)) (opening v : Desk F) (s : State) (told : List FixtureCall) (count : ℕ) → Agrees calls opening v s told count → (d place : ℕ) (r : Row) → d ≡ r.number → slice_get v.books.rows.items place ≡ Some r → Shown s.retired r (slice_get s.drafts d)
+shown_at calls opening v s told count a d place r number there =
+    shown s.retired r (slice_get s.drafts d) (subst (λ z. ShowsAt s.retired z (slice_get s.drafts d)) (row_with_at v.books d place r (record { number = number; there = there })) (a.rows d))
+
 -- a row in place of another, where its draft is changed
 pub rows_after : (retired : List ℕ) (rows : List Row) (drafts : List Drafted) (f : Drafted → Drafted) (d to j : ℕ) (r t : Row) (x : Drafted) → Numbered 0 rows to → slice_get rows j ≡ Some r → t.number ≡ r.number → d ≡ r.number → slice_get drafts d ≡ Some x → Shows retired t (f x)
     → ((i : ℕ) → ShowsAt retired (row_with i rows) (slice_get drafts i)) → (i : ℕ) → ShowsAt retired (row_with i (set rows j t)) (slice_get (change_at f d drafts) i)
@@ -136,6 +147,47 @@ rows_added retired rows drafts to r x numbers is count sh all d = ⊎_elim
     (subst (λ z. ShowsAt retired z (slice_get (drafts ++ x ∷ []) r.number)) (sym (with_push_same rows r (with_none_after r.number 0 rows to (let i = is in omega (arith, i)) numbers))) (subst (λ z. ShowsAt retired (Some r) z) (sym (get_last drafts (drafts ++ x ∷ []) r.number x refl (is ∙ sym count))) sh)))
     (λ q. subst (λ z. ShowsAt retired z (slice_get (drafts ++ x ∷ []) d)) (sym (with_push_other d rows r q.1)) (shows_before retired (row_with d rows) drafts x d (slice_get drafts d) refl (all d)))
     (eqb_tells d r.number)
+
+-- ---- a part changes, and the rest stays
+
+module _ {F : Type 0} (calls : F → Option (List FixtureCall)) (opening v : Desk F) (s : State) (told : List FixtureCall) (count : ℕ) (a : Agrees calls opening v s told count) where
+  -- the drafts, and the books
+  pub with_books : (books : Books) (drafts : List Drafted) (later : List FixtureCall) → length drafts ≡ books.next → ((d : ℕ) → ShowsAt s.retired (row_with d books.rows.items) (slice_get drafts d)) → ((d : ℕ) → d < books.next → row_with d books.rows.items ≡ None → is_closed_in (record s { drafts = drafts }) d ≡ true) → s.pairs ≡ pairs books.pool.held
+      → CallsGrow (calls opening.fixtures) later (calls v.fixtures) → Agrees calls opening (record v { books = books }) (record s { drafts = drafts }) later count
+  with_books books drafts later next rows closed held grow = record {
+    serial = a.serial;
+    halted = a.halted;
+    begun = a.begun;
+    drafts = next;
+    rows = rows;
+    closed = closed;
+    retired = a.retired;
+    opening_retired = a.opening_retired;
+    pairs = held;
+    tickets = a.tickets;
+    at_serial = a.at_serial;
+    callers = a.callers;
+    told_on = grow;
+  }
+
+  -- the tickets, and the calls
+  pub with_tickets : (fixtures : F) (tickets : Tickets) (begun : ℕ) (open_now : List OpenTicket) (later : List FixtureCall) (now : ℕ) → min now count_end ≡ begun → ((k : ℕ) → ticket_of k open_now ≡ told_ticket (slice_get tickets.by_caller.items k)) → ((n : ℕ) → open_at n open_now ≡ told_at n tickets.by_caller.items) → length tickets.by_caller.items ≡ length opening.tickets.by_caller.items
+      → CallsGrow (calls opening.fixtures) later (calls fixtures) → Agrees calls opening (record v { fixtures = fixtures; tickets = tickets; begun = begun }) (record s { tickets = open_now }) later now
+  with_tickets fixtures tickets begun open_now later now count_is each at_serial callers grow = record {
+    serial = a.serial;
+    halted = a.halted;
+    begun = count_is;
+    drafts = a.drafts;
+    rows = a.rows;
+    closed = a.closed;
+    retired = a.retired;
+    opening_retired = a.opening_retired;
+    pairs = a.pairs;
+    tickets = each;
+    at_serial = at_serial;
+    callers = callers;
+    told_on = grow;
+  }
 
 -- ---- one entry more
 

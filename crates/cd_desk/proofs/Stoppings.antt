@@ -15,11 +15,12 @@ use Rattle.cd_legal.specs.Abandoned.{is_abandoned}
 use Rattle.cd_legal.specs.Serials.{has_serial}
 use Rattle.cd_legal.specs.Calls.{key_calls, is_shut, shutting}
 use Rattle.cd_legal.proofs.Facts.{less-is}
+use Rattle.cd_desk.specs.declared.line.Line.{Line}
 use Rattle.cd_desk.specs.declared.row.Row.{Row}
 use Rattle.cd_desk.specs.declared.books.Books.{Books}
 use Rattle.cd_desk.specs.declared.desk.Desk.{Desk}
 use Rattle.cd_desk.specs.declared.closing.Closing.{Closing}
-use Rattle.cd_desk.specs.Books.{HasRowAt, Ends, CanEnd}
+use Rattle.cd_desk.specs.Books.{HasRowAt, Changes, Ends, CanEnd}
 use Rattle.cd_desk.specs.Desks.{Agrees}
 use Rattle.cd_desk.specs.Closings.{IsRest, IsClosing, MayClean, may_clean_row, life_by, CanEndOf}
 use Rattle.cd_desk.proofs.Numbers.{at_place, number_of, row_same}
@@ -52,42 +53,42 @@ can_end p v d place can at = (can.row, at_place v.books d can.place place can.ro
 
 -- ---- what is left afterwards
 
+-- the row changes, and so does what is left
+rest_on : (v w : Books) (c k : Closing) (place : ℕ) → HasRowAt v c.number place → IsRest v c → (m : Changes place v w) → m.is.life ≡ m.was.life → k.number ≡ c.number → k.serial ≡ c.serial
+    → (m.was.apps.ended + c.apps ≡ m.was.apps.opened → m.is.apps.ended + k.apps ≡ m.is.apps.opened) → (m.was.modules.ended + c.instances ≡ m.was.modules.opened → m.is.modules.ended + k.instances ≡ m.is.modules.opened) → IsRest w k
+rest_on v w c k place number r m life same serial apps instances =
+    let was : r.row ≡ m.was = was_at v w c.number place r.place r.row m number r.at in
+    let now = now_at v w c.number place m number in
+    record {
+      place = place;
+      row = m.is;
+      at = record { number = same ∙ now.number; there = now.there };
+      life = life ∙ (ap (λ (z : Row). z.life) (sym was) ∙ (r.life ∙ ap life_by (sym serial)));
+      apps = apps (subst (λ (z : Row). z.apps.ended + c.apps ≡ z.apps.opened) was r.apps);
+      instances = instances (subst (λ (z : Row). z.modules.ended + c.instances ≡ z.modules.opened) was r.instances);
+    }
+
+-- of a line of which one is ended one less is left, and of the other as much
+one_less : (l m : Line) (n : ℕ) → 0 < n → m.opened ≡ l.opened → m.ended ≡ l.ended + 1 → l.ended + n ≡ l.opened → m.ended + (n - 1) ≡ m.opened
+one_less l m n more opened ended was = omega (arith, more, opened, ended, was)
+
+as_many : (l m : Line) (n : ℕ) → m ≡ l → l.ended + n ≡ l.opened → m.ended + n ≡ m.opened
+as_many l m n same was = subst (λ (z : Line). z.ended + n ≡ z.opened) (sym same) was
+
 module _ (v w : Books) (c : Closing) (place : ℕ) (before after : Option (List FixtureCall)) (number : HasRowAt v c.number place) (r : IsRest v c) where
   pub rest_stopped : Ends App place v w before after → 0 < c.apps → IsRest w (record c { apps = c.apps - 1 })
-  rest_stopped o more =
-      let same : r.row ≡ o.changes.was = was_at v w c.number place r.place r.row o.changes number r.at in
-      let apps : o.changes.was.apps.ended + c.apps ≡ o.changes.was.apps.opened = subst (λ (z : Row). z.apps.ended + c.apps ≡ z.apps.opened) same r.apps in
-      let instances : o.changes.was.modules.ended + c.instances ≡ o.changes.was.modules.opened = subst (λ (z : Row). z.modules.ended + c.instances ≡ z.modules.opened) same r.instances in
-      let ended = o.ends.ended in
-      let opened = o.ends.opened in
-      let ended2 = ap (λ z. z.ended) o.others in
-      let opened2 = ap (λ z. z.opened) o.others in
-      record {
-        place = place;
-        row = o.changes.is;
-        at = now_at v w c.number place o.changes number;
-        life = o.life ∙ (ap (λ (z : Row). z.life) (sym same) ∙ r.life);
-        apps = omega (arith, apps, ended, opened, more);
-        instances = omega (arith, instances, ended2, opened2);
-      }
+  rest_stopped o more = rest_on v w c (record c { apps = c.apps - 1 }) place number r o.changes o.life refl refl (one_less o.changes.was.apps o.changes.is.apps c.apps more o.ends.opened o.ends.ended) (as_many o.changes.was.modules o.changes.is.modules c.instances o.others)
 
   pub rest_cleaned : Ends Instance place v w before after → 0 < c.instances → IsRest w (record c { instances = c.instances - 1 })
-  rest_cleaned o more =
-      let same : r.row ≡ o.changes.was = was_at v w c.number place r.place r.row o.changes number r.at in
-      let apps : o.changes.was.apps.ended + c.apps ≡ o.changes.was.apps.opened = subst (λ (z : Row). z.apps.ended + c.apps ≡ z.apps.opened) same r.apps in
-      let instances : o.changes.was.modules.ended + c.instances ≡ o.changes.was.modules.opened = subst (λ (z : Row). z.modules.ended + c.instances ≡ z.modules.opened) same r.instances in
-      let ended = o.ends.ended in
-      let opened = o.ends.opened in
-      let ended2 = ap (λ z. z.ended) o.others in
-      let opened2 = ap (λ z. z.opened) o.others in
-      record {
-        place = place;
-        row = o.changes.is;
-        at = now_at v w c.number place o.changes number;
-        life = o.life ∙ (ap (λ (z : Row). z.life) (sym same) ∙ r.life);
-        apps = omega (arith, apps, ended2, opened2);
-        instances = omega (arith, instances, ended, opened, more);
-      }
+  rest_cleaned o more = rest_on v w c (record c { instances = c.instances - 1 }) place number r o.changes o.life refl refl (as_many o.changes.was.apps o.changes.is.apps c.apps o.others) (one_less o.changes.was.modules o.changes.is.modules c.instances more o.ends.opened o.ends.ended)
+
+-- the place of the last one that is left
+module _ (v w : Books) (c : Closing) (place : ℕ) (number : HasRowAt v c.number place) (r : IsRest v c) where
+  pub last_app : (m : Changes place v w) → m.was.apps.opened - m.was.apps.ended - 1 ≡ c.apps - 1
+  last_app m = let apps : m.was.apps.ended + c.apps ≡ m.was.apps.opened = subst (λ (z : Row). z.apps.ended + c.apps ≡ z.apps.opened) (was_at v w c.number place r.place r.row m number r.at) r.apps in omega (arith, apps)
+
+  pub last_instance : (m : Changes place v w) → m.was.modules.opened - m.was.modules.ended - 1 ≡ c.instances - 1
+  last_instance m = let instances : m.was.modules.ended + c.instances ≡ m.was.modules.opened = subst (λ (z : Row). z.modules.ended + c.instances ≡ z.modules.opened) (was_at v w c.number place r.place r.row m number r.at) r.instances in omega (arith, instances)
 
 -- instances that may be cleaned may be afterwards
 pub may_on : (p : Part) (v w : Books) (d place : ℕ) (before after : Option (List FixtureCall)) → HasRowAt v d place → (o : Ends p place v w before after) → MayClean v d → MayClean w d

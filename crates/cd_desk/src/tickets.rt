@@ -1,8 +1,10 @@
-ghost use Rattle.std.specs.Prelude.{◌≡◌, ◌<◌, ◌+◌, ◌-◌, ◌^◌, length, slice_get, Some, None};
+ghost use Rattle.std.specs.Prelude.{◌≡◌, ◌<◌, ◌+◌, ◌-◌, ◌^◌, length, slice_get, slice_set, Some, None};
+ghost use Rattle.std.specs.Vec.{vec_capacity};
 ghost use Rattle.cd_legal.specs.declared.entry.Entry.TheVariants as entry;
 ghost use Rattle.cd_desk.specs.Desks.{AddsTo, HasTicket, told_at};
 ghost use Rattle.cd_desk.specs.Rooms.{KeepsRoom};
 
+use crate::callers::Tickets;
 use crate::desk::Desk;
 use cd_outside::Fixtures;
 
@@ -20,6 +22,15 @@ fn count_at(tickets: &[Option<u32>], serial: u32) -> u32
     count
 }
 
+// The caller has this ticket from now on, or none.
+fn set_ticket(tickets: &mut Tickets, caller: u32, ticket: Option<u32>)
+    requires { caller < length tickets.old.by_caller.items }
+    ensures set { tickets.new.by_caller.items ≡ slice_set tickets.old.by_caller.items caller ticket }
+    ensures capacity { vec_capacity tickets.new.by_caller ≡ vec_capacity tickets.old.by_caller }
+{
+    tickets.by_caller[caller as usize] = ticket;
+}
+
 impl<F: Fixtures> Desk<F> {
     /// The caller begins a request under the current serial, which is the answer.
     pub fn begin(&mut self, caller: u32) -> u32
@@ -29,7 +40,7 @@ impl<F: Fixtures> Desk<F> {
         ensures faults { F.faults self.new.fixtures ≡ F.faults self.old.fixtures }
         ensures room { KeepsRoom self.old self.new }
     {
-        self.tickets.by_caller[caller as usize] = Some(self.serial);
+        set_ticket(&mut self.tickets, caller, Some(self.serial));
         self.begun = self.begun.saturating_add(1);
         self.serial
     }
@@ -41,7 +52,7 @@ impl<F: Fixtures> Desk<F> {
         ensures faults { F.faults self.new.fixtures ≡ F.faults self.old.fixtures }
         ensures room { KeepsRoom self.old self.new }
     {
-        self.tickets.by_caller[caller as usize] = None;
+        set_ticket(&mut self.tickets, caller, None);
     }
 
     /// How many requests run under a serial.

@@ -1,11 +1,9 @@
-use Rattle.std.proofs.Common.{◌≡◌, ◌-◌, ◌+◌, ℕ, subst, arith}
+use Rattle.std.proofs.Common.{ℕ, subst, arith}
 use Rattle.cd_legal.specs.declared.part.Part.TheVariants.{Instance}
 use Rattle.cd_legal.specs.declared.entry.Entry.TheVariants.{Cleaned}
-use Rattle.cd_desk.specs.declared.row.Row.{Row}
 use Rattle.cd_desk.specs.Desks.{AddsTo}
-use Rattle.cd_desk.proofs.Counts.{was_at}
 use Rattle.cd_desk.proofs.Standing.{adds}
-use Rattle.cd_desk.proofs.Stoppings.{can_clean, can_end, rest_cleaned, may_on, cleans}
+use Rattle.cd_desk.proofs.Stoppings.{can_clean, can_end, rest_cleaned, last_instance, may_on, cleans}
 use Rattle.cd_desk.proofs.desk.Desk.clean.Goals as goal
 
 pub place_of-place-requires : goal.place_of-place-requires
@@ -16,19 +14,14 @@ clean_in-requires g c = record { can = can_end Instance c.args.self.now c.args.c
 
 pub returns-clause-entry : goal.returns-clause-entry
 returns-clause-entry g c =
-    let calls = g.F.Fixtures.calls in
     let v = c.args.self.now in
     let k = c.args.closing.now in
-    let place = c.place_of-place.result in
     let number = c.place_of-place.ensures.at in
     let o = c.clean_in.ensures.ends in
-    let was = o.changes.was in
-    let rest = c.requires.at.rest (omega (arith, c.requires.more)) in
-    let same : rest.row ≡ was = was_at v.books c.clean_in.new.books k.number place rest.place rest.row o.changes number rest.at in
-    let instances : was.modules.ended + k.instances ≡ was.modules.opened = subst (λ (z : Row). z.modules.ended + k.instances ≡ z.modules.opened) same rest.instances in
-    let i : was.modules.opened - was.modules.ended - 1 ≡ k.instances - 1 = omega (arith, instances) in
-    subst (λ (z : ℕ). AddsTo calls v (record v { fixtures = c.clean_in.new.fixtures; books = c.clean_in.new.books }) (Cleaned k.number z)) i
-    (adds calls v _ _ (cleans calls v c.clean_in.new.fixtures c.clean_in.new.books k.number place (can_clean v k c.requires.at c.requires.stopped c.requires.more c.requires.may) number o))
+    let can = can_clean v k c.requires.at c.requires.stopped c.requires.more c.requires.may in
+    let i = last_instance v.books c.clean_in.new.books k c.place_of-place.result number (c.requires.at.rest (omega (arith, c.requires.more))) o.changes in
+    subst (λ (z : ℕ). AddsTo g.F.Fixtures.calls v (record v { fixtures = c.clean_in.new.fixtures; books = c.clean_in.new.books }) (Cleaned k.number z)) i
+    (adds g.F.Fixtures.calls v _ _ (cleans g.F.Fixtures.calls v c.clean_in.new.fixtures c.clean_in.new.books k.number c.place_of-place.result can number o))
 
 pub returns-clause-at : goal.returns-clause-at
 returns-clause-at g c = record {

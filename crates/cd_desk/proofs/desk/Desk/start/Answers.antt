@@ -1,23 +1,9 @@
 use Rattle.cd_legal.specs.declared.part.Part.TheVariants.{App}
-use Rattle.cd_desk.proofs.Standing.{adds}
-use Rattle.cd_desk.proofs.Openings.{opens}
-use Rattle.cd_desk.proofs.Numbers.{at_place}
+use Rattle.cd_desk.proofs.Openings.{can_open, opens_entry}
 use Rattle.cd_desk.proofs.desk.Desk.start.Goals as goal
 
 pub start_in-requires : goal.start_in-requires
-start_in-requires g c =
-    let can = c.requires.can in
-    record { can = (can.row, at_place c.args.self.now.books c.args.draft can.place c.place_of-place.result can.row can.at c.place_of-place.ensures.at, can.left, can.unended) }
+start_in-requires g c = record { can = can_open App c.args.self.now.books c.args.draft c.place_of-place.result c.requires.can c.place_of-place.ensures.at }
 
 pub returns-clause-entry : goal.returns-clause-entry
-returns-clause-entry g c =
-    let calls = g.F.Fixtures.calls in
-    let v = c.args.self.now in
-    let o = c.start_in.ensures.opens in
-    let at = c.place_of-place.ensures.at in
-    record {
-      place = c.place_of-place.result;
-      at = at;
-      opens = o;
-      adds = adds calls v _ _ (opens calls App v c.start_in.new.fixtures c.start_in.new.books c.args.draft c.place_of-place.result c.start_in.result c.requires.can at o);
-    }
+returns-clause-entry g c = opens_entry g.F.Fixtures.calls App c.args.self.now c.start_in.new.fixtures c.start_in.new.books c.args.draft c.place_of-place.result c.start_in.result c.requires.can c.place_of-place.ensures.at c.start_in.ensures.opens

@@ -1,13 +1,11 @@
-use Rattle.std.proofs.Common.{◌≡◌, ◌∙◌, ◌-◌, ◌+◌, ℕ, ap, subst, arith, rules, refl, slice_get, Some}
+use Rattle.std.proofs.Common.{◌≡◌, ◌∙◌, ℕ, ap, subst, arith, rules, refl, slice_get, Some}
 use Rattle.std.proofs.lemmas.Option.{slice_get_read, slice_get_within}
 use Rattle.cd_legal.specs.declared.part.Part.TheVariants.{App}
 use Rattle.cd_legal.specs.declared.entry.Entry.TheVariants.{Stopped}
-use Rattle.cd_desk.specs.declared.row.Row.{Row}
 use Rattle.cd_desk.specs.Desks.{AddsTo}
 use Rattle.cd_desk.proofs.Lists.{same_at, get_set_same}
-use Rattle.cd_desk.proofs.Counts.{was_at}
 use Rattle.cd_desk.proofs.Standing.{adds}
-use Rattle.cd_desk.proofs.Stoppings.{can_stop, can_end, rest_stopped, may_on, stops}
+use Rattle.cd_desk.proofs.Stoppings.{can_stop, can_end, rest_stopped, last_app, may_on, stops}
 use Rattle.cd_desk.proofs.desk.Desk.stop.Goals as goal
 
 pub place_of-place-requires : goal.place_of-place-requires
@@ -26,11 +24,7 @@ returns-clause-entry g c =
     let o = c.stop_in.ensures.ends in
     let can = can_stop v k c.requires.at c.requires.more in
     let was = o.changes.was in
-    let row : can.row ≡ was = was_at v.books c.stop_in.new.books k.number place can.place can.row o.changes number can.at in
-    let rest = c.requires.at.rest (omega (arith, c.requires.more)) in
-    let same : rest.row ≡ was = was_at v.books c.stop_in.new.books k.number place rest.place rest.row o.changes number rest.at in
-    let apps : was.apps.ended + k.apps ≡ was.apps.opened = subst (λ (z : Row). z.apps.ended + k.apps ≡ z.apps.opened) same rest.apps in
-    let i : was.apps.opened - was.apps.ended - 1 ≡ k.apps - 1 = omega (arith, apps) in
+    let i = last_app v.books c.stop_in.new.books k place number (c.requires.at.rest (omega (arith, c.requires.more))) o.changes in
     let rows = c.stop_in.new.books.rows.items in
     let now : slice_get rows place ≡ Some o.changes.is = ap (λ z. slice_get z place) o.changes.rows ∙ get_set_same v.books.rows.items place was o.changes.is o.changes.there in
     let t = c.index.result.now in

@@ -12,22 +12,19 @@ use Rattle.cd_life.proofs.board.Board.draft.Goals as goal
 pub returns-clause-entry : goal.returns-clause-entry
 returns-clause-entry g c =
     let calls = g.F.Fixtures.calls in
-    let faults = g.F.Fixtures.faults in
-    let plan = g.M.ModuleSet.plan in
-    let change = g.M.ModuleSet.change in
     let v = c.args.self.now in
     let w = c.draft.new.self in
     let number = ap (λ z. z.number) c.new_left-left.ensures in
     let tree : c.deref.result.now.tree ≡ c.args.loaded.tree = ap (λ z. z.tree) (c.deref.ensures ∙ c.in-Ok.ensures.ok) in
     let planned : c.deref-2.result.now.plan ≡ c.args.loaded.plan = ap (λ z. z.plan) (c.deref-2.ensures ∙ c.in-Ok.ensures.ok) in
-    let same : faults w.fixtures ≡ faults v.desk.fixtures = search rules in
-    adds calls faults plan change v _ _
+    let same : g.F.Fixtures.faults w.fixtures ≡ g.F.Fixtures.faults v.desk.fixtures = search rules in
+    adds calls g.F.Fixtures.faults g.M.ModuleSet.plan g.M.ModuleSet.change v _ _
     (subst (λ (z : ℕ). AddsTo calls v.desk w (Draft z c.args.loaded.tree c.args.loaded.plan)) (sym number)
     (subst (λ (z : Plan). AddsTo calls v.desk w (Draft c.in_ok-number.number c.args.loaded.tree z)) planned
     (subst (λ (z : Tree). AddsTo calls v.desk w (Draft c.in_ok-number.number z c.deref-2.result.now.plan)) tree c.in_ok-number.ensures.entry)))
     (calm _ _ same)
     (λ o log h. c.args.loaded.planned)
-    (shelf_draft calls faults plan change v _ _ _ _ (search rules) (search rules) (search rules) (search rules))
+    (shelf_draft calls g.F.Fixtures.faults g.M.ModuleSet.plan g.M.ModuleSet.change v _ _ _ _ (search rules) (search rules) (search rules) (search rules))
 
 pub returns-in_err-number-clause-err : goal.returns-in_err-number-clause-err
 returns-in_err-number-clause-err g c =

@@ -45,12 +45,4 @@ returns-clause-here g c =
 
 pub returns-clause-state : goal.returns-clause-state
 returns-clause-state g c opening log h low free =
-    let b = c.args.self.now in
-    let n : ℕ = c.args.serial in
-    let place = c.in-Some.place in
-    let p : IsPlaceOf b.kept.items n (Some place) = subst (λ z. IsPlaceOf b.kept.items n z) c.in-Some.is (subst (λ z. IsPlaceOf z n c.place_of.result) c.as_slice.ensures.value c.place_of.ensures) in
-    let k = c.index.result.now in
-    let there : slice_get b.kept.items place ≡ Some k = slice_get_read b.kept.items _ place k refl (slice_get_within b.kept.items place p.0 p.1) (search rules) in
-    let flag : (b.desk.halted && (n == b.desk.serial)) ≡ false = sym c.is_halt.ensures ∙ search rules in
-    let same : (arc_value c.in_ok-try_clone-3.field-0).tree ≡ tree_of p.0 = ap (λ z. z.tree) (let one : arc_value c.in_ok-try_clone-3.field-0 ≡ arc_value k.loaded = search rules in one) ∙ ap tree_of (same_at b.kept.items place k p.0 there p.1) in
-    ap (λ z. Conf.Of z) same ∙ (sym (here_is b n (tree_of p.0) flag c.if-serial-eq0.false p.3) ∙ conf_is g.F.Fixtures.calls g.F.Fixtures.faults g.M.ModuleSet.plan g.M.ModuleSet.change opening b log h n low free)
+    returns-clause-here g c ∙ conf_is g.F.Fixtures.calls g.F.Fixtures.faults g.M.ModuleSet.plan g.M.ModuleSet.change opening c.args.self.now log h c.args.serial low free
