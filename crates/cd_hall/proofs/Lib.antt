@@ -24,5 +24,6 @@ pub mod GivenUp
 pub mod Retirable
 pub mod InHand
 pub mod Settled
+pub mod Crossing
 mod Examples
 mod TicketExamples

@@ -4,10 +4,13 @@ pub mod Since
 pub mod Dues
 pub mod GoesOn
 pub mod Turns
+pub mod Retired
 pub mod Requests
 pub mod Tickets
 pub mod Caches
 pub mod Drafts
+pub mod AtHand
 pub mod Calls
 pub mod Ends
 pub mod Publishing
+pub mod Follows

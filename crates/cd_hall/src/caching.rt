@@ -20,7 +20,7 @@ use crate::cache::{Cache, Hold, Now};
 use crate::duty::Duty;
 use crate::faults::NoFetch;
 use crate::hall::{Hall, Ticket};
-use crate::requests::{begin_request, duty_of, end_request};
+use crate::requests::begin_request;
 use crate::turns::{leave_turn, take_turn};
 use cd_gate::Pass;
 use cd_life::Board;
@@ -92,10 +92,8 @@ impl<M: ModuleSet, F: Fixtures> Hall<M, F> {
         match self.ticket_at(rt, pass, serial) {
             Ok(ticket) => Ok(ticket),
             Err(NoShare { halted }) => {
-                let due = end_request(&self.gate, pass, serial, halted);
-                Err(NoFetch {
-                    duty: duty_of(serial, due),
-                })
+                let duty = self.end_at(serial, halted, pass);
+                Err(NoFetch { duty })
             }
         }
     }
@@ -145,9 +143,9 @@ impl<M: ModuleSet, F: Fixtures> Hall<M, F> {
     {
         let halted = ticket.halted();
         let serial = ticket.serial;
-        let due = end_request(&self.gate, pass, serial, halted);
+        let duty = self.end_at(serial, halted, pass);
         cache.put(Some(ticket));
-        duty_of(serial, due)
+        duty
     }
 }
 

@@ -12,6 +12,7 @@ ghost use Rattle.cd_desk.specs.declared.drafts.DraftFault.TheVariants as fault;
 ghost use Rattle.cd_desk.specs.Instances.{failed_in};
 ghost use Rattle.cd_desk.specs.Lefts.{step_at};
 ghost use Rattle.cd_life.specs.Standing.{Stood};
+ghost use Rattle.cd_hall.specs.AtHand.{HasDraftInTurn};
 ghost use Rattle.cd_hall.specs.Calls.{IsPassOf, StaysCalm};
 ghost use Rattle.cd_hall.specs.Drafts.{IsDraftOf, FaultRose, held, new_held, one_made, one_started, key_in, made_entry, started_entry};
 ghost use Rattle.cd_hall.specs.GoesOn.{GoesOn};
@@ -123,11 +124,8 @@ impl<M: ModuleSet, F: Fixtures> Hall<M, F> {
         pass: &mut Pass<Board<M, F>>,
         draft: &mut Draft<M>,
     ) -> Result<Step, Key>
-        requires turn { InTurn (Stood F.calls F.faults M.plan M.change) self.now.gate turn.old pass.old }
-        requires draft { IsDraftOf (view pass.old) draft.old }
         requires more { (held draft.old).made < length (held draft.old).plan.modules }
-        requires unfailed { (held draft.old).failed ≡ false }
-        requires left { nothing_left (state_at (view pass.old).seen) ≡ true }
+        requires draft { HasDraftInTurn (Stood F.calls F.faults M.plan M.change) self.now.gate turn.old pass.old draft.old }
         ensures turn { InTurn (Stood F.calls F.faults M.plan M.change) self.now.gate turn.new pass.new }
         ensures goes { GoesOn (view pass.old) (view pass.new) (made_entry (held draft.old) (failed_in result) ∷ []) }
         ensures held { held draft.new ≡ one_made (held draft.old) (is_err result) }
@@ -184,12 +182,9 @@ impl<M: ModuleSet, F: Fixtures> Hall<M, F> {
         pass: &mut Pass<Board<M, F>>,
         draft: &mut Draft<M>,
     ) -> Result<Step, Key>
-        requires turn { InTurn (Stood F.calls F.faults M.plan M.change) self.now.gate turn.old pass.old }
-        requires draft { IsDraftOf (view pass.old) draft.old }
         requires ready { (held draft.old).made ≡ length (held draft.old).plan.modules }
         requires more { (held draft.old).started < length (held draft.old).plan.apps }
-        requires unfailed { (held draft.old).failed ≡ false }
-        requires left { nothing_left (state_at (view pass.old).seen) ≡ true }
+        requires draft { HasDraftInTurn (Stood F.calls F.faults M.plan M.change) self.now.gate turn.old pass.old draft.old }
         ensures turn { InTurn (Stood F.calls F.faults M.plan M.change) self.now.gate turn.new pass.new }
         ensures goes { GoesOn (view pass.old) (view pass.new) (started_entry (held draft.old) (failed_in result) ∷ []) }
         ensures held { held draft.new ≡ one_started (held draft.old) (is_err result) }

@@ -7,7 +7,8 @@
 //! What a call has made is `Spread` of specs/Spread.antt, by the places of its entries; for one entry or none it is `Turned` of
 //! specs/Turned.antt, right after the history that it found. `InTurn` of specs/Turns.antt says what holds between two entries of one
 //! turn, `GoesOn` of specs/GoesOn.antt what a part of a turn has made, and `Since` of specs/Since.antt the same by places.
-//! specs/Dues.antt says which duty comes with the end of a request, and with a halt.
+//! specs/Dues.antt says which duty comes with the end of a request, and with a halt. specs/AtHand.antt, specs/Follows.antt and
+//! specs/Retired.antt say what a part of a turn needs.
 //!
 //! Files: turns.rt takes a turn, adds entries in it, and leaves it, and names.rt says which entries are added; laws.rt says of a
 //! turn where its entries stand; beginning.rt makes a hall; requests.rt begins and ends requests, caching.rt does so without

@@ -1,5 +1,5 @@
 //! Drafts are published.
-ghost use Rattle.std.specs.Prelude.{◌≡◌, ◌≤◌, ◌<◌, ◌+◌, ◌-◌, ◌∷◌, ◌&&◌, [], ℕ, List, Some, None, IfOk, IfErr, cond, not, nat_le, true, false};
+ghost use Rattle.std.specs.Prelude.{◌≡◌, ◌≤◌, ◌<◌, ◌+◌, ◌-◌, ◌∷◌, ◌&&◌, [], List, Some, None, IfOk, IfErr, cond, not, nat_le, true, false};
 ghost use Rattle.cd_legal.specs.declared.entry.Entry.TheVariants.{Publish};
 ghost use Rattle.cd_legal.specs.declared.entry.Signed.{Signed};
 ghost use Rattle.cd_legal.specs.declared.limits.TheConstants.{LAST_SERIAL, MAX_UNRETIRED};
@@ -17,6 +17,7 @@ ghost use Rattle.cd_life.specs.Shares.{conf_in};
 ghost use Rattle.cd_life.specs.Standing.{Stood};
 ghost use Rattle.cd_hall.specs.Calls.{IsPassOf, StaysCalm};
 ghost use Rattle.cd_hall.specs.Drafts.{IsDraftOf, IsWholeDraft, held};
+ghost use Rattle.cd_hall.specs.Follows.{MayFollow};
 ghost use Rattle.cd_hall.specs.GoesOn.{GoesOn, Settles};
 ghost use Rattle.cd_hall.specs.Publishing.{refusal, refusal_in, draft_in};
 ghost use Rattle.cd_hall.specs.Spread.{Spread};
@@ -36,6 +37,13 @@ use cd_module_set::ModuleSet;
 use cd_outside::Fixtures;
 use std::snapshot::Snapshot;
 use std::sync::Wait;
+
+// A draft that is to be published after the configuration with this serial, and where it comes from.
+struct Successor<M: ModuleSet> {
+    draft: Draft<M>,
+    serial: u32,
+    origin: Origin,
+}
 
 impl<M: ModuleSet, F: Fixtures> Hall<M, F> {
     /// Publishes the pass's draft, all of which is made and started, after the configuration of its request. The apps of this are
@@ -108,7 +116,12 @@ pub(crate) fn publish_in_turn<M: ModuleSet, F: Fixtures>(
     if current == LAST_SERIAL {
         return Err(Kept::Exhausted(draft));
     }
-    publish_next(gate, turn, pass, draft, serial, origin);
+    let successor = Successor {
+        draft,
+        serial,
+        origin,
+    };
+    publish_next(gate, turn, pass, successor);
     Ok(())
 }
 
@@ -132,29 +145,20 @@ fn publish_next<M: ModuleSet, F: Fixtures>(
     gate: &Gate<Board<M, F>>,
     turn: &mut Turn<Board<M, F>>,
     pass: &mut Pass<Board<M, F>>,
-    draft: Draft<M>,
-    serial: u32,
-    origin: Origin,
+    successor: Successor<M>,
 )
     requires turn { InTurn (Stood F.calls F.faults M.plan M.change) gate.now turn.old pass.old }
-    requires settled { (view pass.old).unsettled ≡ None }
-    requires draft { IsDraftOf (view pass.old) draft }
-    requires whole { IsWholeDraft (held draft) }
-    requires ticket { (view pass.old).ticket ≡ Some serial }
-    requires current { serial ≡ (state_at (view pass.old).seen).serial }
-    requires running { (state_at (view pass.old).seen).halted ≡ false }
-    requires change { Suits M.change (conf_of (state_at (view pass.old).seen) serial) (change_of origin) (held draft).tree }
-    requires room { serial < LAST_SERIAL }
-    requires retired { (k : ℕ) → k + MAX_UNRETIRED ≡ serial + 1 → has_number k (state_at (view pass.old).seen).retired ≡ true }
     requires left { nothing_left (state_at (view pass.old).seen) ≡ true }
+    requires follows { MayFollow M.change (view pass.old) successor }
     ensures turn { HasTurnOf gate.now pass.new }
     ensures board { Stood F.calls F.faults M.plan M.change (opening_of gate.now) turn.new.value (core_at (view pass.new).seen) }
-    ensures settles { Settles (view pass.old) (view pass.new) (Publish draft.left.number (serial + 1) serial (change_of origin) ∷ stopped_of (state_at (core_at (view pass.old).seen)) serial) [] }
+    ensures settles { Settles (view pass.old) (view pass.new) (Publish successor.draft.left.number (successor.serial + 1) successor.serial (change_of successor.origin) ∷ stopped_of (state_at (core_at (view pass.old).seen)) successor.serial) [] }
     ensures calm { StaysCalm (view pass.old) (view pass.new) }
     ensures checked { (view pass.new).checked ≡ (view pass.old).checked }
     ensures history { IsHistory (view pass.new).seen }
 {
-    let begins = note_publish(gate, turn, pass, draft, serial, origin);
+    let serial = successor.serial;
+    let begins = note_publish(gate, turn, pass, successor);
     stop_superseded(gate, turn, pass, serial);
     gate.settle_step(turn, pass, serial, begins);
 }
@@ -164,26 +168,21 @@ fn note_publish<M: ModuleSet, F: Fixtures>(
     gate: &Gate<Board<M, F>>,
     turn: &mut Turn<Board<M, F>>,
     pass: &mut Pass<Board<M, F>>,
-    draft: Draft<M>,
-    serial: u32,
-    origin: Origin,
+    successor: Successor<M>,
 ) -> u64
     requires turn { InTurn (Stood F.calls F.faults M.plan M.change) gate.now turn.old pass.old }
-    requires settled { (view pass.old).unsettled ≡ None }
-    requires draft { IsDraftOf (view pass.old) draft }
-    requires whole { IsWholeDraft (held draft) }
-    requires ticket { (view pass.old).ticket ≡ Some serial }
-    requires current { serial ≡ (state_at (view pass.old).seen).serial }
-    requires running { (state_at (view pass.old).seen).halted ≡ false }
-    requires change { Suits M.change (conf_of (state_at (view pass.old).seen) serial) (change_of origin) (held draft).tree }
-    requires room { serial < LAST_SERIAL }
-    requires retired { (k : ℕ) → k + MAX_UNRETIRED ≡ serial + 1 → has_number k (state_at (view pass.old).seen).retired ≡ true }
+    requires follows { MayFollow M.change (view pass.old) successor }
     ensures turn { InTurn (Stood F.calls F.faults M.plan M.change) gate.now turn.new pass.new }
-    ensures goes { GoesOn (view pass.old) (view pass.new) (Publish draft.left.number (serial + 1) serial (change_of origin) ∷ []) }
-    ensures ticket { (view pass.new).ticket ≡ Some serial }
-    ensures unsettled { (view pass.new).unsettled ≡ Some (record { serial = serial; begins = result }) }
+    ensures goes { GoesOn (view pass.old) (view pass.new) (Publish successor.draft.left.number (successor.serial + 1) successor.serial (change_of successor.origin) ∷ []) }
+    ensures ticket { (view pass.new).ticket ≡ Some successor.serial }
+    ensures unsettled { (view pass.new).unsettled ≡ Some (record { serial = successor.serial; begins = result }) }
     ensures few { result < SERIAL_STEP }
 {
+    let Successor {
+        draft,
+        serial,
+        origin,
+    } = successor;
     let drafted = draft.number();
     let asked = Snapshot::of(&origin);
     let begins = gate.publish_step::<(u64, u32, Snapshot<Origin>), NamesPublish>(

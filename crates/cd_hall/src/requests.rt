@@ -107,6 +107,25 @@ impl<M: ModuleSet, F: Fixtures> Hall<M, F> {
         let halted = ticket.halted();
         let Ticket { serial, share } = ticket;
         drop(share);
+        self.end_at(serial, halted, pass)
+    }
+
+    // Ends the request of the pass, which is at this serial. `halted` says whether that is the one of the halt.
+    pub(crate) fn end_at(
+        &self,
+        serial: u32,
+        halted: bool,
+        pass: &mut Pass<Board<M, F>>,
+    ) -> Option<Duty>
+        requires pass { IsPassOf self.now pass.old }
+        requires ticket { (view pass.old).ticket ≡ Some serial }
+        requires halted { halted ≡ ((state_at (view pass.old).seen).halted && (serial == (state_at (view pass.old).seen).serial)) }
+        ensures pass { IsPassOf self.now pass.new }
+        ensures finishes { (found : List Signed) × Turned (view pass.old) (view pass.new) found (Finish (view pass.old).number ∷ []) × (ticket_of (view pass.old).number (state_at found).tickets ≡ Some serial) }
+        ensures due { (found : List Signed) → Turned (view pass.old) (view pass.new) found (Finish (view pass.old).number ∷ []) → DueThen (state_at found) serial (duties_in result) }
+        ensures may { MayRetireAll (state_at (view pass.new).seen) (duties_in result) }
+        ensures duties { (view pass.new).duties ≡ duties_in result ++ (view pass.old).duties }
+    {
         let due = end_request(&self.gate, pass, serial, halted);
         duty_of(serial, due)
     }
@@ -150,12 +169,7 @@ pub(crate) fn begin_request<T: Stands>(gate: &Gate<T>, pass: &mut Pass<T>) -> Op
 }
 
 // Ends the request of an idle pass, which is at this serial. True exactly where the serial is then a duty of the pass.
-pub(crate) fn end_request<T: Stands>(
-    gate: &Gate<T>,
-    pass: &mut Pass<T>,
-    serial: u32,
-    halted: bool,
-) -> bool
+fn end_request<T: Stands>(gate: &Gate<T>, pass: &mut Pass<T>, serial: u32, halted: bool) -> bool
     requires pass { IsIdleOf gate.now pass.old }
     requires ticket { (view pass.old).ticket ≡ Some serial }
     requires halted { halted ≡ ((state_at (view pass.old).seen).halted && (serial == (state_at (view pass.old).seen).serial)) }

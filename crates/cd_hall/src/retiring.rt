@@ -36,30 +36,30 @@ impl<M: ModuleSet, F: Fixtures> Hall<M, F> {
         ensures spreads { Spreads (view pass.old) (view pass.new) (λ s. block_of s duty.serial) }
         ensures duties { (view pass.new).duties ≡ without_number duty.serial (view pass.old).duties }
     {
-        let Duty { serial } = duty;
         let mut turn = take_turn(rt, &self.gate, pass);
-        let removed = retire_in_turn(&self.gate, &mut turn, pass, serial);
+        let removed = retire_in_turn(&self.gate, &mut turn, pass, duty);
         leave_turn(&self.gate, turn, pass);
         free_out_of_turn(&self.gate, &*pass, removed);
     }
 }
 
-// Retires a serial that the pass is to retire, cleans its instances, and hands back what was kept of it.
+// Retires the serial of a duty of the pass, cleans its instances, and hands back what was kept of it.
 pub(crate) fn retire_in_turn<M: ModuleSet, F: Fixtures>(
     gate: &Gate<Board<M, F>>,
     turn: &mut Turn<Board<M, F>>,
     pass: &mut Pass<Board<M, F>>,
-    serial: u32,
+    duty: Duty,
 ) -> Option<Removed<M>>
     requires turn { InTurn (Stood F.calls F.faults M.plan M.change) gate.now turn.old pass.old }
-    requires duty { has_number serial (view pass.old).duties ≡ true }
+    requires duty { has_number duty.serial (view pass.old).duties ≡ true }
     requires left { nothing_left (state_at (view pass.old).seen) ≡ true }
     ensures turn { InTurn (Stood F.calls F.faults M.plan M.change) gate.now turn.new pass.new }
-    ensures goes { GoesOn (view pass.old) (view pass.new) (block_of (state_at (view pass.old).seen) serial) }
+    ensures goes { GoesOn (view pass.old) (view pass.new) (block_of (state_at (view pass.old).seen) duty.serial) }
     ensures unsettled { (view pass.new).unsettled ≡ (view pass.old).unsettled }
-    ensures duties { (view pass.new).duties ≡ without_number serial (view pass.old).duties }
+    ensures duties { (view pass.new).duties ≡ without_number duty.serial (view pass.old).duties }
     ensures left { nothing_left (state_at (view pass.new).seen) ≡ true }
 {
+    let Duty { serial } = duty;
     let removed = note_retire(gate, turn, pass, serial);
     clean_retired(gate, turn, pass, serial);
     removed

@@ -5,6 +5,7 @@ ghost use Rattle.cd_legal.specs.Runs.{stopped_all, cleaned_all};
 ghost use Rattle.cd_gate.specs.Passes.{view};
 ghost use Rattle.cd_desk.specs.Closings.{IsClosing, MayClean};
 ghost use Rattle.cd_life.specs.Standing.{Stood};
+ghost use Rattle.cd_hall.specs.AtHand.{HasClosingInTurn};
 ghost use Rattle.cd_hall.specs.GoesOn.{GoesOn};
 ghost use Rattle.cd_hall.specs.Turns.{InTurn};
 
@@ -22,8 +23,7 @@ fn stop_next<M: ModuleSet, F: Fixtures>(
     pass: &mut Pass<Board<M, F>>,
     closing: &mut Closing,
 )
-    requires turn { InTurn (Stood F.calls F.faults M.plan M.change) gate.now turn.old pass.old }
-    requires at { IsClosing turn.old.value.desk closing.old }
+    requires closing { HasClosingInTurn (Stood F.calls F.faults M.plan M.change) gate.now turn.old pass.old closing.old }
     requires more { 0 < closing.old.apps }
     ensures turn { InTurn (Stood F.calls F.faults M.plan M.change) gate.now turn.new pass.new }
     ensures goes { GoesOn (view pass.old) (view pass.new) (Stopped closing.old.number (closing.old.apps - 1) ∷ []) }
@@ -43,8 +43,7 @@ pub(crate) fn stop_all<M: ModuleSet, F: Fixtures>(
     pass: &mut Pass<Board<M, F>>,
     closing: &mut Closing,
 )
-    requires turn { InTurn (Stood F.calls F.faults M.plan M.change) gate.now turn.old pass.old }
-    requires at { IsClosing turn.old.value.desk closing.old }
+    requires closing { HasClosingInTurn (Stood F.calls F.faults M.plan M.change) gate.now turn.old pass.old closing.old }
     ensures turn { InTurn (Stood F.calls F.faults M.plan M.change) gate.now turn.new pass.new }
     ensures goes { GoesOn (view pass.old) (view pass.new) (stopped_all closing.old.number closing.old.apps) }
     ensures unsettled { (view pass.new).unsettled ≡ (view pass.old).unsettled }
@@ -66,10 +65,9 @@ fn clean_next<M: ModuleSet, F: Fixtures>(
     pass: &mut Pass<Board<M, F>>,
     closing: &mut Closing,
 )
-    requires turn { InTurn (Stood F.calls F.faults M.plan M.change) gate.now turn.old pass.old }
-    requires at { IsClosing turn.old.value.desk closing.old }
-    requires stopped { closing.old.apps ≡ 0 }
+    requires closing { HasClosingInTurn (Stood F.calls F.faults M.plan M.change) gate.now turn.old pass.old closing.old }
     requires more { 0 < closing.old.instances }
+    requires stopped { closing.old.apps ≡ 0 }
     requires may { MayClean turn.old.value.desk.books closing.old.number }
     ensures turn { InTurn (Stood F.calls F.faults M.plan M.change) gate.now turn.new pass.new }
     ensures goes { GoesOn (view pass.old) (view pass.new) (Cleaned closing.old.number (closing.old.instances - 1) ∷ []) }
@@ -89,8 +87,7 @@ pub(crate) fn clean_all<M: ModuleSet, F: Fixtures>(
     pass: &mut Pass<Board<M, F>>,
     closing: &mut Closing,
 )
-    requires turn { InTurn (Stood F.calls F.faults M.plan M.change) gate.now turn.old pass.old }
-    requires at { IsClosing turn.old.value.desk closing.old }
+    requires closing { HasClosingInTurn (Stood F.calls F.faults M.plan M.change) gate.now turn.old pass.old closing.old }
     requires stopped { closing.old.apps ≡ 0 }
     requires may { 0 < closing.old.instances → MayClean turn.old.value.desk.books closing.old.number }
     ensures turn { InTurn (Stood F.calls F.faults M.plan M.change) gate.now turn.new pass.new }

@@ -1,67 +1,11 @@
--- A slot may go to another thread, and threads may share a hall. Each step here is one former.
+-- A slot may go to another thread.
 use denote.RattleType.{RattleType}
 use denote.Param.Send.{IsSend, IsSync, sendable}
-use denote.Param.SendFields.{declared_send, declared_sync}
-use Rattle.std.proofs.Crossing as std
-use Rattle.cd_tree.proofs.tree.Tree.TheLaws.TheKnot as trees
-use Rattle.cd_tree.specs.contracts.tree.Tree as Tree
-use Rattle.cd_legal.proofs.plan.Plan.TheSendSync as plan
-use Rattle.cd_pool.proofs.pool.Pool.TheSendSync as pool
-use Rattle.cd_module_set.specs.contracts.loaded.Loaded as Loaded
-use Rattle.cd_life.specs.contracts.share.Nothing as Nothing
-use Rattle.cd_life.specs.contracts.board.Kept as Kept
-use Rattle.cd_life.specs.contracts.board.Board as Board
-use Rattle.cd_desk.specs.contracts.row.Row as Row
-use Rattle.cd_desk.specs.contracts.books.Books as Books
-use Rattle.cd_desk.specs.contracts.desk.Desk as Desk
-use Rattle.cd_gate.proofs.gate.Gate.TheSendSync as gate
-use Rattle.cd_gate.proofs.pass.Pass.TheSendSync as pass
-use Rattle.cd_hall.specs.contracts.hall.Hall as Hall
+use denote.Param.SendFields.{declared_send}
+use Rattle.cd_hall.proofs.Crossing.{pass_send}
 use Rattle.cd_session.proofs.lane_end.LaneEnd.TheSendSync as end
 use Rattle.cd_host.specs.contracts.slot.Slot as Slot
 
-tree_send : IsSend Tree.the_row
-tree_send = search (trees.crosses_both, std.crosses, sendable) depth 60 fits 20000
-
-tree_sync : IsSync Tree.the_row
-tree_sync = search (trees.crosses_both, std.crosses, sendable) depth 60 fits 20000
-
-row_send : IsSend Row.the_row
-row_send = declared_send Row.the_type (search (std.crosses, sendable) depth 60 fits 20000)
-
-books_send : IsSend Books.the_row
-books_send =
-    let r = row_send in
-    declared_send Books.the_type (pool.the_send, (search sendable, (search (r, std.crosses, sendable), (search sendable, tt))))
-
-desk_send : (F : RattleType) → IsSend F → IsSend (Desk.the_row F)
-desk_send F fs = let b = books_send in declared_send (Desk.the_type F) (search (fs, sendable), (b, (search (std.crosses, sendable) depth 60 fits 20000)))
-
 module _ (M F C : RattleType) (g : _) (fs : IsSend F) (cs : IsSend C) (cy : IsSync C) where
-  loaded_send : IsSend (Loaded.the_row M C g)
-  loaded_send = declared_send (Loaded.the_type M C g) (tree_send, (plan.the_send, (search (cs, sendable), tt)))
-
-  loaded_sync : IsSync (Loaded.the_row M C g)
-  loaded_sync = declared_sync (Loaded.the_type M C g) (tree_sync, (plan.the_sync, (search (cy, sendable), tt)))
-
-  nothing_send : IsSend (Nothing.the_row M C g)
-  nothing_send = declared_send (Nothing.the_type M C g) (tree_send, (search (cs, sendable), tt))
-
-  nothing_sync : IsSync (Nothing.the_row M C g)
-  nothing_sync = declared_sync (Nothing.the_type M C g) (tree_sync, (search (cy, sendable), tt))
-
-  kept_send : IsSend (Kept.the_row M C g)
-  kept_send = let s = loaded_send in let y = loaded_sync in declared_send (Kept.the_type M C g) (search sendable, (search (s, y, std.crosses, sendable), tt))
-
-  board_send : IsSend (Board.the_row M F C g)
-  board_send =
-      let s = nothing_send in
-      let y = nothing_sync in
-      let k = kept_send in
-      declared_send (Board.the_type M F C g) (desk_send F fs, (search (s, y, std.crosses, sendable), (search (k, std.crosses, sendable), (search sendable, tt))))
-
   pub slot_send : (L : RattleType) → IsSend L → IsSend (Slot.the_row M F L C g)
-  slot_send L ls = declared_send (Slot.the_type M F L C g) (pass.the_send (Board.the_row M F C g) board_send, (search (ls, sendable), (end.the_send, tt)))
-
-  pub hall_sync : (f : _) → IsSync (Hall.the_row M F C g f)
-  hall_sync f = let b = board_send in declared_sync (Hall.the_type M F C g f) (search (b, gate.the_sync, sendable), tt)
+  slot_send L ls = declared_send (Slot.the_type M F L C g) (pass_send M F C g fs cs cy, (search (ls, sendable), (end.the_send, tt)))

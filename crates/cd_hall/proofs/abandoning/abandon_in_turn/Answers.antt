@@ -6,6 +6,12 @@ use Rattle.cd_hall.proofs.Requested.{kept_turn}
 use Rattle.cd_hall.proofs.GivenUp.{gave_up, number_is, abandoned_calm}
 use Rattle.cd_hall.proofs.abandoning.abandon_in_turn.Goals as goal
 
+pub stop_all-requires-clause-closing : goal.stop_all-requires-clause-closing
+stop_all-requires-clause-closing g c κs within = record { turn = c.note_abandon-removed.ensures.turn; at = c.note_abandon-removed.ensures.at }
+
+pub clean_all-requires-clause-closing : goal.clean_all-requires-clause-closing
+clean_all-requires-clause-closing g c κs within = record { turn = c.stop_all.ensures.turn; at = c.stop_all.ensures.at }
+
 pub clean_all-requires-clause-stopped : goal.clean_all-requires-clause-stopped
 clean_all-requires-clause-stopped g c κs within = ap (λ (z : Closing). z.apps) c.stop_all.ensures.closing
 

@@ -10,23 +10,25 @@ use Rattle.cd_hall.proofs.InHand.{is_current, has_room, still_runs, by_none}
 use Rattle.cd_hall.proofs.Settled.{oldest_retired}
 use Rattle.cd_hall.proofs.publishing.publish_in_turn.Goals as goal
 
-pub publish_next-requires-clause-current : goal.publish_next-requires-clause-current
-publish_next-requires-clause-current g c κs within = ((is_current c.args.serial c.serial-current.result (state_at (core_at (view c.args.pass.now).seen)).serial (c.serial-current.ensures.state (opening_of c.args.gate.now) (core_at (view c.args.pass.now).seen) c.requires.turn.board) c.requires.there c.if-serial-current.false) ∙ serial_core (view c.args.pass.now).seen)
-
-pub publish_next-requires-clause-running : goal.publish_next-requires-clause-running
-publish_next-requires-clause-running g c κs within = (still_runs g.M.ModuleSet.change (view c.args.pass.now) c.args.serial (change_of c.args.origin) (held c.args.draft).tree c.requires.turn.knows ((is_current c.args.serial c.serial-current.result (state_at (core_at (view c.args.pass.now).seen)).serial (c.serial-current.ensures.state (opening_of c.args.gate.now) (core_at (view c.args.pass.now).seen) c.requires.turn.board) c.requires.there c.if-serial-current.false) ∙ serial_core (view c.args.pass.now).seen) c.requires.change)
-
-pub publish_next-requires-clause-room : goal.publish_next-requires-clause-room
-publish_next-requires-clause-room g c κs within =
-    let s = state_at (core_at (view c.args.pass.now).seen) in
-    subst (λ (n : ℕ). n < LAST_SERIAL) (sym (is_current c.args.serial c.serial-current.result (state_at (core_at (view c.args.pass.now).seen)).serial (c.serial-current.ensures.state (opening_of c.args.gate.now) (core_at (view c.args.pass.now).seen) c.requires.turn.board) c.requires.there c.if-serial-current.false))
-    (has_room c.serial-current.result s.serial (c.serial-current.ensures.state (opening_of c.args.gate.now) (core_at (view c.args.pass.now).seen) c.requires.turn.board) (c.requires.room (halted_core (view c.args.pass.now).seen ∙ (still_runs g.M.ModuleSet.change (view c.args.pass.now) c.args.serial (change_of c.args.origin) (held c.args.draft).tree c.requires.turn.knows ((is_current c.args.serial c.serial-current.result (state_at (core_at (view c.args.pass.now).seen)).serial (c.serial-current.ensures.state (opening_of c.args.gate.now) (core_at (view c.args.pass.now).seen) c.requires.turn.board) c.requires.there c.if-serial-current.false) ∙ serial_core (view c.args.pass.now).seen) c.requires.change))) c.if-current-eq-LAST_SERIAL.false)
-
-pub publish_next-requires-clause-retired : goal.publish_next-requires-clause-retired
-publish_next-requires-clause-retired g c κs within k last =
-    let l = core_at (view c.args.pass.now).seen in
-    sym (retired_core (view c.args.pass.now).seen k)
-    ∙ oldest_retired (state_at l) c.args.serial c.serial-current.result k ((is_current c.args.serial c.serial-current.result (state_at (core_at (view c.args.pass.now).seen)).serial (c.serial-current.ensures.state (opening_of c.args.gate.now) (core_at (view c.args.pass.now).seen) c.requires.turn.board) c.requires.there c.if-serial-current.false) ∙ sym (c.serial-current.ensures.state (opening_of c.args.gate.now) (core_at (view c.args.pass.now).seen) c.requires.turn.board)) (sym c.in_default.is ∙ c.unretired_before.ensures (opening_of c.args.gate.now) (core_at (view c.args.pass.now).seen) c.requires.turn.board) last
+pub publish_next-requires-clause-follows : goal.publish_next-requires-clause-follows
+publish_next-requires-clause-follows g c κs within =
+    let v = view c.args.pass.now in
+    let l = core_at v.seen in
+    let told = c.serial-current.ensures.state (opening_of c.args.gate.now) l c.requires.turn.board in
+    let here = is_current c.args.serial c.serial-current.result (state_at l).serial told c.requires.there c.if-serial-current.false in
+    let current = here ∙ serial_core v.seen in
+    let runs = still_runs g.M.ModuleSet.change v c.args.serial (change_of c.args.origin) (held c.args.draft).tree c.requires.turn.knows current c.requires.change in
+    record {
+      settled = c.requires.settled;
+      draft = c.requires.draft;
+      whole = c.requires.whole;
+      ticket = c.requires.ticket;
+      current = current;
+      running = runs;
+      change = c.requires.change;
+      room = subst (λ (n : ℕ). n < LAST_SERIAL) (sym here) (has_room c.serial-current.result (state_at l).serial told (c.requires.room (halted_core v.seen ∙ runs)) c.if-current-eq-LAST_SERIAL.false);
+      retired = λ k last. sym (retired_core v.seen k) ∙ oldest_retired (state_at l) c.args.serial c.serial-current.result k (here ∙ sym told) (sym c.in_default.is ∙ c.unretired_before.ensures (opening_of c.args.gate.now) l c.requires.turn.board) last;
+    }
 
 pub returns-clause-publishes : goal.returns-clause-publishes
 returns-clause-publishes g c = (

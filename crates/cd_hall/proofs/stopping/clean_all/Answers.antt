@@ -6,6 +6,9 @@ use Rattle.cd_desk.specs.Closings.{MayClean}
 use Rattle.cd_hall.proofs.OneByOne.{far_none, cleans_on, cleans_over, no_instance, same_cleaned, none_left, some_left}
 use Rattle.cd_hall.proofs.stopping.clean_all.Goals as goal
 
+pub clean_next-requires-clause-closing : goal.clean_next-requires-clause-closing
+clean_next-requires-clause-closing g c κs within = record { turn = c.loop-left.invariant.turn; at = c.loop-left.invariant.at }
+
 pub clean_next-requires-clause-more : goal.clean_next-requires-clause-more
 clean_next-requires-clause-more g c κs within = some_left c.loop-left.left c.loop-left.closing.instances c.loop-left.invariant.count c.loop-left-test.true
 
@@ -15,11 +18,11 @@ clean_next-requires-clause-may g c κs within = c.loop-left.invariant.may (some_
 pub loop-left-init : goal.loop-left-init
 loop-left-init g c = record {
   count = c.instances_left-left.ensures;
-  turn = c.requires.turn;
-  goes = far_none (view c.args.pass.now) (cleaned_all c.args.closing.now.number c.args.closing.now.instances) c.requires.turn.knows;
+  turn = c.requires.closing.turn;
+  goes = far_none (view c.args.pass.now) (cleaned_all c.args.closing.now.number c.args.closing.now.instances) c.requires.closing.turn.knows;
   unsettled = refl;
   closing = refl;
-  at = c.requires.at;
+  at = c.requires.closing.at;
   stopped = c.requires.stopped;
   may = c.requires.may;
 }

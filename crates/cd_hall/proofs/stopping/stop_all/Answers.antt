@@ -6,17 +6,20 @@ use Rattle.cd_desk.specs.Closings.{MayClean}
 use Rattle.cd_hall.proofs.OneByOne.{far_none, stops_on, stops_over, no_app, same_stopped, none_left, some_left}
 use Rattle.cd_hall.proofs.stopping.stop_all.Goals as goal
 
+pub stop_next-requires-clause-closing : goal.stop_next-requires-clause-closing
+stop_next-requires-clause-closing g c κs within = record { turn = c.loop-left.invariant.turn; at = c.loop-left.invariant.at }
+
 pub stop_next-requires-clause-more : goal.stop_next-requires-clause-more
 stop_next-requires-clause-more g c κs within = some_left c.loop-left.left c.loop-left.closing.apps c.loop-left.invariant.count c.loop-left-test.true
 
 pub loop-left-init : goal.loop-left-init
 loop-left-init g c = record {
   count = c.apps_left-left.ensures;
-  turn = c.requires.turn;
-  goes = far_none (view c.args.pass.now) (stopped_all c.args.closing.now.number c.args.closing.now.apps) c.requires.turn.knows;
+  turn = c.requires.closing.turn;
+  goes = far_none (view c.args.pass.now) (stopped_all c.args.closing.now.number c.args.closing.now.apps) c.requires.closing.turn.knows;
   unsettled = refl;
   closing = refl;
-  at = c.requires.at;
+  at = c.requires.closing.at;
   clean = λ may. may;
 }
 

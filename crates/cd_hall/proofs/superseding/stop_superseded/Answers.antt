@@ -12,8 +12,11 @@ pub superseded-closing-requires : goal.superseded-closing-requires
 superseded-closing-requires g c =
     (search rules, (search rules, is_below g.F.Fixtures.calls (opening_of c.args.gate.now).desk c.args.turn.now.value.desk (core_at (view c.args.pass.now).seen) c.requires.turn.board.desk c.args.serial (low_core (view c.args.pass.now).seen c.args.serial c.requires.superseded)))
 
-pub stop_all-requires-clause-turn : goal.stop_all-requires-clause-turn
-stop_all-requires-clause-turn g c κs within = same_turn (Stood g.F.Fixtures.calls g.F.Fixtures.faults g.M.ModuleSet.plan g.M.ModuleSet.change) c.args.gate.now c.args.turn.now _ c.args.pass.now c.requires.turn c.superseded-closing.ensures.same
+pub stop_all-requires-clause-closing : goal.stop_all-requires-clause-closing
+stop_all-requires-clause-closing g c κs within = record {
+  turn = same_turn (Stood g.F.Fixtures.calls g.F.Fixtures.faults g.M.ModuleSet.plan g.M.ModuleSet.change) c.args.gate.now c.args.turn.now _ c.args.pass.now c.requires.turn c.superseded-closing.ensures.same;
+  at = c.superseded-closing.ensures.at;
+}
 
 pub put_back-requires : goal.put_back-requires
 put_back-requires g c = (search rules, (search rules, ap (λ (z : Closing). z.serial) c.stop_all.ensures.closing ∙ c.superseded-closing.ensures.serial))

@@ -3,17 +3,18 @@ use denote.Param.{param}
 use denote.Param.Send.{arg_send, param_send}
 use Rattle.std.proofs.Common.{slice_index_or}
 use Rattle.std.proofs.Crossing as std
-use Rattle.cd_host.proofs.Crossing as crossing
+use Rattle.cd_hall.proofs.Crossing.{hall_sync}
+use Rattle.cd_host.proofs.Crossing.{slot_send}
 use Rattle.cd_host.proofs.Seating.{served-as}
 use Rattle.cd_host.proofs.serving.serve_slots.Goals as goal
 
 pub for_each_mut-requires-send-T : goal.for_each_mut-requires-send-T
 for_each_mut-requires-send-T g c κs within =
-    param_send 1 _ (arg_send _ no _ (crossing.slot_send _ _ _ _ c.type_bounds.send-F c.type_bounds.send-M-Compiled c.type_bounds.sync-M-Compiled _ c.type_bounds.send-L))
+    param_send 1 _ (arg_send _ no _ (slot_send _ _ _ _ c.type_bounds.send-F c.type_bounds.send-M-Compiled c.type_bounds.sync-M-Compiled _ c.type_bounds.send-L))
 
 pub for_each_mut-requires-sync-F : goal.for_each_mut-requires-sync-F
 for_each_mut-requires-sync-F g c κs within =
-    let h = crossing.hall_sync (param 1 g.row.M) (param 2 g.row.F) (param 4 g.row.M-Compiled) g.M.ModuleSet c.type_bounds.send-F c.type_bounds.send-M-Compiled c.type_bounds.sync-M-Compiled g.F.Fixtures in
+    let h = hall_sync (param 1 g.row.M) (param 2 g.row.F) (param 4 g.row.M-Compiled) g.M.ModuleSet c.type_bounds.send-F c.type_bounds.send-M-Compiled c.type_bounds.sync-M-Compiled g.F.Fixtures in
     let r = c.type_bounds.sync-R in
     -- what the closure holds: a `&` to the runtime, one to the allocator, and one to the hall
     record {

@@ -10,7 +10,12 @@ use Rattle.cd_hall.proofs.Drafted.{draft_in, draft_after, fault_rose}
 use Rattle.cd_hall.proofs.hall.Hall.start.Goals as goal
 
 pub start_in_turn-started-requires-clause-draft : goal.start_in_turn-started-requires-clause-draft
-start_in_turn-started-requires-clause-draft g c κs within = draft_in (view c.args.pass.now) (view c.take_turn-turn.new.pass) c.args.draft.now c.take_turn-turn.ensures.same c.take_turn-turn.ensures.draft c.requires.draft
+start_in_turn-started-requires-clause-draft g c κs within = record {
+  turn = c.take_turn-turn.ensures.turn;
+  draft = draft_in (view c.args.pass.now) (view c.take_turn-turn.new.pass) c.args.draft.now c.take_turn-turn.ensures.same c.take_turn-turn.ensures.draft c.requires.draft;
+  unfailed = c.requires.unfailed;
+  left = c.take_turn-turn.ensures.left;
+}
 
 pub leave_turn-requires-clause-turn : goal.leave_turn-requires-clause-turn
 leave_turn-requires-clause-turn g c = c.start_in_turn-started.ensures.turn.turn

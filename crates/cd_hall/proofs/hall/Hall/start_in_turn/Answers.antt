@@ -16,13 +16,16 @@ use Rattle.cd_hall.proofs.Drafted.{said, err_is, left_here, held_started, starte
 use Rattle.cd_hall.proofs.hall.Hall.start_in_turn.Goals as goal
 
 pub start-started-requires-clause-draft : goal.start-started-requires-clause-draft
-start-started-requires-clause-draft g c κs within = left_here g.F.Fixtures.calls g.F.Fixtures.faults g.M.ModuleSet.plan g.M.ModuleSet.change c.args.self.now.gate c.args.turn.now c.args.pass.now c.requires.turn c.args.draft.now c.requires.draft
+start-started-requires-clause-draft g c κs within = left_here g.F.Fixtures.calls g.F.Fixtures.faults g.M.ModuleSet.plan g.M.ModuleSet.change c.args.self.now.gate c.args.turn.now c.args.pass.now c.requires.draft.turn c.args.draft.now c.requires.draft.draft
 
 pub start-started-requires-clause-more : goal.start-started-requires-clause-more
-start-started-requires-clause-more g c κs within = subst (λ (n : ℕ). c.args.draft.now.left.started < n) (sym c.requires.draft.apps) c.requires.more
+start-started-requires-clause-more g c κs within = subst (λ (n : ℕ). c.args.draft.now.left.started < n) (sym c.requires.draft.draft.apps) c.requires.more
 
 pub start-started-requires-clause-ready : goal.start-started-requires-clause-ready
-start-started-requires-clause-ready g c κs within = subst (λ (n : ℕ). c.args.draft.now.left.made ≡ n) (sym c.requires.draft.modules) c.requires.ready
+start-started-requires-clause-ready g c κs within = subst (λ (n : ℕ). c.args.draft.now.left.made ≡ n) (sym c.requires.draft.draft.modules) c.requires.ready
+
+pub start-started-requires-clause-unfailed : goal.start-started-requires-clause-unfailed
+start-started-requires-clause-unfailed g c κs within = c.requires.draft.unfailed
 
 pub add-requires-clause-board : goal.add-requires-clause-board
 add-requires-clause-board g c =
@@ -30,14 +33,14 @@ add-requires-clause-board g c =
     said
     (λ d r. Stood g.F.Fixtures.calls g.F.Fixtures.faults g.M.ModuleSet.plan g.M.ModuleSet.change (opening_of c.args.self.now.gate) c.start-started.new.self (core_at v.seen ++ signed v.number (started_entry (held d) (failed_in r)) ∷ []))
     c.args.draft.now c.of-was.result.value c.start-started.result c.of-said.result.value c.of-was.ensures c.of-said.ensures
-    (started_here g.F.Fixtures.calls g.F.Fixtures.faults g.M.ModuleSet.plan g.M.ModuleSet.change c.args.self.now.gate c.args.turn.now c.args.pass.now c.requires.turn c.start-started.new.self c.args.draft.now (failed_in c.start-started.result) c.requires.draft c.start-started.ensures.entry).1
+    (started_here g.F.Fixtures.calls g.F.Fixtures.faults g.M.ModuleSet.plan g.M.ModuleSet.change c.args.self.now.gate c.args.turn.now c.args.pass.now c.requires.draft.turn c.start-started.new.self c.args.draft.now (failed_in c.start-started.result) c.requires.draft.draft c.start-started.ensures.entry).1
 
 pub add-requires-clause-may : goal.add-requires-clause-may
 add-requires-clause-may g c =
     let v = view c.args.pass.now in
     said (λ d r. may_note v (started_entry (held d) (failed_in r)) ≡ true) c.args.draft.now c.of-was.result.value c.start-started.result c.of-said.result.value c.of-was.ensures c.of-said.ensures
-    (may_start v (held c.args.draft.now) (failed_in c.start-started.result) c.requires.draft.own
-    (started_here g.F.Fixtures.calls g.F.Fixtures.faults g.M.ModuleSet.plan g.M.ModuleSet.change c.args.self.now.gate c.args.turn.now c.args.pass.now c.requires.turn c.start-started.new.self c.args.draft.now (failed_in c.start-started.result) c.requires.draft c.start-started.ensures.entry).0)
+    (may_start v (held c.args.draft.now) (failed_in c.start-started.result) c.requires.draft.draft.own
+    (started_here g.F.Fixtures.calls g.F.Fixtures.faults g.M.ModuleSet.plan g.M.ModuleSet.change c.args.self.now.gate c.args.turn.now c.args.pass.now c.requires.draft.turn c.start-started.new.self c.args.draft.now (failed_in c.start-started.result) c.requires.draft.draft c.start-started.ensures.entry).0)
 
 pub returns-clause-goes : goal.returns-clause-goes
 returns-clause-goes g c =
@@ -48,7 +51,7 @@ returns-clause-held g c = held_started c.args.draft.now c.start-started.new.draf
 
 pub returns-clause-draft : goal.returns-clause-draft
 returns-clause-draft g c =
-    draft_started (view c.args.pass.now) (view c.add.new.pass) c.add.ensures.noted.0 c.args.draft.now c.start-started.new.draft (failed_in c.start-started.result) _ c.add.ensures.noted.1.core_is c.requires.draft
+    draft_started (view c.args.pass.now) (view c.add.new.pass) c.add.ensures.noted.0 c.args.draft.now c.start-started.new.draft (failed_in c.start-started.result) _ c.add.ensures.noted.1.core_is c.requires.draft.draft
     (said (λ d r. view c.add.new.pass ≡ noted (view c.args.pass.now) c.add.ensures.noted.0 (started_entry (held d) (failed_in r))) c.of-was.result.value c.args.draft.now c.of-said.result.value c.start-started.result (sym c.of-was.ensures) (sym c.of-said.ensures) c.add.ensures.noted.2)
     c.start-started.ensures.left c.start-started.ensures.loaded (err_is c.start-started.result)
 
@@ -57,13 +60,19 @@ returns-clause-calm g c =
     let v = view c.args.pass.now in
     let t = c.add.ensures.noted in
     said (λ d r. IsHistory (t.0 ++ signed v.number (started_entry (held d) (failed_in r)) ∷ []) → StaysCalm v (view c.add.new.pass)) c.of-was.result.value c.args.draft.now c.of-said.result.value c.start-started.result (sym c.of-was.ensures) (sym c.of-said.ensures)
-    (λ now. stays_calm v (view c.add.new.pass) t.0 (started_entry (held c.of-was.result.value) (failed_in c.of-said.result.value)) t.1 now refl c.requires.left t.2)
+    (λ now. stays_calm v (view c.add.new.pass) t.0 (started_entry (held c.of-was.result.value) (failed_in c.of-said.result.value)) t.1 now refl c.requires.draft.left t.2)
     (said (λ d r. IsHistory (t.0 ++ signed v.number (started_entry (held d) (failed_in r)) ∷ [])) c.of-was.result.value c.args.draft.now c.of-said.result.value c.start-started.result (sym c.of-was.ensures) (sym c.of-said.ensures) t.3)
 
 pub returns-clause-step : goal.returns-clause-step
 returns-clause-step g c =
     let new = c.start-started.new.draft in
-    let has = draft_started (view c.args.pass.now) (view c.add.new.pass) c.add.ensures.noted.0 c.args.draft.now c.start-started.new.draft (failed_in c.start-started.result) _ c.add.ensures.noted.1.core_is c.requires.draft
+    let has = draft_started (view c.args.pass.now) (view c.add.new.pass) c.add.ensures.noted.0 c.args.draft.now c.start-started.new.draft (failed_in c.start-started.result) _ c.add.ensures.noted.1.core_is c.requires.draft.draft
     (said (λ d r. view c.add.new.pass ≡ noted (view c.args.pass.now) c.add.ensures.noted.0 (started_entry (held d) (failed_in r))) c.of-was.result.value c.args.draft.now c.of-said.result.value c.start-started.result (sym c.of-was.ensures) (sym c.of-said.ensures) c.add.ensures.noted.2)
     c.start-started.ensures.left c.start-started.ensures.loaded (err_is c.start-started.result) in
     if_ok (λ step. step ≡ step_at new.left.started new.left.apps) (λ step. step ≡ step_at new.left.started (length (held new).plan.apps)) c.start-started.result (λ step is. is ∙ ap (step_at new.left.started) has.apps) c.start-started.ensures.step
+
+pub add-requires-clause-turn : goal.add-requires-clause-turn
+add-requires-clause-turn g c = c.requires.draft.turn.turn
+
+pub add-requires-clause-knows : goal.add-requires-clause-knows
+add-requires-clause-knows g c = c.requires.draft.turn.knows
