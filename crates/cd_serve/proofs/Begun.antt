@@ -16,9 +16,14 @@ use Rattle.cd_legal.specs.Placed.{Placed, met}
 use Rattle.cd_legal.specs.Owing.{Owes}
 use Rattle.cd_legal.specs.Signing.{IsHistory}
 use Rattle.cd_legal.proofs.Logs.{mine-append}
+use Rattle.cd_gate.specs.declared.pass.Pass.{Pass}
 use Rattle.cd_gate.specs.declared.view.View.{View}
 use Rattle.cd_gate.specs.Growing.{Places}
+use Rattle.cd_gate.specs.Passes.{view}
 use Rattle.cd_gate.proofs.Grown.{places_both}
+use Rattle.cd_life.specs.declared.board.Board.{Board}
+use Rattle.cd_life.specs.Shares.{conf_in}
+use Rattle.cd_hall.specs.declared.hall.Hall.{Hall}
 use Rattle.cd_hall.specs.declared.hall.Ticket.{Ticket}
 use Rattle.cd_hall.specs.Tickets.{IsTicketOf, BeganWith, HasBegun}
 use Rattle.cd_hall.specs.Turned.{Turned}
@@ -29,7 +34,7 @@ use Rattle.cd_serve.specs.Meanings.{Meaning, Sent, after_sending}
 use Rattle.cd_serve.specs.Retirements.{due, IsRetirement}
 use Rattle.cd_serve.specs.Episodes.{Outcome, Episode, IsAgain}
 use Rattle.cd_serve.specs.Replies.{AllAgain}
-use Rattle.cd_serve.specs.Requests.{outcome_of, OwesNothing, OwesTicket, IsBegun, EndsIn, Acted, ActedQuietly, Concluded, RepliedWith, RequestServed, DecidesAgain, ServedOnce, Repeats}
+use Rattle.cd_serve.specs.Requests.{outcome_of, OwesNothing, OwesTicket, IsBegun, EndsIn, Acted, ActedQuietly, MayAct, HasActed, Concluded, RepliedWith, RequestServed, DecidesAgain, ServedOnce, Repeats}
 use Rattle.cd_serve.proofs.Acts.{made-since, quiet-lacking}
 use Rattle.cd_serve.proofs.Told.{nothing-sent}
 use Rattle.cd_serve.proofs.Works.{works-none}
@@ -42,6 +47,15 @@ acted-quietly m at q conf serial h v old new is a = record {
   places = (works-none v is).places;
   past = a.past;
   is = a.is v.number v.seen;
+}
+
+-- under a ticket, where the pass is as it was
+pub acted-in-place : {A F B : Type 0} {g : _} (m : Meaning) (hall : Hall A F B g) (t : Ticket A B g) (at : Address) (q : Request) (h : How) (p : Pass (Board A F B g)) (connected : Bool) (old new : Option Past)
+    → MayAct hall p t connected → ActedQuietly m at q (conf_in t.share) t.serial h old new → HasActed m hall t at q (Some h) p p old new
+acted-in-place m hall t at q h p connected old new may a = record {
+  pass = may.pass;
+  owes = may.owes;
+  acted = acted-quietly m at q (conf_in t.share) t.serial h (view p) old new may.ticket.history a;
 }
 
 module _ {T : Type 0} (serial : ℕ) (v w x z : View T) (begin : Placed) where

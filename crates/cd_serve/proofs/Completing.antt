@@ -1,5 +1,5 @@
 -- A connection that was not interrupted has all its answers.
-use Rattle.std.proofs.Common.{◌≡◌, ◌∙◌, ℕ, ◌++◌, Bool, true, false, List, [], ◌∷◌, inl, inr, refl, ap, sym, subst}
+use Rattle.std.proofs.Common.{◌≡◌, ◌⊎◌, ◌∙◌, ℕ, ◌++◌, Bool, true, false, List, [], ◌∷◌, inl, inr, refl, ap, sym, subst}
 use Rattle.std.proofs.lemmas.List.{append-nil, map-append}
 use Rattle.cd_outside.specs.declared.address.Address.{Address}
 use Rattle.cd_outside.specs.declared.past.Connection.{Connection}
@@ -14,7 +14,7 @@ use Rattle.cd_serve.specs.Episodes.{Outcome, Ends, conf_met}
 use Rattle.cd_serve.specs.Replies.{Reply, IsReply, AreReplies, requests, all_sent}
 use Rattle.cd_serve.specs.Connections.{Way, Ending, AllGoOn, LastIs, IsTail, HasFurther, IsWorn, EndsBy, Serves}
 use Rattle.cd_serve.specs.Lanes.{is_interrupted}
-use Rattle.cd_serve.specs.Complete.{IsAnsweredBy, AreAnsweredBy, answer_bytes, Follows, IsComplete}
+use Rattle.cd_serve.specs.Complete.{IsAnsweredBy, AreAnsweredBy, answer_bytes, Follows, HasAll, LastCloses, NobodyAnswers, FindsWorn, IsComplete}
 use Rattle.cd_serve.proofs.Connecting.{sent-more}
 use Rattle.cd_serve.proofs.Told.{nothing-then}
 
@@ -79,46 +79,33 @@ module _ (m : Meaning) (k : ℕ) (history : List Signed) (before : List Placed) 
         why = inr (inr (inl (l.last.request, s.rest, subst (λ (qs : List Request). Splits c.taken qs s.rest) asked s.splits, (f.1.episode.begin, n.0), refl)));
       }
 
+  -- why there is no further answer, where each reply is one
+  abbrev Why : Type 0
+  Why = HasAll m k history own c s.replies s.fixed ⊎ (LastCloses m k history own c s.replies s.fixed ⊎ (NobodyAnswers m k history own c s.replies s.fixed ⊎ FindsWorn m k history own c s.replies s.fixed))
+
+  complete-as : All m k c.address s.replies → Why → IsComplete m k history own c
+  complete-as a why = record {
+    answered = s.replies;
+    answers = a.answers;
+    are = a.are;
+    fixed = s.fixed;
+    put = put-is a.answers a.put;
+    keeps = keeps-are;
+    why = why;
+  }
+
   -- all its requests were answered, and then comes this tail
   there : (tail : Tail) → AllGoOn s.replies → IsTail s.rest c.ended tail → Follows tail s.fixed → IsComplete m k history own c
-  there tail on is fixed =
-      let a = all m k c.address s.replies s.each on in
-      record {
-        answered = s.replies;
-        answers = a.answers;
-        are = a.are;
-        fixed = s.fixed;
-        put = put-is a.answers a.put;
-        keeps = keeps-are;
-        why = inl (tail, record { rest = s.rest; splits = s.splits; no_more = is.0; tail_is = is.1 }, fixed);
-      }
+  there tail on is fixed = complete-as (all m k c.address s.replies s.each on) (inl (tail, record { rest = s.rest; splits = s.splits; no_more = is.0; tail_is = is.1 }, fixed))
 
   closes : LastIs (Outcome.answered true) s.replies → s.fixed ≡ [] → IsComplete m k history own c
   closes l fixed =
       let a : All m k c.address s.replies =
       subst (λ (rs : List Reply). All m k c.address rs) (sym l.are) (all-and m k c.address l.before l.last (subst (λ (rs : List Reply). AreReplies m k c.address rs) l.are s.each) l.go_on l.is) in
-      record {
-        answered = s.replies;
-        answers = a.answers;
-        are = a.are;
-        fixed = s.fixed;
-        put = put-is a.answers a.put;
-        keeps = keeps-are;
-        why = inr (inl (s.rest, s.splits, l, fixed));
-      }
+      complete-as a (inr (inl (s.rest, s.splits, l, fixed)))
 
   worn : AllGoOn s.replies → HasFurther m k c.address s.rest s.again → IsWorn k history own → s.fixed ≡ refusal_bytes 503 → IsComplete m k history own c
-  worn on further is fixed =
-      let a = all m k c.address s.replies s.each on in
-      record {
-        answered = s.replies;
-        answers = a.answers;
-        are = a.are;
-        fixed = s.fixed;
-        put = put-is a.answers a.put;
-        keeps = keeps-are;
-        why = inr (inr (inr (s.rest, s.again, s.splits, further, is, fixed)));
-      }
+  worn on further is fixed = complete-as (all m k c.address s.replies s.each on) (inr (inr (inr (s.rest, s.again, s.splits, further, is, fixed))))
 
   by : (way : Way) → EndsBy m k history own c.address c.ended s.replies s.rest s.again s.fixed way → is_interrupted way ≡ false → IsComplete m k history own c
   by Way.clean ends whole = there Tail.clean ends.0 ends.1 ends.3

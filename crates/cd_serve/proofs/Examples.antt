@@ -34,8 +34,6 @@ use Rattle.cd_serve.specs.Retirements.{Retirement, due}
 use Rattle.cd_serve.specs.Changes.{no_room, IsPublished, IsUndone, IsKept, IsHalting}
 use Rattle.cd_serve.specs.Episodes.{Episode, Kind, Outcome, Answers, IsAgain, Ends, conf_met, makes_change, is_halt, another_halted}
 use Rattle.cd_serve.specs.Replies.{is_whole}
-use Rattle.cd_serve.specs.Connections.{Way, Interruption}
-use Rattle.cd_serve.specs.Lanes.{is_interrupted, is_faulted, finds_halt}
 
 -- ---- words and answers
 
@@ -56,15 +54,6 @@ of_statuses = (refl, refl, refl, refl)
 
 of_outcomes : (is_whole (Outcome.answered true) ≡ true) × (is_whole (Outcome.answered false) ≡ true) × (is_whole Outcome.unlogged ≡ true) × (is_whole Outcome.broken ≡ false) × (is_whole Outcome.lacking ≡ false) × (is_whole Outcome.dropped ≡ false) × (is_whole Outcome.halted ≡ false)
 of_outcomes = (refl, refl, refl, refl, refl, refl, refl)
-
-of_ways : (is_interrupted (Way.interrupted Interruption.reading) ≡ true) × (is_interrupted (Way.interrupted Interruption.wearing) ≡ true) × (is_interrupted Way.clean ≡ false) × (is_interrupted Way.dropped ≡ false) × (is_interrupted Way.worn ≡ false)
-    × (is_interrupted Way.halted ≡ false) × (finds_halt Way.halted ≡ true) × (finds_halt Way.dropped ≡ false)
-of_ways = (refl, refl, refl, refl, refl, refl, refl, refl)
-
--- a fault alone cuts an answer short, or one of its lines; bytes that can't be read may lack memory
-of_faults : (is_faulted (Way.interrupted Interruption.answering) ≡ true) × (is_faulted (Way.interrupted Interruption.logging) ≡ true) × (is_faulted (Way.interrupted Interruption.wearing) ≡ true)
-    × (is_faulted (Way.interrupted Interruption.lacking) ≡ false) × (is_faulted (Way.interrupted Interruption.reading) ≡ false) × (is_faulted (Way.interrupted Interruption.beginning) ≡ false) × (is_faulted Way.closed ≡ false)
-of_faults = (refl, refl, refl, refl, refl, refl, refl)
 
 of_changes : (makes_change Kind.changed ≡ true) × (makes_change Kind.halting ≡ true) × (makes_change Kind.served ≡ false) × (makes_change Kind.unopened ≡ false) × (makes_change Kind.kept ≡ false) × (makes_change Kind.spent ≡ false)
 of_changes = (refl, refl, refl, refl, refl, refl)

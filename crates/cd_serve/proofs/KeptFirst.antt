@@ -1,12 +1,11 @@
 -- What is acknowledged had been kept first.
-use Rattle.std.proofs.Common.{◌≡◌, ◌⊎◌, ◌<◌, ◌∙◌, ◌++◌, ◌+◌, ℕ, zero, suc, Bool, true, false, List, Option, Some, None, [], ◌∷◌, length, inl, inr, refl, ap, sym, subst, arith}
+use Rattle.std.proofs.Common.{◌≡◌, ◌⊎◌, ◌<◌, ◌∙◌, ◌++◌, ◌+◌, ℕ, zero, suc, Bool, true, false, List, Some, None, [], ◌∷◌, length, inl, inr, refl, ap, sym, subst, arith}
 use Rattle.std.specs.Prelude.{if◌then◌else◌, Contains}
 use Rattle.std.proofs.lemmas.List.{length-append, length-map, map-append, get_or-map}
 use Rattle.std.proofs.lemmas.List.Elements.{Contains-append_left, Contains-append_right, Contains-push}
 use Rattle.cd_outside.specs.declared.address.Address.{Address}
 use Rattle.cd_outside.specs.declared.past.KeepRecord.{KeepRecord}
 use Rattle.cd_outside.specs.declared.past.Logged.{Logged}
-use Rattle.cd_outside.specs.declared.past.Past.{Past}
 use Rattle.cd_tree.specs.declared.tree.Tree.{Tree}
 use Rattle.cd_tree.specs.Tree.{text}
 use Rattle.cd_wire.specs.declared.answer.Answer.{Answer}
@@ -20,16 +19,13 @@ use Rattle.cd_legal.specs.Serials.{publishings}
 use Rattle.cd_legal.specs.State.{Conf, draft_of}
 use Rattle.cd_admin.specs.Admin.{persists}
 use Rattle.cd_admin.specs.Deciding.{replace, decided}
-use Rattle.cd_serve.specs.declared.how.How.{How}
-use Rattle.cd_serve.specs.declared.how.How.TheVariants as how
 use Rattle.cd_serve.specs.Meanings.{Meaning, Sent, BreaksOff, Decides, kept_after, keeps_of}
 use Rattle.cd_serve.specs.Retirements.{Retirement, IsRetirement, due}
 use Rattle.cd_serve.specs.Changes.{IsGivenUp, IsHalting}
 use Rattle.cd_serve.specs.Episodes.{Episode, Kind, Outcome, Answers, Ends, Replaces}
 use Rattle.cd_serve.specs.Replies.{Reply, IsReply, AreReplies, all_sent}
-use Rattle.cd_serve.specs.Requests.{IsSent, IsToKeep, keeps_as, text_to_keep}
+use Rattle.cd_serve.specs.Requests.{keeps_as, text_to_keep}
 use Rattle.cd_serve.specs.Keeping.{HasPublished, AreKeptFirst}
-use Rattle.cd_serve.proofs.Sends.{sent-untold}
 use Rattle.cd_serve.proofs.Unpublished.{none-both, made-none, started-none, stopped-none, cleaned-none, until-none, undone-none, for-none}
 
 -- ---- what is kept
@@ -39,15 +35,8 @@ keeps-by serial tree true = refl
 keeps-by serial tree false = refl
 
 -- by the text of a tree is kept what is to be kept of it
-keeps-same : (serial : ℕ) (tree : Tree) → keeps_as serial (text_to_keep tree) ≡ keeps_of serial tree
+pub keeps-same : (serial : ℕ) (tree : Tree) → keeps_as serial (text_to_keep tree) ≡ keeps_of serial tree
 keeps-same serial tree = keeps-by serial tree (persists tree)
-
--- with what was written out to be kept is sent what is to be sent
-pub sent-kept : (serial : ℕ) (tree : Tree) (bytes : Option (List ℕ)) (h : How) (q : Request) (r : Answer) (old new : Option Past) → IsToKeep old tree bytes → ¬ (h ≡ how.NoMemory) → IsSent h q r [] (keeps_as serial bytes) old new
-    → IsSent h q r [] (keeps_of serial tree) old new
-sent-kept serial tree bytes h q r old new (inl is) made s = subst (λ (keeps : List KeepRecord). IsSent h q r [] keeps old new) (ap (keeps_as serial) is ∙ keeps-same serial tree) s
-sent-kept serial tree bytes h q r old new (inr none) made s =
-    sent-untold (keeps_of serial tree) h q r [] old new none.1 made (subst (λ (some : Option (List ℕ)). IsSent h q r [] (keeps_as serial some) old new) none.0 s)
 
 -- what is to be kept is kept
 pub one-kept : (serial : ℕ) (tree : Tree) → persists tree ≡ true → keeps_of serial tree ≡ record { put = 0; serial = serial; text = text tree } ∷ []
@@ -55,18 +44,18 @@ one-kept serial tree is = ap (λ (b : Bool). if b then record { put = 0; serial 
 
 -- ---- what publishes nothing
 
-none-parts : (xs : List Placed) (p : Placed) (ys : List Placed) → publishings (placed_entries xs) ≡ 0 → publishings (p.entry ∷ []) ≡ 0 → publishings (placed_entries ys) ≡ 0 → publishings (placed_entries (xs ++ p ∷ ys)) ≡ 0
+pub none-parts : (xs : List Placed) (p : Placed) (ys : List Placed) → publishings (placed_entries xs) ≡ 0 → publishings (p.entry ∷ []) ≡ 0 → publishings (placed_entries ys) ≡ 0 → publishings (placed_entries (xs ++ p ∷ ys)) ≡ 0
 none-parts xs p ys a b c =
     ap publishings (map-append (λ (x : Placed). x.entry) xs (p ∷ ys))
     ∙ none-both (placed_entries xs) (placed_entries (p ∷ ys)) a (none-both (p.entry ∷ []) (placed_entries ys) b c)
 
-block-none : (s : State) (which : Retirement) (block : List Placed) → IsRetirement s which block → publishings (placed_entries block) ≡ 0
+pub block-none : (s : State) (which : Retirement) (block : List Placed) → IsRetirement s which block → publishings (placed_entries block) ≡ 0
 block-none s Retirement.none block is = ap (λ (b : List Placed). publishings (placed_entries b)) is
 block-none s (Retirement.here n) block is = ap publishings is ∙ for-none (λ d. cleaned_all d (made_in s d)) (λ d. cleaned-none d (made_in s d)) (draft_of n s.published)
 block-none s (Retirement.here_or_elsewhere n) block (inl is) = ap (λ (b : List Placed). publishings (placed_entries b)) is
 block-none s (Retirement.here_or_elsewhere n) block (inr is) = ap publishings is ∙ for-none (λ d. cleaned_all d (made_in s d)) (λ d. cleaned-none d (made_in s d)) (draft_of n s.published)
 
-given_up-none : (m : Meaning) (tree : Tree) (work : List Placed) → IsGivenUp m tree work → publishings (placed_entries work) ≡ 0
+pub given_up-none : (m : Meaning) (tree : Tree) (work : List Placed) → IsGivenUp m tree work → publishings (placed_entries work) ≡ 0
 given_up-none m tree work g =
     ap (λ (w : List Placed). publishings (placed_entries w)) g.whole
     ∙ none-parts g.opening g.abandon g.ending

@@ -25,3 +25,4 @@ pub mod Begun
 pub mod Acts
 pub mod Stepping
 pub mod LaneStepping
+pub mod LetGo

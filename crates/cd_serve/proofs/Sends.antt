@@ -124,11 +124,6 @@ sent-after keeps h q r all old then new kept made s = record {
   is = sends-after keeps h q r all s.what made s.is;
 }
 
--- where nothing is told, it may be said to be kept
-pub sent-untold : (keeps : List KeepRecord) (h : How) (q : Request) (r : Answer) (all : List Logged) (old new : Option Past) → old ≡ None → ¬ (h ≡ how.NoMemory) → IsSent h q r all [] old new → IsSent h q r all keeps old new
-sent-untold keeps h q r all old new none made s =
-    sent-after keeps h q r all old old new (none ∙ ap (λ (told : Option Past). option_map (with_connection (after_sending (only_keeps keeps))) told) (sym none)) made s
-
 -- what was to be kept could not be
 pub sent-unkept : (keeps : List KeepRecord) (q : Request) (r : Answer) (all : List Logged) (old new : Option Past) → 0 < length keeps → new ≡ old → IsSent how.Failed q r all keeps old new
 sent-unkept keeps q r all old new some same = record { what = nothing_sent; past = same ∙ nothing-sent old; is = inl ([], none-of keeps some, refl) }

@@ -32,18 +32,15 @@ use Rattle.cd_serve.specs.Replies.{Reply, is_whole}
 use Rattle.cd_serve.specs.Connections.{Interruption, Way, LastIs, IsTail, HasFurther, IsWorn, EndsBy}
 use Rattle.cd_serve.specs.Lanes.{finds_halt}
 use Rattle.cd_serve.specs.Serving.{Replied, NotBegun, ConnectionSoFar, CausedBy}
-use Rattle.cd_serve.specs.Stepping.{HasPlaced, GoesOn, IsEnded, Steps}
+use Rattle.cd_serve.specs.Stepping.{HasPlaced, GoesOn, IsEnded, EndsConnection, Steps}
 use Rattle.cd_serve.proofs.Connecting.{connection-starts, connection-takes, connection-ended, connection-replies, connection-ends, connection-ends-quietly, go-on-more}
 
 -- the last of all is the last of the last
-through_last : (k : ℕ) (own : List Placed) (q : Placed) (more : List Placed) → through k (own ++ q ∷ more) ≡ through k (q ∷ more)
-through_last k [] q more = refl
-through_last k (p ∷ []) q more = refl
-through_last k (p ∷ r ∷ own) q more = through_last k (r ∷ own) q more
-
 through_both : (k : ℕ) (own more : List Placed) (front whole : List Signed) → IsPrefix (through k own) front → IsPrefix front whole → IsPrefix (through k more) whole → IsPrefix (through k (own ++ more)) whole
-through_both k own [] front whole one goes two = subst (λ (l : List Placed). IsPrefix (through k l) whole) (sym (append-nil own)) (prefix_trans (through k own) front whole one goes)
-through_both k own (q ∷ more) front whole one goes two = subst (λ (l : List Signed). IsPrefix l whole) (sym (through_last k own q more)) two
+through_both k [] more front whole one goes two = two
+through_both k (p ∷ []) [] front whole one goes two = prefix_trans (through k (p ∷ [])) front whole one goes
+through_both k (p ∷ []) (q ∷ more) front whole one goes two = two
+through_both k (p ∷ r ∷ own) more front whole one goes two = through_both k (r ∷ own) more front whole one goes two
 
 all_signed-both : (k : ℕ) (es fs : List Entry) → all_signed k (es ++ fs) ≡ all_signed k es ++ all_signed k fs
 all_signed-both k [] fs = refl
@@ -51,6 +48,11 @@ all_signed-both k (e ∷ es) fs = ap (λ (l : List Signed). signed k e ∷ l) (a
 
 prefix_same : (xs : List Signed) → IsPrefix xs xs
 prefix_same xs = ([], append-nil xs)
+
+-- its end leaves what is told of it, and how often the lane has failed
+pub ended-so : {T : Type 0} (m : Meaning) (at : Address) (e : ConnectionEnd) (v w : View T) (first old now : Option Past) (before failed later : ℕ) → now ≡ old → later ≡ failed → EndsConnection m at e v w first old before failed → EndsConnection m at e v w first now before later
+ended-so m at e v w first old now before failed later told same ends =
+    subst (λ (p : Option Past). EndsConnection m at e v w first p before later) (sym told) (subst (λ (n : ℕ). EndsConnection m at e v w first old before n) (sym same) ends)
 
 module _ {T : Type 0} where
   pub placed-none : (v : View T) → HasPlaced v v []

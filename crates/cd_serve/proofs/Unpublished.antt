@@ -1,5 +1,5 @@
 -- What opens and ends drafts publishes nothing.
-use Rattle.std.proofs.Common.{◌≡◌, ℕ, zero, suc, ◌+◌, List, [], ◌∷◌, ◌++◌, length, take, Option, Some, None, refl, arith}
+use Rattle.std.proofs.Common.{◌≡◌, ◌∙◌, ℕ, zero, suc, ◌+◌, List, [], ◌∷◌, ◌++◌, length, take, Option, Some, None, refl, ap}
 use Rattle.cd_outside.specs.declared.key.Key.{Key}
 use Rattle.cd_legal.specs.declared.plan.Plan.{Plan}
 use Rattle.cd_legal.specs.declared.plan.PlanModule.{PlanModule}
@@ -9,20 +9,24 @@ use Rattle.cd_legal.specs.declared.entry.Entry.TheVariants as entry
 use Rattle.cd_legal.specs.Runs.{Failure, made_from, started_from, opened_until, stopped_all, cleaned_all, undone_after, entries_for}
 use Rattle.cd_legal.specs.Serials.{publishings}
 
+-- more that publishes nothing leaves the count
+pub more-none : (xs ys : List Entry) → publishings ys ≡ 0 → publishings (xs ++ ys) ≡ publishings xs
+more-none [] ys none = none
+more-none (entry.Publish d n from change ∷ xs) ys none = ap (λ (n : ℕ). suc n) (more-none xs ys none)
+more-none (entry.Draft d tree plan ∷ xs) ys none = more-none xs ys none
+more-none (entry.Made d i taken failed ∷ xs) ys none = more-none xs ys none
+more-none (entry.Started d a taken failed ∷ xs) ys none = more-none xs ys none
+more-none (entry.Stopped d a ∷ xs) ys none = more-none xs ys none
+more-none (entry.Cleaned d i ∷ xs) ys none = more-none xs ys none
+more-none (entry.Abandon d ∷ xs) ys none = more-none xs ys none
+more-none (entry.Begin k n ∷ xs) ys none = more-none xs ys none
+more-none (entry.Finish k ∷ xs) ys none = more-none xs ys none
+more-none (entry.Retire n ∷ xs) ys none = more-none xs ys none
+more-none (entry.Halt n ∷ xs) ys none = more-none xs ys none
+
 -- two lists that publish nothing
 pub none-both : (xs ys : List Entry) → publishings xs ≡ 0 → publishings ys ≡ 0 → publishings (xs ++ ys) ≡ 0
-none-both [] ys one two = two
-none-both (entry.Publish d n from change ∷ xs) ys one two = absurd (omega (arith, one))
-none-both (entry.Draft d tree plan ∷ xs) ys one two = none-both xs ys one two
-none-both (entry.Made d i taken failed ∷ xs) ys one two = none-both xs ys one two
-none-both (entry.Started d a taken failed ∷ xs) ys one two = none-both xs ys one two
-none-both (entry.Stopped d a ∷ xs) ys one two = none-both xs ys one two
-none-both (entry.Cleaned d i ∷ xs) ys one two = none-both xs ys one two
-none-both (entry.Abandon d ∷ xs) ys one two = none-both xs ys one two
-none-both (entry.Begin k n ∷ xs) ys one two = none-both xs ys one two
-none-both (entry.Finish k ∷ xs) ys one two = none-both xs ys one two
-none-both (entry.Retire n ∷ xs) ys one two = none-both xs ys one two
-none-both (entry.Halt n ∷ xs) ys one two = none-both xs ys one two
+none-both xs ys one two = more-none xs ys two ∙ one
 
 -- ---- what opens and ends publishes nothing
 

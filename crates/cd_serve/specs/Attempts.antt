@@ -13,11 +13,17 @@ use Rattle.cd_legal.specs.State.{Conf}
 use Rattle.cd_legal.specs.Legal.{state_at}
 use Rattle.cd_legal.specs.Placed.{Placed, placed_entries}
 use Rattle.cd_legal.specs.Runs.{Failure, opened, opened_until, all_made, all_started, started_from, ended_all, stopped_of}
+use Rattle.cd_gate.specs.declared.pass.Pass.{Pass}
 use Rattle.cd_gate.specs.declared.view.View.{View}
 use Rattle.cd_gate.specs.Growing.{Places}
+use Rattle.cd_gate.specs.Passes.{view}
 use Rattle.cd_desk.specs.declared.drafts.DraftFault.{DraftFault}
 use Rattle.cd_desk.specs.declared.drafts.DraftFault.TheVariants as undrafted
-use Rattle.cd_hall.specs.Drafts.{Held}
+use Rattle.cd_life.specs.declared.board.Board.{Board}
+use Rattle.cd_life.specs.declared.board.Draft.{Draft as HeldDraft}
+use Rattle.cd_hall.specs.declared.hall.Hall.{Hall}
+use Rattle.cd_hall.specs.Calls.{IsPassOf}
+use Rattle.cd_hall.specs.Drafts.{Held, IsDraftOf, held}
 use Rattle.cd_hall.specs.Publishing.{Refusal, refusal}
 use Rattle.cd_hall.specs.Spread.{Spread}
 use Rattle.cd_hall.specs.Turned.{Turned}
@@ -52,6 +58,12 @@ pub record IsNewDraft (h : Held) : Type 0 where
   pub made : h.made ≡ 0
   pub started : h.started ≡ 0
   pub unfailed : h.failed ≡ false
+
+-- more of the draft may be made and started: it is the one of this pass of the hall, and no key failed
+pub record MayOpen {A F B : Type 0} {g : _} (h : Hall A F B g) (p : Pass (Board A F B g)) (d : HeldDraft A B g) : Type 0 where
+  pub pass : IsPassOf h p
+  pub draft : IsDraftOf (view p) d
+  pub unfailed : (held d).failed ≡ false
 
 -- a draft that was opened up to a key that could not be
 abbrev pub failed_held : Held → Failure → Held

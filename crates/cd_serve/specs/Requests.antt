@@ -1,5 +1,5 @@
 -- What serving one request does, call by call.
-use Rattle.std.specs.Prelude.{◌≡◌, ◌⊎◌, ◌++◌, ◌∷◌, ℕ, Bool, true, false, List, [], Option, Some, None, option_map, ◌≤◌, ◌<◌, if◌then◌else◌, length, ◌+◌, IfSome}
+use Rattle.std.specs.Prelude.{◌≡◌, ◌++◌, ◌∷◌, ℕ, Bool, true, false, List, [], Option, Some, None, option_map, ◌≤◌, ◌<◌, if◌then◌else◌, length, ◌+◌, IfSome}
 use mathlib.Core.List.{IsPrefix}
 use Rattle.cd_text.specs.Steps.{joined}
 use Rattle.cd_outside.specs.declared.address.Address.{Address}
@@ -17,10 +17,11 @@ use Rattle.cd_wire.specs.declared.answer.Answer.{Answer}
 use Rattle.cd_wire.specs.declared.request.Request.{Request}
 use Rattle.cd_legal.specs.declared.entry.Entry.TheVariants.{Begin, Finish}
 use Rattle.cd_legal.specs.declared.entry.Signed.{Signed}
-use Rattle.cd_legal.specs.Entry.{signed, mine}
+use Rattle.cd_legal.specs.Entry.{signed, mine, entries}
 use Rattle.cd_legal.specs.State.{Conf}
 use Rattle.cd_legal.specs.Legal.{IsLegal}
 use Rattle.cd_legal.specs.Placed.{Placed, met}
+use Rattle.cd_legal.specs.Serials.{publishings}
 use Rattle.cd_legal.specs.Signing.{IsHistory}
 use Rattle.cd_gate.specs.declared.pass.Pass.{Pass}
 use Rattle.cd_gate.specs.declared.view.View.{View}
@@ -28,8 +29,10 @@ use Rattle.cd_gate.specs.Growing.{Places}
 use Rattle.cd_gate.specs.Passes.{view}
 use Rattle.cd_life.specs.declared.board.Board.{Board}
 use Rattle.cd_life.specs.Shares.{conf_in}
+use Rattle.cd_hall.specs.declared.cache.Cache.{Cache}
 use Rattle.cd_hall.specs.declared.hall.Hall.{Hall}
 use Rattle.cd_hall.specs.declared.hall.Ticket.{Ticket}
+use Rattle.cd_hall.specs.Caches.{IsCacheOf}
 use Rattle.cd_hall.specs.Calls.{IsPassOf}
 use Rattle.cd_hall.specs.Tickets.{IsTicketOf, BeganWith}
 pub use Rattle.cd_session.specs.Keeping.{KeepsConnection}
@@ -75,6 +78,10 @@ OwesNothing v = (v.ticket ≡ None) × (v.draft ≡ None) × (v.duties ≡ [])
 abbrev pub OwesTicket : {T : Type 0} → View T → ℕ → Type 0
 OwesTicket v serial = (v.ticket ≡ Some serial) × (v.draft ≡ None) × (v.duties ≡ [])
 
+-- between two moments with these views a pass has published nothing
+abbrev pub PublishedNothing : {T : Type 0} → View T → View T → Type 0
+PublishedNothing v w = publishings (entries w.mine) ≡ publishings (entries v.mine)
+
 -- ---- sending
 
 -- what was sent of an answer with these lines, before which these configurations are kept
@@ -109,20 +116,16 @@ pub record IsLogged (whole : Bool) (all : List Logged) (old new : Option Past) :
 abbrev pub text_to_keep : Tree → Option (List ℕ)
 text_to_keep tree = if persists tree then Some (text tree) else None
 
--- a lane that has told this is to keep the configuration by this text, where there is one; one that tells nothing may be spared it
-abbrev pub IsToKeep : Option Past → Tree → Option (List ℕ) → Type 0
-IsToKeep told tree bytes = (bytes ≡ text_to_keep tree) ⊎ ((bytes ≡ None) × (told ≡ None))
-
 -- what is kept by this text as a serial, before anything is put
 abbrev pub keeps_as : ℕ → Option (List ℕ) → List KeepRecord
 keeps_as serial None = []
 keeps_as serial (Some bytes) = record { put = 0; serial = serial; text = bytes } ∷ []
 
--- what acknowledges the change to this tree on a lane that has told this, by this answer to a request under a serial, was written out
-pub record IsReady (a : Acknowledgement) (serial : ℕ) (tree : Tree) (told : Option Past) (q : Request) (r : Answer) : Type 0 where
+-- what acknowledges the change to this tree, by this answer to a request under a serial, was written out
+pub record IsReady (a : Acknowledgement) (serial : ℕ) (tree : Tree) (q : Request) (r : Answer) : Type 0 where
   pub bytes : a.bytes ≡ sent q r
   pub serial_is : a.serial ≡ serial + 1
-  pub text_is : IsToKeep told tree a.text
+  pub text_is : a.text ≡ text_to_keep tree
   pub short : IfSome a.text (λ bytes. length bytes ≤ MAX_KEPT_BYTES)
 
 -- configurations that were kept, and nothing else
@@ -179,10 +182,12 @@ pub record ActedQuietly (m : Meaning) (at : Address) (q : Request) (conf : Conf)
   pub past : new ≡ option_map (with_connection (after_sending what)) old
   pub is : (k : ℕ) (seen : List Signed) → ActsBetween m k at q conf serial seen (Some h) [] what
 
--- a further request may be served: the pass of the hall owes nothing, and the connection is there
-pub record MayServe {A F B : Type 0} {g : _} (h : Hall A F B g) (p : Pass (Board A F B g)) (connected : Bool) : Type 0 where
+-- a further request may be served: the pass of the hall owes nothing, the cache has a configuration that is there, if any, and the
+-- connection is there
+pub record MayServe {A F B : Type 0} {g : _} (h : Hall A F B g) (p : Pass (Board A F B g)) (c : Cache A B g) (connected : Bool) : Type 0 where
   pub pass : IsPassOf h p
   pub free : OwesNothing (view p)
+  pub cache : IsCacheOf (view p) c
   pub busy : connected ≡ true
 
 -- a request may be acted on: the pass of the hall has its ticket, under which it has begun, and owes nothing else; and its connection

@@ -13,7 +13,7 @@ ghost use Rattle.cd_hall.specs.Calls.{IsPassOf};
 ghost use Rattle.cd_hall.specs.Tickets.{IsTicketOf, HasBegun};
 ghost use Rattle.cd_serve.specs.declared.how.How.TheVariants as how;
 ghost use Rattle.cd_serve.specs.Meanings.{Meaning};
-ghost use Rattle.cd_serve.specs.Requests.{OwesNothing, OwesTicket, RequestServed, is_fault};
+ghost use Rattle.cd_serve.specs.Requests.{OwesNothing, OwesTicket, PublishedNothing, RequestServed, is_fault};
 
 use crate::concluding::retire_due;
 use crate::how::How;
@@ -53,6 +53,7 @@ pub(crate) fn begin<R: Wait, M: ModuleSet, F: Fixtures>(
     ensures worn { IfErr result (λ h. h ≡ how.Worn → MAX_BEGINS ≤ begins_now (entries (view pass.new).seen)) }
     ensures running { IfErr result (λ h. ¬ (h ≡ how.Halted)) }
     ensures fault { IfErr result (λ h. is_fault h ≡ false) }
+    ensures nothing { IfErr result (λ h. PublishedNothing (view pass.old) (view pass.new)) }
 {
     the_beginning_of_a_request_is_one_entry::<Board<M, F>>();
     match hall.begin_now(pass, cache) {

@@ -1,10 +1,10 @@
 //! A configuration that was published is kept before that is acknowledged.
-ghost use Rattle.std.specs.Prelude.{◌≡◌, ◌≤◌, ◌+◌, [], IfOk, IfSome, length, true};
+ghost use Rattle.std.specs.Prelude.{◌≡◌, ◌≤◌, [], IfOk, IfSome, length, true};
 ghost use Rattle.cd_outside.specs.declared.given.Given.TheVariants as given;
 ghost use Rattle.cd_outside.specs.declared.limits.TheConstants.{MAX_KEPT_BYTES};
 ghost use Rattle.cd_serve.specs.declared.how.How.TheVariants as how;
 ghost use Rattle.cd_serve.specs.Meanings.{sent};
-ghost use Rattle.cd_serve.specs.Requests.{IsReady, IsToKeep, Keeps, IsSent, KeepsConnection, is_fault, keeps_as, text_to_keep};
+ghost use Rattle.cd_serve.specs.Requests.{IsReady, Keeps, IsSent, KeepsConnection, is_fault, keeps_as, text_to_keep};
 
 use crate::how::How;
 use crate::replying::send;
@@ -26,24 +26,23 @@ pub(crate) struct Acknowledgement {
     pub bytes: Octets,
     /// The serial that its configuration gets.
     pub serial: u32,
-    /// The text by which that is kept. None where it is not to be kept, or the lane keeps none.
+    /// The text by which that is kept. None where it is not to be kept.
     pub text: Option<Text>,
 }
 
-/// Writes out what acknowledges the change to this configuration on the lane, by this answer to the request of the ticket. Serials
-/// end far below 2^32 - 1, so there is a next one.
-pub(crate) fn write_out<M: Administered, L: Lane>(
+/// Writes out what acknowledges the change to this configuration, by this answer to the request of the ticket. Serials end far
+/// below 2^32 - 1, so there is a next one.
+pub(crate) fn write_out<M: Administered>(
     alloc: Global,
-    lane: &L,
     ticket: &Ticket<M>,
     loaded: &Loaded<M>,
     request: &Request,
     answer: &Answer<'_>,
 ) -> Result<Acknowledgement, NoMemory>
-    ensures { IfOk result (λ made. IsReady made ticket.now.serial loaded.now.tree (L.past lane.now) request.now answer.now) }
+    ensures { IfOk result (λ made. IsReady made ticket.now.serial loaded.now.tree request.now answer.now) }
 {
     let bytes = sent(alloc, request, answer)?;
-    let text = text_for(alloc, lane, loaded)?;
+    let text = text_to_keep(alloc, loaded)?;
     match ticket.serial().checked_add(1) {
         Some(serial) => Ok(Acknowledgement {
             bytes,
@@ -52,21 +51,6 @@ pub(crate) fn write_out<M: Administered, L: Lane>(
         }),
         None => Err(NoMemory),
     }
-}
-
-// The text by which the lane is to keep a configuration. None where it is not to be kept, or the lane keeps none.
-fn text_for<M: Administered, L: Lane>(
-    alloc: Global,
-    lane: &L,
-    loaded: &Loaded<M>,
-) -> Result<Option<Text>, NoMemory>
-    ensures text { IfOk result (λ made. IsToKeep (L.past lane.now) loaded.now.tree made) }
-    ensures short { IfOk result (λ made. IfSome made (λ text. length text ≤ MAX_KEPT_BYTES)) }
-{
-    if !lane.keeps() {
-        return Ok(None);
-    }
-    text_to_keep(alloc, loaded)
 }
 
 // The text by which a configuration is kept. None where it is not to be kept.

@@ -16,7 +16,7 @@ ghost use Rattle.cd_session.specs.declared.lane_end.LaneHow.TheVariants as how;
 ghost use Rattle.cd_serve.specs.Requests.{OwesNothing};
 ghost use Rattle.cd_serve.specs.Stepping.{LaneServed, LaneGoesOn, LastCame};
 
-use crate::connection::serve_connection;
+use crate::means::Means;
 use cd_admin::Administered;
 use cd_gate::Pass;
 use cd_hall::{Cache, Hall};
@@ -27,7 +27,7 @@ use std::alloc::Global;
 use std::sync::Wait;
 
 /// Serves the connections of the lane until no more comes, until it fails to accept, or until the host has halted. The pass owes
-/// nothing, before and after. The configuration of each request is kept for the next one.
+/// nothing, before and after. The configuration of a request is kept for the next one, unless the request has superseded it.
 pub fn serve_lane<R: Wait, M: Administered, F: Fixtures, L: Lane>(
     rt: &R,
     alloc: Global,
@@ -97,7 +97,13 @@ fn serve_accepted<R: Wait, M: Administered, F: Fixtures, L: Lane>(
     ensures later { L.faults lane.old ≤ L.faults lane.new }
     ensures halted { result ≡ true → (state_at (view pass.new).seen).halted ≡ true }
 {
-    let end = serve_connection(rt, alloc, hall, pass, cache, lane, at);
+    let means = Means {
+        rt,
+        alloc,
+        hall,
+        at,
+    };
+    let end = means.serve_connection(pass, cache, lane);
     counts.add(&end);
     end.halted
 }

@@ -13,15 +13,15 @@
 //! into them. That no request is answered under an older configuration than its pass has seen is a law of `cd_legal`.
 //! answering.rt has the answers to changes that are not made, and to the halt, and sending.rt what is sent for an answer.
 //!
-//! Files: lane.rt serves the connections of a lane, connection.rt one connection (what it keeps in mind is a `Session` of
-//! `cd_session`, and session.rt goes on after a request), and request.rt one request. beginning.rt begins it: without waiting,
-//! where the lane has the configuration from its last request. acting.rt does what the configuration of the request says:
-//! responding.rt has the answer of an app, and changing.rt makes a change that the admin API decides on, by attempting.rt,
-//! opening.rt and halting.rt over the hall (specs/Attempts.antt). keeping.rt keeps a configuration that was published, before
-//! that is acknowledged, where the lane keeps any. replying.rt sends an answer and logs its lines, and concluding.rt ends the
-//! request. Each of these says what it made in the history by `Places` of `cd_gate`, with specs/Requests.antt for a request and
-//! specs/Stepping.antt for a connection and a lane. Only a call of the lane waits, and one of the hall that makes a change,
-//! fetches a configuration or retires one.
+//! Files: lane.rt serves the connections of a lane, connection.rt one connection, with its `Means` (what it keeps in mind is a
+//! `Session` of `cd_session`, and session.rt goes on after a request), and request.rt one request, which is a `Task`. beginning.rt
+//! begins it: without waiting, where the lane has the configuration from its last request. acting.rt does what the configuration of
+//! the request says: responding.rt has the answer of an app, and changing.rt makes a change that the admin API decides on, by
+//! attempting.rt, opening.rt and halting.rt over the hall (specs/Attempts.antt). keeping.rt keeps a configuration that was
+//! published, before that is acknowledged. replying.rt sends an answer and logs its lines, and concluding.rt ends the request. Each
+//! of these says what it made in the history by `Places` of `cd_gate`, with specs/Requests.antt for a request and
+//! specs/Stepping.antt for a connection and a lane. Only a call of the lane waits, and one of the hall that makes a change, fetches
+//! a configuration or retires one.
 #![tactic(auto)]
 
 mod acting;
@@ -37,12 +37,14 @@ mod how;
 mod keeping;
 mod lane;
 mod laws;
+mod means;
 mod opening;
 mod replying;
 mod request;
 mod responding;
 mod sending;
 mod session;
+mod task;
 
 pub use answering::{halted_answer, key_words};
 pub use attempting::{Attempt, attempt_change};

@@ -1,12 +1,12 @@
 //! A draft is opened: its instances are made, and its apps are started.
-ghost use Rattle.std.specs.Prelude.{◌≡◌, ◌<◌, ◌∷◌, [], List, is_err, length, false};
+ghost use Rattle.std.specs.Prelude.{◌≡◌, ◌<◌, ◌∷◌, [], List, is_err, length};
 ghost use Rattle.cd_legal.specs.declared.entry.Entry.{Entry};
 ghost use Rattle.cd_legal.specs.Signing.{IsHistory};
 ghost use Rattle.cd_gate.specs.Passes.{view};
 ghost use Rattle.cd_desk.specs.Instances.{failed_in};
 ghost use Rattle.cd_hall.specs.Calls.{IsPassOf};
 ghost use Rattle.cd_hall.specs.Drafts.{IsDraftOf, held, one_made, one_started, made_entry, started_entry};
-ghost use Rattle.cd_serve.specs.Attempts.{HasMade, IsNewDraft, MakesAll, StartsAll, Opens};
+ghost use Rattle.cd_serve.specs.Attempts.{HasMade, IsNewDraft, MayOpen, MakesAll, StartsAll, Opens};
 
 use cd_gate::Pass;
 use cd_hall::{Hall, KeyFailed};
@@ -46,11 +46,8 @@ fn make_all<R: Wait, M: ModuleSet, F: Fixtures>(
     draft: &mut Draft<M>,
     pass: &mut Pass<Board<M, F>>,
 ) -> Result<(), Key>
-    requires pass { IsPassOf hall.now pass.old }
-    requires history { IsHistory (view pass.old).seen }
-    requires draft { IsDraftOf (view pass.old) draft.old }
     requires none { (held draft.old).made ≡ 0 }
-    requires unfailed { (held draft.old).failed ≡ false }
+    requires may { MayOpen hall.now pass.old draft.old }
     ensures pass { IsPassOf hall.now pass.new }
     ensures draft { IsDraftOf (view pass.new) draft.new }
     ensures makes { (entries : List Entry) × HasMade (view pass.old) (view pass.new) entries × MakesAll (held draft.old) (held draft.new) entries (failed_in result) }
@@ -69,12 +66,9 @@ fn start_all<R: Wait, M: ModuleSet, F: Fixtures>(
     draft: &mut Draft<M>,
     pass: &mut Pass<Board<M, F>>,
 ) -> Result<(), Key>
-    requires pass { IsPassOf hall.now pass.old }
-    requires history { IsHistory (view pass.old).seen }
-    requires draft { IsDraftOf (view pass.old) draft.old }
     requires made { (held draft.old).made ≡ length (held draft.old).plan.modules }
     requires none { (held draft.old).started ≡ 0 }
-    requires unfailed { (held draft.old).failed ≡ false }
+    requires may { MayOpen hall.now pass.old draft.old }
     ensures pass { IsPassOf hall.now pass.new }
     ensures draft { IsDraftOf (view pass.new) draft.new }
     ensures starts { (entries : List Entry) × HasMade (view pass.old) (view pass.new) entries × StartsAll (held draft.old) (held draft.new) entries (failed_in result) }
@@ -94,10 +88,8 @@ fn make_next<R: Wait, M: ModuleSet, F: Fixtures>(
     draft: &mut Draft<M>,
     pass: &mut Pass<Board<M, F>>,
 ) -> Result<(), Key>
-    requires pass { IsPassOf hall.now pass.old }
-    requires draft { IsDraftOf (view pass.old) draft.old }
     requires more { (held draft.old).made < length (held draft.old).plan.modules }
-    requires unfailed { (held draft.old).failed ≡ false }
+    requires may { MayOpen hall.now pass.old draft.old }
     ensures pass { IsPassOf hall.now pass.new }
     ensures draft { IsDraftOf (view pass.new) draft.new }
     ensures made { HasMade (view pass.old) (view pass.new) (made_entry (held draft.old) (failed_in result) ∷ []) }
@@ -115,11 +107,9 @@ fn start_next<R: Wait, M: ModuleSet, F: Fixtures>(
     draft: &mut Draft<M>,
     pass: &mut Pass<Board<M, F>>,
 ) -> Result<(), Key>
-    requires pass { IsPassOf hall.now pass.old }
-    requires draft { IsDraftOf (view pass.old) draft.old }
     requires ready { (held draft.old).made ≡ length (held draft.old).plan.modules }
     requires more { (held draft.old).started < length (held draft.old).plan.apps }
-    requires unfailed { (held draft.old).failed ≡ false }
+    requires may { MayOpen hall.now pass.old draft.old }
     ensures pass { IsPassOf hall.now pass.new }
     ensures draft { IsDraftOf (view pass.new) draft.new }
     ensures started { HasMade (view pass.old) (view pass.new) (started_entry (held draft.old) (failed_in result) ∷ []) }

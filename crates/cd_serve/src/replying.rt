@@ -1,8 +1,5 @@
 //! An answer is sent on the connection of a lane, and its lines are logged.
-ghost use Rattle.std.specs.Prelude.{◌≡◌, true, false, map, [], List, ℕ, option_map};
-ghost use Rattle.cd_outside.specs.declared.given.Given.TheVariants as given;
-ghost use Rattle.cd_outside.specs.Given.{IsGivenOf};
-ghost use Rattle.cd_outside.specs.Past.{after_put};
+ghost use Rattle.std.specs.Prelude.{◌≡◌, true, false, map, []};
 ghost use Rattle.cd_serve.specs.declared.how.How.TheVariants as how;
 ghost use Rattle.cd_serve.specs.Meanings.{logged, sent};
 ghost use Rattle.cd_serve.specs.Requests.{is_fault, IsLogged, IsSent, KeepsConnection};
@@ -15,25 +12,24 @@ use cd_session::put;
 use cd_wire::{Answer, Request};
 use std::alloc::Global;
 
-/// Sends an answer to the request, and logs these lines.
+/// Sends an answer to the request, of which nothing is logged.
 pub(crate) fn reply_with<L: Lane>(
     alloc: Global,
     lane: &mut L,
     request: &Request,
     answer: &Answer<'_>,
-    lines: &[Line],
 ) -> How
     requires { L.busy lane.old ≡ true }
-    ensures sent { IsSent result request.now answer.now (map logged lines.now) [] (L.past lane.old) (L.past lane.new) }
+    ensures sent { IsSent result request.now answer.now [] [] (L.past lane.old) (L.past lane.new) }
     ensures lane { KeepsConnection (is_fault result ≡ true) (L.busy lane.new) (L.faults lane.old) (L.faults lane.new) }
 {
     let Ok(bytes) = sent(alloc, request, answer) else {
         return How::NoMemory;
     };
-    send(lane, request, answer, bytes.as_slice(), lines)
+    send(lane, request, answer, bytes.as_slice(), &[])
 }
 
-/// The same. The answer is written in place of what the vector holds.
+/// Sends an answer to the request, and logs these lines. The answer is written in place of what the vector holds.
 pub(crate) fn reply_by<L: Lane>(
     alloc: Global,
     lane: &mut L,

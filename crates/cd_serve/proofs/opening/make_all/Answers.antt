@@ -6,10 +6,10 @@ use Rattle.cd_serve.proofs.opening.make_all.Goals as goal
 
 pub making-init : goal.making-init
 making-init g c = record {
-  pass = c.requires.pass;
-  draft = c.requires.draft;
-  so_far = makes-none (view c.args.pass.now) (held c.args.draft.now) c.requires.history c.requires.none;
-  unfailed = c.requires.unfailed;
+  pass = c.requires.may.pass;
+  draft = c.requires.may.draft;
+  so_far = makes-none (view c.args.pass.now) (held c.args.draft.now) c.requires.may.pass.history c.requires.none;
+  unfailed = c.requires.may.unfailed;
 }
 
 pub making-preserved : goal.making-preserved

@@ -6,11 +6,11 @@ use Rattle.cd_serve.proofs.opening.start_all.Goals as goal
 
 pub starting-init : goal.starting-init
 starting-init g c = record {
-  pass = c.requires.pass;
-  draft = c.requires.draft;
-  so_far = starts-none (view c.args.pass.now) (held c.args.draft.now) c.requires.history c.requires.none;
+  pass = c.requires.may.pass;
+  draft = c.requires.may.draft;
+  so_far = starts-none (view c.args.pass.now) (held c.args.draft.now) c.requires.may.pass.history c.requires.none;
   made = c.requires.made;
-  unfailed = c.requires.unfailed;
+  unfailed = c.requires.may.unfailed;
 }
 
 pub starting-preserved : goal.starting-preserved

@@ -1,4 +1,4 @@
-use Rattle.std.proofs.Common.{◌∙◌, sym, rules}
+use Rattle.std.proofs.Common.{◌∙◌, inl, sym, rules}
 use mathlib.Core.List.{IsPrefix}
 use Rattle.cd_legal.proofs.Logs.{prefix_trans}
 use Rattle.cd_gate.specs.Passes.{view}
@@ -6,7 +6,8 @@ use Rattle.cd_hall.proofs.Requested.{ticket_stays}
 use Rattle.cd_life.specs.Shares.{conf_in}
 use Rattle.cd_serve.proofs.Acts.{begun-halted, halt-stays}
 use Rattle.cd_serve.proofs.Begun.{begun-by, served-once, not-worn}
-use Rattle.cd_serve.proofs.request.serve_once.Goals as goal
+use Rattle.cd_serve.proofs.LetGo.{let-go, nothing-begun, nothing-concluded}
+use Rattle.cd_serve.proofs.task.Task.serve_once.Goals as goal
 
 pub act-how-requires-clause-may : goal.act-how-requires-clause-may
 act-how-requires-clause-may g c κs within =
@@ -29,7 +30,7 @@ pub returns-clause-served : goal.returns-clause-served
 returns-clause-served g c =
     let b = c.in-Ok.ensures.begun in
     let t = c.in-Ok.ticket in
-    served-once (record { acts = g.M.ModuleSet.acts; plan = g.M.ModuleSet.plan }) c.args.at.now c.args.request.now (conf_in t.share) t.serial c.act-how.result (view c.args.pass.now) (view c.begin.new.pass) (view c.act-how.new.pass) (view c.conclude.new.pass) b.0
+    served-once (record { acts = g.M.ModuleSet.acts; plan = g.M.ModuleSet.plan }) c.args.self.now.means.now.at.now c.args.self.now.request.now (conf_in t.share) t.serial c.act-how.result (view c.args.pass.now) (view c.begin.new.pass) (view c.act-how.new.pass) (view c.conclude.new.pass) b.0
     (g.L.Lane.past c.args.lane.now) (g.L.Lane.past c.act-how.new.lane) b.1.places b.1.begins b.1.with_ticket c.act-how.ensures.acted.acted c.conclude.ensures.concluded
 
 pub returns-clause-halted : goal.returns-clause-halted
@@ -47,5 +48,17 @@ pub returns-clause-worn : goal.returns-clause-worn
 returns-clause-worn g c is =
     let b = c.in-Ok.ensures.begun in
     let t = c.in-Ok.ticket in
-    absurd (not-worn (record { acts = g.M.ModuleSet.acts; plan = g.M.ModuleSet.plan }) c.args.at.now c.args.request.now (conf_in t.share) t.serial c.act-how.result (view c.begin.new.pass) (view c.act-how.new.pass) (view c.conclude.new.pass) b.0
+    absurd (not-worn (record { acts = g.M.ModuleSet.acts; plan = g.M.ModuleSet.plan }) c.args.self.now.means.now.at.now c.args.self.now.request.now (conf_in t.share) t.serial c.act-how.result (view c.begin.new.pass) (view c.act-how.new.pass) (view c.conclude.new.pass) b.0
     (g.L.Lane.past c.args.lane.now) (g.L.Lane.past c.act-how.new.lane) b.1.with_ticket c.act-how.ensures.acted.acted c.conclude.ensures.concluded is)
+
+pub returns-in-Err-clause-let_go : goal.returns-in-Err-clause-let_go
+returns-in-Err-clause-let_go g c = inl c.in-Err.ensures.nothing
+
+pub returns-clause-let_go : goal.returns-clause-let_go
+returns-clause-let_go g c =
+    let v = view c.args.pass.now in
+    let w = view c.begin.new.pass in
+    let x = view c.act-how.new.pass in
+    let z = view c.conclude.new.pass in
+    let b = c.in-Ok.ensures.begun in
+    let-go v w x z c.act-how.new.superseded _ (nothing-begun v w c.in-Ok.ticket b.0 b.1) c.act-how.ensures.noted (nothing-concluded x z c.conclude.ensures.concluded) c.conclude.ensures.let_go

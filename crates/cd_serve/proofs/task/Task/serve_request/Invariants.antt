@@ -1,0 +1,12 @@
+use Rattle.std.proofs.Common.{◌≤◌}
+use Rattle.cd_gate.specs.Passes.{view}
+use Rattle.cd_serve.specs.Requests.{MayServe, Repeats}
+use Rattle.cd_serve.proofs.task.Task.serve_request.Given as goal
+
+abbrev pub invariant-loop : goal.invariant-loop
+invariant-loop g l = record {
+  turns : (goal.iterator-loop g).can_next l.iterator' × (goal.iterator-loop g).is_finite l.iterator';
+  may : MayServe l.self.means.now.hall.now l.pass l.cache (g.L.Lane.busy l.lane);
+  later : g.L.Lane.faults l.initial.lane ≤ g.L.Lane.faults l.lane;
+  repeats : Repeats (record { acts = g.M.ModuleSet.acts; plan = g.M.ModuleSet.plan }) l.self.means.now.at.now l.self.request.now (view l.initial.pass) (view l.pass) (g.L.Lane.past l.initial.lane) (g.L.Lane.past l.lane);
+}
