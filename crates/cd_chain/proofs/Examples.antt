@@ -11,7 +11,7 @@ use Rattle.cd_handlers.specs.declared.outcome.Effect.TheVariants as does
 use Rattle.cd_routes.specs.declared.outcome.Outcome.{Outcome}
 use Rattle.cd_routes.specs.declared.outcome.Outcome.TheVariants.{Answered, Failed}
 use Rattle.cd_routes.specs.Named.{named_routes}
-use Rattle.cd_routes.specs.Running.{Middleware, Rest, after, nothing_left}
+use Rattle.cd_routes.specs.Running.{Middleware, Rest, after, nothing_left, run_route}
 use Rattle.cd_chain.specs.declared.place.Place.{Place}
 use Rattle.cd_chain.specs.declared.place.Place.TheVariants as place
 use Rattle.cd_chain.specs.Chains.{Stands}
@@ -26,7 +26,7 @@ no_indexes places = λ k index there. cc
 -- a chain without places stands for a server without routes
 no_places : Stands (record { places = []; indexes = []; routes = 0; errors = None; sound = no_indexes [] }) [] None []
 no_places = record {
-  main = ap (λ (f : Middleware). f nothing_left) (laid_end place_does ended []) ∙ none_left (named_routes []) [] nothing_left refl;
+  main = ap (λ (f : Middleware). f nothing_left) (laid_end place_does ended []) ∙ none_left (run_route (named_routes [])) [] nothing_left refl;
   errors = refl;
 }
 
@@ -57,4 +57,4 @@ end_answers x = refl
 -- a server without routes answers each request, so its chain has no `error`
 no_error : (settings : StaticError) (x : Scene) (failure : Failure) → failure_filled settings x ≡ Ok failure → Stands (record { places = alone settings; indexes = []; routes = 1; errors = None; sound = no_indexes (alone settings) }) [] None [] → ⊥
 no_error settings x failure filled stands =
-    true≢false (sym (error_fails settings x failure filled) ∙ ap (λ (f : Rest). has_failed (f x)) (stands.main ∙ sym (none_left (named_routes []) [] nothing_left refl)) ∙ end_answers x)
+    true≢false (sym (error_fails settings x failure filled) ∙ ap (λ (f : Rest). has_failed (f x)) (stands.main ∙ sym (none_left (run_route (named_routes [])) [] nothing_left refl)) ∙ end_answers x)

@@ -14,11 +14,11 @@ use Rattle.cd_routes.specs.Running.{Rest, Middleware, run_route}
 use Rattle.cd_routes.specs.Invoking.{Names, HasNoCycle, leads_of, route_names}
 use Rattle.cd_routes.specs.Named.{named_does, named_routes, passes}
 use Rattle.cd_routes.proofs.NamedMeaning.{agree_by_places, place_is, run_depends, size}
+use Rattle.cd_chain.specs.declared.index.Index.{Index}
 use Rattle.cd_chain.specs.declared.place.Place.{Place}
 use Rattle.cd_chain.specs.declared.place.Place.TheVariants as place
-use Rattle.cd_chain.specs.Growing.{Grows}
 use Rattle.cd_chain.specs.Places.{at, ended, place_does}
-use Rattle.cd_chain.specs.Laying.{entered, entered_by, named_at, route_left, AreLaid, Lays, LaidAs, LaysOne}
+use Rattle.cd_chain.specs.Laying.{entered, entered_by, named_at, route_left, AreLaid, Laid, Lays, LaidAs, LaysOne}
 use Rattle.cd_chain.proofs.Laid.{laid_new}
 use Rattle.cd_chain.proofs.Standing.{all_named}
 
@@ -192,9 +192,9 @@ all_lie named places entries order slots i none is end lays n = elim (small_or_b
 pub lays_nothing : (names : Names) (places : List Place) (slots left : List (Option Route)) (entries : List ℕ) (n : ℕ) → get_or slots n None ≡ None → left ≡ slice_set slots n None → LaysOne names places places slots left entries entries n
 lays_nothing names places slots left entries n none is = (is, subst (LaidAs names places places entries entries n) (sym none) (refl, refl))
 
-pub lays_route : (names : Names) (old new : List Place) (slots left : List (Option Route)) (entries after : List ℕ) (n begin : ℕ) (r : Route) → get_or slots n None ≡ Some r → left ≡ slice_set slots n None → after ≡ slice_set entries n begin →
-    begin ≤ length new → Grows old new → ((back : Rest) → at new begin back ≡ run_route (entered_by old entries names) r (at old 1 back)) → LaysOne names old new slots left entries after n
-lays_route names old new slots left entries after n begin r some is put within grows laid = (is, subst (LaidAs names old new entries after n) (sym some) (begin, put, within, grows, laid))
+pub lays_route : (names : Names) (old new : List Place) (indexes : List Index) (slots left : List (Option Route)) (entries after : List ℕ) (n begin : ℕ) (r : Route) → get_or slots n None ≡ Some r → left ≡ slice_set slots n None → after ≡ slice_set entries n begin →
+    Laid (run_route (entered_by old entries names) r) old new indexes 1 begin → LaysOne names old new slots left entries after n
+lays_route names old new indexes slots left entries after n begin r some is put laid = (is, subst (LaidAs names old new entries after n) (sym some) (begin, put, laid.within, laid.grows, laid.meaning))
 
 -- ---- before the first
 

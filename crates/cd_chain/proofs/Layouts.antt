@@ -15,12 +15,14 @@ use Rattle.cd_routes.specs.Running.{Rest, Middleware, Named, nothing_left, in_or
 use Rattle.cd_routes.specs.Work.{total, errors_weight, route_weight, step_weight}
 use Rattle.cd_routes.proofs.Equations.{run_route_is, run_subroute_is}
 use Rattle.cd_chain.specs.declared.index.Entry.{Entry}
+use Rattle.cd_chain.specs.declared.index.Index.{Index}
 use Rattle.cd_chain.specs.declared.place.Place.{Place}
 use Rattle.cd_chain.specs.declared.place.Place.TheVariants as place
 use Rattle.cd_chain.specs.Growing.{Grows}
+use Rattle.cd_chain.specs.Indexes.{AreSound}
 use Rattle.cd_chain.specs.Places.{or_failed, ended, route_does, place_does, meanings, at}
 use Rattle.cd_chain.specs.Steps.{counts, no_steps, place_steps, steps_at}
-use Rattle.cd_chain.specs.Laying.{entered_by, AreLaid}
+use Rattle.cd_chain.specs.Laying.{entered_by, AreLaid, Laid, MayLay}
 use Rattle.cd_chain.proofs.Laid.{laid_new, laid_kept, laid_end}
 
 -- ---- weights
@@ -153,33 +155,65 @@ unfolding in_order
 in_order_push f [] y rest = refl
 in_order_push f (x ∷ xs) y rest = ap (f x) (in_order_push f xs y rest)
 
-pub routes_popped : (e : Named) (left new : List Route) (r : Route) (rest : Rest) → left ≡ new ++ r ∷ [] → run_routes e left rest ≡ run_routes e new (run_route e r rest)
-routes_popped e left new r rest is = ap (λ rs. run_routes e rs rest) is ∙ in_order_push (run_route e) new r rest
-
-pub steps_popped : (e : Named) (left new : List Step) (s : Step) (rest : Rest) → left ≡ new ++ s ∷ [] → run_steps e left rest ≡ run_steps e new (run_step e s rest)
-steps_popped e left new s rest is = ap (λ ss. run_steps e ss rest) is ∙ in_order_push (run_step e) new s rest
+last_first : {A : Type 0} (f : A → Middleware) (left others : List A) (last : A) (rest : Rest) → left ≡ others ++ last ∷ [] → in_order (map f left) rest ≡ in_order (map f others) (f last rest)
+last_first f left others last rest is = ap (λ xs. in_order (map f xs) rest) is ∙ in_order_push f others last rest
 
 total_push : {A : Type 0} (f : A → ℕ) (xs : List A) (y : A) → total (map f (xs ++ y ∷ [])) ≡ f y + total (map f xs)
 total_push f [] y = omega arith
 total_push f (x ∷ xs) y = omega (arith, total_push f xs y)
 
-pub routes_lighter : (left new : List Route) (r : Route) → left ≡ new ++ r ∷ [] → total (map route_size left) ≡ route_size r + total (map route_size new)
-routes_lighter left new r is = ap (λ rs. total (map route_size rs)) is ∙ total_push route_size new r
+lighter : {A : Type 0} (f : A → ℕ) (left others : List A) (last : A) → left ≡ others ++ last ∷ [] → total (map f left) ≡ f last + total (map f others)
+lighter f left others last is = ap (λ xs. total (map f xs)) is ∙ total_push f others last
 
-pub steps_lighter : (left new : List Step) (s : Step) → left ≡ new ++ s ∷ [] → total (map step_size left) ≡ step_size s + total (map step_size new)
-steps_lighter left new s is = ap (λ ss. total (map step_size ss)) is ∙ total_push step_size new s
-
-pub none_left : (e : Named) (left : List Route) (rest : Rest) → left ≡ [] → rest ≡ run_routes e left rest
+pub none_left : {A : Type 0} (f : A → Middleware) (left : List A) (rest : Rest) → left ≡ [] → rest ≡ in_order (map f left) rest
 unfolding in_order
-none_left e left rest is = sym (ap (λ rs. run_routes e rs rest) is)
-
-pub no_steps_left : (e : Named) (left : List Step) (rest : Rest) → left ≡ [] → rest ≡ run_steps e left rest
-unfolding in_order
-no_steps_left e left rest is = sym (ap (λ ss. run_steps e ss rest) is)
+none_left f left rest is = sym (ap (λ xs. in_order (map f xs) rest) is)
 
 pub errors_weigh : (errors : Option (List Route)) (given : List Route) → errors ≡ Some given → total (map route_size given) ≤ errors_weight (option_map (map route_size) errors)
 errors_weigh errors given is = rw is (omega arith)
 
-pub some_total : (ns : List ℕ) → 1 ≤ total ns
+some_total : (ns : List ℕ) → 1 ≤ total ns
 some_total [] = omega arith
 some_total (n ∷ ns) = omega (arith, some_total ns)
+
+-- the elements of a list are laid out but for those that are left: before them is done what all do
+pub record LaidBut {A : Type 0} (does : A → Middleware) (size : A → ℕ) (old new : List Place) (indexes : List Index) (all left : List A) (rest begin : ℕ) : Type 0 where
+  pub meaning : (back : Rest) → in_order (map does left) (at new begin back) ≡ in_order (map does all) (at old rest back)
+  pub within : begin ≤ length new
+  pub grows : Grows old new
+  pub sound : AreSound new indexes
+  pub less : total (map size left) ≤ total (map size all)
+
+pub none_yet : {A : Type 0} (does : A → Middleware) (size : A → ℕ) (places : List Place) (indexes : List Index) (all : List A) (rest : ℕ) → rest ≤ length places → AreSound places indexes → LaidBut does size places places indexes all all rest rest
+none_yet does size places indexes all rest within sound = record { meaning = λ back. refl; within = within; grows = grows_same places; sound = sound; less = omega arith }
+
+pub may_next : {A : Type 0} (does : A → Middleware) (size : A → ℕ) (old new : List Place) (before after : List Index) (entries : List ℕ) (all left : List A) (rest begin : ℕ) → MayLay old before entries rest → LaidBut does size old new after all left rest begin → MayLay new after entries begin
+may_next does size old new before after entries all left rest begin may laid = record { rest = laid.within; entries = still_laid old new entries may.entries laid.grows; sound = laid.sound }
+
+pub next_small : {A : Type 0} (does : A → Middleware) (size : A → ℕ) (old new : List Place) (indexes : List Index) (all left others : List A) (last : A) (rest begin : ℕ) → LaidBut does size old new indexes all left rest begin → left ≡ others ++ last ∷ [] → 1 + size last ≤ total (map size all)
+next_small does size old new indexes all left others last rest begin laid is = omega (arith, lighter size left others last is, some_total (map size others), laid.less)
+
+pub next_laid : {A : Type 0} (does : Named → A → Middleware) (size : A → ℕ) (old mid new : List Place) (before between after : List Index) (entries : List ℕ) (names : Names) (all left others : List A) (last : A) (rest begin n : ℕ) →
+    MayLay old before entries rest → LaidBut (does (entered_by old entries names)) size old mid between all left rest begin → left ≡ others ++ last ∷ [] →
+    Laid (does (entered_by mid entries names) last) mid new after begin n → LaidBut (does (entered_by old entries names)) size old new after all others rest n
+next_laid does size old mid new before between after entries names all left others last rest begin n may laid is made =
+    let e : Named = entered_by old entries names in
+    let same : entered_by mid entries names ≡ e = entered_kept old mid entries names may.entries laid.grows in
+    record {
+      meaning = λ back. ap (in_order (map (does e) others)) (made.meaning back ∙ ap (λ (g : Named). does g last (at mid begin back)) same)
+          ∙ sym (last_first (does e) left others last (at mid begin back) is)
+          ∙ laid.meaning back;
+      within = made.within;
+      grows = grows_on old mid new laid.grows made.grows;
+      sound = made.sound;
+      less = omega (arith, lighter size left others last is, laid.less);
+    }
+
+pub all_laid : {A : Type 0} (does : A → Middleware) (size : A → ℕ) (old new : List Place) (before after : List Index) (all left : List A) (rest begin : ℕ) → LaidBut does size old new before all left rest begin → left ≡ [] → AreSound new after →
+    Laid (in_order (map does all)) old new after rest begin
+all_laid does size old new before after all left rest begin laid none sound = record {
+  meaning = λ back. none_left does left (at new begin back) none ∙ laid.meaning back;
+  within = laid.within;
+  grows = laid.grows;
+  sound = sound;
+}

@@ -1,4 +1,5 @@
--- Named routes by their places: which of them the places of a chain stand for, and what laying out one of them changes.
+-- What laying out asks for and gives, and named routes by their places: which of them the places of a chain stand for, and what
+-- laying out one of them changes.
 use Rattle.std.specs.Prelude.{◌≡◌, ℕ, ◌≤◌, ◌⊎◌, List, length, get_or, slice_set, Option, Some, None}
 use Rattle.std.specs.List.{slice_get}
 use Rattle.cd_leads.specs.Orders.{IsOf}
@@ -7,8 +8,10 @@ use Rattle.cd_routes.specs.Named.{by_name, named_to, passes}
 use Rattle.cd_routes.specs.Running.{Middleware, Named, Rest, run_route}
 use Rattle.cd_routes.specs.declared.named.NamedRoute.{NamedRoute}
 use Rattle.cd_routes.specs.declared.route.Route.{Route}
+use Rattle.cd_chain.specs.declared.index.Index.{Index}
 use Rattle.cd_chain.specs.declared.place.Place.{Place}
 use Rattle.cd_chain.specs.Growing.{Grows}
+use Rattle.cd_chain.specs.Indexes.{AreSound}
 use Rattle.cd_chain.specs.Places.{at}
 
 -- what is done where the named route of a number is entered; a number that is none is entered at place 1, a `Return`
@@ -22,6 +25,19 @@ entered_by places entries names = by_name names (entered places entries)
 -- all are places
 abbrev pub AreLaid : List Place → List ℕ → Type 0
 AreLaid places entries = (n : ℕ) → get_or entries n 1 ≤ length places
+
+-- a place may be laid out that leads to this one, and to the named routes by where they are entered
+pub record MayLay (places : List Place) (indexes : List Index) (named : List ℕ) (next : ℕ) : Type 0 where
+  pub rest : next ≤ length places
+  pub entries : AreLaid places named
+  pub sound : AreSound places indexes
+
+-- places were added: what is at the number does this to what is at `rest`
+pub record Laid (does : Middleware) (old new : List Place) (indexes : List Index) (rest n : ℕ) : Type 0 where
+  pub meaning : (back : Rest) → at new n back ≡ does (at old rest back)
+  pub within : n ≤ length new
+  pub grows : Grows old new
+  pub sound : AreSound new indexes
 
 -- what the named route of a number does
 abbrev pub named_at : List NamedRoute → ℕ → Middleware

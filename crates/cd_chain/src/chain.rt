@@ -3,7 +3,7 @@ ghost use Rattle.cd_routes.specs.Serving.{restored};
 ghost use Rattle.std.specs.Prelude.{◌≡◌};
 ghost use Rattle.cd_chain.specs.Indexes.{AreSound};
 
-use crate::compiling::compile_routes;
+use crate::compiling::{Compiler, Plan};
 use crate::index::Index;
 use crate::naming::{Layout, lay_all};
 use crate::place::Place;
@@ -12,7 +12,7 @@ use crate::running::{fail_into, run};
 use crate::stepping::{bare_answer, empty_answer};
 use cd_fill::Scene;
 use cd_routes::{NamedRoute, Route};
-use cd_text::{List, NoMemory, Octets, Text};
+use cd_text::{List, NoMemory, Octets};
 use cd_wire::{Answer, Request, copy_fields};
 use std::alloc::Global;
 use std::mem::replace;
@@ -43,23 +43,20 @@ impl Chain {
 
     #[tactic(auto, using(crate::proofs::Standing::errors_laid, crate::proofs::Layouts::grows_same))]
     fn compile_errors(
-        alloc: Global,
-        places: &mut Vec<Place>,
-        indexes: &mut Vec<Index>,
-        names: &[Text],
-        entries: &[usize],
+        compiler: &Compiler<'_>,
+        plan: &mut Plan,
         errors: Option<List<Route>>,
     ) -> Result<Option<usize>, NoMemory>
-        requires entries { AreLaid places.old.items entries.now }
-        requires sound { AreSound places.old.items indexes.old.items }
-        ensures stands { IfOk result (λ n. ErrorsStand places.new.items n (entered_by places.old.items entries.now names.now) errors) }
-        ensures grows { OnOk result (Grows places.old.items places.new.items) }
-        ensures sound { OnOk result (AreSound places.new.items indexes.new.items) }
+        requires entries { AreLaid plan.old.places.items compiler.now.entries.now }
+        requires sound { AreSound plan.old.places.items plan.old.indexes.items }
+        ensures stands { IfOk result (λ n. ErrorsStand plan.new.places.items n (entered_by plan.old.places.items compiler.now.entries.now compiler.now.names.now) errors) }
+        ensures grows { OnOk result (Grows plan.old.places.items plan.new.places.items) }
+        ensures sound { OnOk result (AreSound plan.new.places.items plan.new.indexes.items) }
     {
         match errors {
             None => Ok(None),
             Some(given) => {
-                let begin = compile_routes(alloc, places, indexes, names, entries, given, 0)?;
+                let begin = compiler.lay_routes(plan, given, 0)?;
                 Ok(Some(begin))
             }
         }
@@ -78,28 +75,18 @@ impl Chain {
     {
         let layout = lay_all(alloc, named)?;
         let Layout {
-            mut places,
-            mut indexes,
+            mut plan,
             names,
             entries,
         } = layout;
-        let main = compile_routes(
+        let compiler = Compiler {
             alloc,
-            &mut places,
-            &mut indexes,
-            names.as_slice(),
-            entries.as_slice(),
-            routes,
-            0,
-        )?;
-        let failing = Chain::compile_errors(
-            alloc,
-            &mut places,
-            &mut indexes,
-            names.as_slice(),
-            entries.as_slice(),
-            errors,
-        )?;
+            names: names.as_slice(),
+            entries: entries.as_slice(),
+        };
+        let main = compiler.lay_routes(&mut plan, routes, 0)?;
+        let failing = Chain::compile_errors(&compiler, &mut plan, errors)?;
+        let Plan { places, indexes } = plan;
         Ok(Chain {
             places: List::from_vec(places),
             indexes: List::from_vec(indexes),

@@ -8,8 +8,7 @@ ghost use Rattle.cd_chain.specs.declared.place.Place.TheVariants.{Return};
 ghost use Rattle.cd_chain.specs.Indexes.{AreSound};
 ghost use Rattle.cd_chain.specs.Laying.{entered, entered_by, named_at, AreLaid, Lays, LaysOne};
 
-use crate::compiling::compile_route;
-use crate::index::Index;
+use crate::compiling::{Compiler, Plan};
 use crate::place::Place;
 use cd_routes::{NamedRoute, Route, leads_of};
 use cd_text::{List, NoMemory, Text};
@@ -19,8 +18,7 @@ use std::mem::replace;
 /// The named routes of a server, laid out.
 #[derive(Drop)]
 pub(crate) struct Layout {
-    pub places: Vec<Place>,
-    pub indexes: Vec<Index>,
+    pub plan: Plan,
     /// Their names, and where each is entered.
     pub names: List<Text>,
     pub entries: Vec<usize>,
@@ -100,23 +98,27 @@ fn put_entry(entries: &mut [usize], n: usize, begin: usize)
 #[tactic(auto, using(crate::proofs::LaidOut::lays_nothing, crate::proofs::LaidOut::lays_route))]
 fn lay_one(
     alloc: Global,
-    places: &mut Vec<Place>,
-    indexes: &mut Vec<Index>,
+    plan: &mut Plan,
     names: &[Text],
     slots: &mut [Option<Route>],
     entries: &mut [usize],
     n: usize,
 ) -> Result<(), NoMemory>
-    requires rest { 1 ≤ length places.old.items }
-    requires entries { AreLaid places.old.items entries.old }
-    requires sound { AreSound places.old.items indexes.old.items }
-    ensures sound { OnOk result (AreSound places.new.items indexes.new.items) }
-    ensures laid { IfOk result (λ _. LaysOne names.now places.old.items places.new.items slots.old slots.new entries.old entries.new n) }
+    requires rest { 1 ≤ length plan.old.places.items }
+    requires entries { AreLaid plan.old.places.items entries.old }
+    requires sound { AreSound plan.old.places.items plan.old.indexes.items }
+    ensures sound { OnOk result (AreSound plan.new.places.items plan.new.indexes.items) }
+    ensures laid { IfOk result (λ _. LaysOne names.now plan.old.places.items plan.new.places.items slots.old slots.new entries.old entries.new n) }
 {
     match take_route(slots, n) {
         None => Ok(()),
         Some(route) => {
-            let begin = compile_route(alloc, places, indexes, names, entries, route, 1, None)?;
+            let compiler = Compiler {
+                alloc,
+                names,
+                entries,
+            };
+            let begin = compiler.lay_route(plan, route, 1, None)?;
             put_entry(entries, n, begin);
             Ok(())
         }
@@ -127,23 +129,22 @@ fn lay_one(
 /// entry, and returns to what follows.
 pub(crate) fn lay_named(
     alloc: Global,
-    places: &mut Vec<Place>,
-    indexes: &mut Vec<Index>,
+    plan: &mut Plan,
     names: &[Text],
     slots: &mut [Option<Route>],
     entries: &mut [usize],
     order: &[usize],
 ) -> Result<(), NoMemory>
-    requires rest { 1 ≤ length places.old.items }
-    requires entries { AreLaid places.old.items entries.old }
-    requires sound { AreSound places.old.items indexes.old.items }
+    requires rest { 1 ≤ length plan.old.places.items }
+    requires entries { AreLaid plan.old.places.items entries.old }
+    requires sound { AreSound plan.old.places.items plan.old.indexes.items }
     ensures stand { IfOk result (λ _. (named : List NamedOf) → HasNoCycle named → names.now ≡ route_names named → IsOrder (leads_of named) order.now
-        → Lays named places.old.items entries.old slots.old [] → (n : ℕ) → entered places.new.items entries.new n ≡ named_at named n) }
-    ensures laid { IfOk result (λ _. AreLaid places.new.items entries.new) }
-    ensures sound { IfOk result (λ _. AreSound places.new.items indexes.new.items) }
+        → Lays named plan.old.places.items entries.old slots.old [] → (n : ℕ) → entered plan.new.places.items entries.new n ≡ named_at named n) }
+    ensures laid { IfOk result (λ _. AreLaid plan.new.places.items entries.new) }
+    ensures sound { IfOk result (λ _. AreSound plan.new.places.items plan.new.indexes.items) }
 {
     for n in order {
-        lay_one(alloc, places, indexes, names, slots, entries, *n)?;
+        lay_one(alloc, plan, names, slots, entries, *n)?;
     }
     Ok(())
 }
@@ -152,28 +153,27 @@ pub(crate) fn lay_named(
 #[tactic(auto, using(crate::proofs::LaidOut::none_laid, crate::proofs::Standing::all_named))]
 pub(crate) fn lay_all(alloc: Global, named: List<NamedRoute>) -> Result<Layout, NoMemory>
     requires { HasNoCycle named }
-    ensures named { IfOk result (λ made. entered_by made.places.items made.entries.items made.names ≡ named_routes named) }
-    ensures laid { IfOk result (λ made. AreLaid made.places.items made.entries.items) }
-    ensures sound { IfOk result (λ made. AreSound made.places.items made.indexes.items) }
+    ensures named { IfOk result (λ made. entered_by made.plan.places.items made.entries.items made.names ≡ named_routes named) }
+    ensures laid { IfOk result (λ made. AreLaid made.plan.places.items made.entries.items) }
+    ensures sound { IfOk result (λ made. AreSound made.plan.places.items made.plan.indexes.items) }
 {
     let order = order_of(alloc, named.as_slice())?;
     let parts = parted(alloc, named)?;
     let Parts { names, mut slots } = parts;
     let mut entries = first_entries(alloc, names.len())?;
-    let mut places = first_places(alloc)?;
-    let mut indexes = Vec::new(alloc);
+    let places = first_places(alloc)?;
+    let indexes = Vec::new(alloc);
+    let mut plan = Plan { places, indexes };
     lay_named(
         alloc,
-        &mut places,
-        &mut indexes,
+        &mut plan,
         names.as_slice(),
         slots.as_mut_slice(),
         entries.as_mut_slice(),
         order.as_slice(),
     )?;
     Ok(Layout {
-        places,
-        indexes,
+        plan,
         names,
         entries,
     })

@@ -8,9 +8,9 @@ use Rattle.cd_chain.proofs.naming.lay_named.Given as goal
 
 abbrev pub invariant-loop-n : goal.invariant-loop-n
 invariant-loop-n l = record {
-  some : 1 ≤ length l.places.items;
-  laid : AreLaid l.places.items l.entries;
-  sound : AreSound l.places.items l.indexes.items;
-  lays : (named : List NamedRoute) → HasNoCycle named → l.names ≡ route_names named → IsOrder (leads_of named) l.order → Lays named l.fn.places.items l.fn.entries l.fn.slots [] →
-      Lays named l.places.items l.entries l.slots (take l.n-index l.order);
+  some : 1 ≤ length l.plan.places.items;
+  laid : AreLaid l.plan.places.items l.entries;
+  sound : AreSound l.plan.places.items l.plan.indexes.items;
+  lays : (named : List NamedRoute) → HasNoCycle named → l.names ≡ route_names named → IsOrder (leads_of named) l.order → Lays named l.fn.plan.places.items l.fn.entries l.fn.slots [] →
+      Lays named l.plan.places.items l.entries l.slots (take l.n-index l.order);
 }

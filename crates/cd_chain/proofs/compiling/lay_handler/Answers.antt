@@ -1,7 +1,7 @@
 use Rattle.std.proofs.Common.{ap, sym, ◌∙◌}
 use Rattle.std.specs.Option.{option_copied}
 use Rattle.cd_chain.proofs.Layouts.{invoke_added}
-use Rattle.cd_chain.proofs.compiling.compile_handler.Goals as goal
+use Rattle.cd_chain.proofs.compiling.lay_handler.Goals as goal
 
 pub returns-in_ok-begin-in-Some-clause-meaning : goal.returns-in_ok-begin-in-Some-clause-meaning
 returns-in_ok-begin-in-Some-clause-meaning c back =
