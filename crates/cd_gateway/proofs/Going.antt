@@ -2,6 +2,7 @@
 use Rattle.std.proofs.Common.{◌≡◌, ◌≤◌, ◌<◌, ◌∙◌, ◌++◌, ◌+◌, ◌-◌, ℕ, min, cond, List, [], ◌∷◌, Option, Some, None, option_map, refl, ap, sym, subst, arith}
 use Rattle.std.proofs.lemmas.List.{append-nil}
 use Rattle.std.proofs.lemmas.Grind.{flat_map-append}
+use Rattle.cd_outside.specs.declared.accepted.Accepted.{Accepted}
 use Rattle.cd_outside.specs.declared.accepted.Accepted.TheVariants as accepted
 use Rattle.cd_outside.specs.declared.address.Address.{Address}
 use Rattle.cd_outside.specs.declared.past.Connection.{Connection}
@@ -12,8 +13,9 @@ use Rattle.cd_outside.specs.Telling.{TellsOn}
 use Rattle.cd_session.specs.declared.connection_end.ConnectionEnd.{ConnectionEnd}
 use Rattle.cd_session.specs.declared.counting.Counts.{Counts}
 use Rattle.cd_session.specs.declared.lane_end.LaneEnd.{LaneEnd}
+use Rattle.cd_session.specs.declared.lane_end.LaneHow.{LaneHow}
 use Rattle.cd_session.specs.declared.lane_end.LaneHow.TheVariants as how
-use Rattle.cd_session.specs.Ends.{HasRisen, cut_by}
+use Rattle.cd_session.specs.Ends.{HasRisen, IsLaneEnd, cut_by}
 use Rattle.cd_session.specs.Ways.{is_interrupted, is_faulted}
 use Rattle.cd_session.proofs.Causes.{caused-failed, caused-lacking, caused-whole, covers-more, covers-same, cut-more, faults-more}
 use Rattle.cd_session.proofs.Changes.{connections_more, past_is}
@@ -78,33 +80,20 @@ module _ (upstreams : List Address) where
         cut_interrupted = omega (arith, early, cut-more end.cause (is_interrupted way) cut (interrupted_in so_far.endings) (caused-lacking end.cause way one.caused) so_far.cut_interrupted);
       }
 
-  lane-ends : (l0 l1 l2 p0 p1 answered cut : ℕ) (t0 t1 : Option (List Dialled)) (p q : Past) → Relayed upstreams (counted l0 p0) (counted l1 p1) answered cut t0 t1 p q → l1 ≤ l2
-      → Relayed upstreams (counted l0 p0) (counted l2 p1) answered cut t0 t1 p (after_accept accepted.Ended q)
-  lane-ends l0 l1 l2 p0 p1 answered cut t0 t1 p q so_far le = record {
+  -- an accept that brings no connection, and fails no more often than faults rise
+  lane-ends : (x : Accepted) (l0 l1 l2 p0 p1 answered cut : ℕ) (t0 t1 : Option (List Dialled)) (p q : Past) → Relayed upstreams (counted l0 p0) (counted l1 p1) answered cut t0 t1 p q → l1 ≤ l2
+      → (after_accept x q).connections ≡ q.connections → (l1 < count_end → l2 < count_end → (after_accept x q).accept_faults + l1 ≤ q.accept_faults + l2)
+      → Relayed upstreams (counted l0 p0) (counted l2 p1) answered cut t0 t1 p (after_accept x q)
+  lane-ends x l0 l1 l2 p0 p1 answered cut t0 t1 p q so_far le none few = record {
     connections = so_far.connections;
     endings = so_far.endings;
-    added = so_far.added;
+    added = none ∙ so_far.added;
     each = so_far.each;
     exchanges = so_far.exchanges;
     answers = so_far.answers;
     failures = so_far.failures;
-    covered = λ a b. let h : l1 < count_end = omega (arith, le) in omega (arith, so_far.covered h b, le);
-    faulted = λ a b. let h : l1 < count_end = omega (arith, le) in omega (arith, so_far.faulted h b, le);
-    cut_interrupted = so_far.cut_interrupted;
-  }
-
-  lane-fails : (l0 l1 l2 p0 p1 answered cut : ℕ) (t0 t1 : Option (List Dialled)) (p q : Past) → Relayed upstreams (counted l0 p0) (counted l1 p1) answered cut t0 t1 p q → l1 ≤ l2 → Rose l1 l2
-      → Relayed upstreams (counted l0 p0) (counted l2 p1) answered cut t0 t1 p (after_accept accepted.Failed q)
-  lane-fails l0 l1 l2 p0 p1 answered cut t0 t1 p q so_far le rose = record {
-    connections = so_far.connections;
-    endings = so_far.endings;
-    added = so_far.added;
-    each = so_far.each;
-    exchanges = so_far.exchanges;
-    answers = so_far.answers;
-    failures = so_far.failures;
-    covered = λ a b. let h : l1 < count_end = omega (arith, le) in omega (arith, so_far.covered h b, le, rose);
-    faulted = λ a b. let h : l1 < count_end = omega (arith, le) in omega (arith, so_far.faulted h b, le, rose);
+    covered = λ a b. let h : l1 < count_end = omega (arith, le) in omega (arith, so_far.covered h b, few h a, le);
+    faulted = λ a b. let h : l1 < count_end = omega (arith, le) in omega (arith, so_far.faulted h b, few h a, le);
     cut_interrupted = so_far.cut_interrupted;
   }
 
@@ -134,27 +123,29 @@ module _ (upstreams : List Address) where
   lane-more at l0 l1 l2 l3 p0 p1 p2 answered cut t0 t1 t2 (Some p) None new end so_far le rose one = absurd so_far
   lane-more at l0 l1 l2 l3 p0 p1 p2 answered cut t0 t1 t2 None (Some q) new end so_far le rose one = absurd so_far
 
+  -- so it is over
+  lane-over : (x : Accepted) (h : LaneHow) (l0 l1 l2 p0 p1 answered cut : ℕ) (t0 t1 : Option (List Dialled)) (end : LaneEnd) (old then new : Option Past) → end ≡ record { how = h; answered = answered; cut = cut } → l1 ≤ l2
+      → ((q : Past) → ((after_accept x q).connections ≡ q.connections) × (l1 < count_end → l2 < count_end → (after_accept x q).accept_faults + l1 ≤ q.accept_faults + l2))
+      → ((p q : Past) → q.accept_faults ≡ p.accept_faults → IsLaneEnd h l0 l2 p (after_accept x q))
+      → LaneGoesOn upstreams (counted l0 p0) (counted l1 p1) answered cut t0 t1 old then → new ≡ option_map (after_accept x) then
+      → TellsOn (IsRelayed upstreams (counted l0 p0) (counted l2 p1) end t0 t1) old new
+  lane-over x h l0 l1 l2 p0 p1 answered cut t0 t1 end (Some p) (Some q) new is le adds ends so_far told =
+      subst (λ (z : Option Past). TellsOn (IsRelayed upstreams (counted l0 p0) (counted l2 p1) end t0 t1) (Some p) z) (sym told)
+      (subst (λ (e : LaneEnd). IsRelayed upstreams (counted l0 p0) (counted l2 p1) e t0 t1 p (after_accept x q)) (sym is)
+      (record { relayed = lane-ends x l0 l1 l2 p0 p1 answered cut t0 t1 p q so_far.0 le (adds q).0 (adds q).1; over = ends p q so_far.1 }))
+  lane-over x h l0 l1 l2 p0 p1 answered cut t0 t1 end None None new is le adds ends so_far told = subst (λ (z : Option Past). TellsOn (IsRelayed upstreams (counted l0 p0) (counted l2 p1) end t0 t1) None z) (sym told) tt
+  lane-over x h l0 l1 l2 p0 p1 answered cut t0 t1 end (Some p) None new is le adds ends so_far told = absurd so_far
+  lane-over x h l0 l1 l2 p0 p1 answered cut t0 t1 end None (Some q) new is le adds ends so_far told = absurd so_far
+
   pub lane-ended : (l0 l1 l2 p0 p1 answered cut : ℕ) (t0 t1 : Option (List Dialled)) (end : LaneEnd) (old then new : Option Past) → end ≡ record { how = how.Ended; answered = answered; cut = cut } → l1 ≤ l2
       → LaneGoesOn upstreams (counted l0 p0) (counted l1 p1) answered cut t0 t1 old then → new ≡ option_map (after_accept accepted.Ended) then
       → TellsOn (IsRelayed upstreams (counted l0 p0) (counted l2 p1) end t0 t1) old new
-  lane-ended l0 l1 l2 p0 p1 answered cut t0 t1 end (Some p) (Some q) new is le so_far told =
-      subst (λ (z : Option Past). TellsOn (IsRelayed upstreams (counted l0 p0) (counted l2 p1) end t0 t1) (Some p) z) (sym told)
-      (subst (λ (e : LaneEnd). IsRelayed upstreams (counted l0 p0) (counted l2 p1) e t0 t1 p (after_accept accepted.Ended q)) (sym is)
-      (record { relayed = lane-ends l0 l1 l2 p0 p1 answered cut t0 t1 p q so_far.0 le; over = (refl, so_far.1) }))
-  lane-ended l0 l1 l2 p0 p1 answered cut t0 t1 end None None new is le so_far told = subst (λ (z : Option Past). TellsOn (IsRelayed upstreams (counted l0 p0) (counted l2 p1) end t0 t1) None z) (sym told) tt
-  lane-ended l0 l1 l2 p0 p1 answered cut t0 t1 end (Some p) None new is le so_far told = absurd so_far
-  lane-ended l0 l1 l2 p0 p1 answered cut t0 t1 end None (Some q) new is le so_far told = absurd so_far
-
-  rose-since : (first faults later : ℕ) → first ≤ faults → Rose faults later → Rose first later
-  rose-since first faults later le rose = omega (arith, le, rose)
+  lane-ended l0 l1 l2 p0 p1 answered cut t0 t1 end old then new is le =
+      lane-over accepted.Ended how.Ended l0 l1 l2 p0 p1 answered cut t0 t1 end old then new is le (λ q. (refl, λ a b. omega (arith, le))) (λ p q same. (refl, same))
 
   pub lane-failed : (l0 l1 l2 p0 p1 answered cut : ℕ) (t0 t1 : Option (List Dialled)) (end : LaneEnd) (old then new : Option Past) → end ≡ record { how = how.AcceptFault; answered = answered; cut = cut } → l0 ≤ l1 → l1 ≤ l2 → Rose l1 l2
       → LaneGoesOn upstreams (counted l0 p0) (counted l1 p1) answered cut t0 t1 old then → new ≡ option_map (after_accept accepted.Failed) then
       → TellsOn (IsRelayed upstreams (counted l0 p0) (counted l2 p1) end t0 t1) old new
-  lane-failed l0 l1 l2 p0 p1 answered cut t0 t1 end (Some p) (Some q) new is since le rose so_far told =
-      subst (λ (z : Option Past). TellsOn (IsRelayed upstreams (counted l0 p0) (counted l2 p1) end t0 t1) (Some p) z) (sym told)
-      (subst (λ (e : LaneEnd). IsRelayed upstreams (counted l0 p0) (counted l2 p1) e t0 t1 p (after_accept accepted.Failed q)) (sym is)
-      (record { relayed = lane-fails l0 l1 l2 p0 p1 answered cut t0 t1 p q so_far.0 le rose; over = (refl, ap raised so_far.1, rose-since l0 l1 l2 since rose) }))
-  lane-failed l0 l1 l2 p0 p1 answered cut t0 t1 end None None new is since le rose so_far told = subst (λ (z : Option Past). TellsOn (IsRelayed upstreams (counted l0 p0) (counted l2 p1) end t0 t1) None z) (sym told) tt
-  lane-failed l0 l1 l2 p0 p1 answered cut t0 t1 end (Some p) None new is since le rose so_far told = absurd so_far
-  lane-failed l0 l1 l2 p0 p1 answered cut t0 t1 end None (Some q) new is since le rose so_far told = absurd so_far
+  lane-failed l0 l1 l2 p0 p1 answered cut t0 t1 end old then new is since le rose =
+      lane-over accepted.Failed how.AcceptFault l0 l1 l2 p0 p1 answered cut t0 t1 end old then new is le (λ q. (refl, λ a b. omega (arith, le, rose)))
+      (λ p q same. (refl, ap raised same, omega (arith, since, le, rose)))

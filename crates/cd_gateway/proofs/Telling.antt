@@ -1,6 +1,7 @@
 -- What a lane and its peers tell of a connection, one call after another.
 use Rattle.std.proofs.Common.{◌≡◌, ◌≤◌, ◌<◌, ◌∙◌, ◌++◌, ◌+◌, ◌||◌, ℕ, Bool, true, false, cond, List, [], ◌∷◌, Option, Some, None, option_map, refl, ap, sym, arith}
 use Rattle.std.specs.Prelude.{flat_map, sum_by, count_by}
+use Rattle.std.proofs.Math.Bool.{or-false, or-true}
 use Rattle.std.proofs.lemmas.List.{append_assoc, append-nil}
 use Rattle.std.proofs.lemmas.List.Sums.{sum_by-append}
 use Rattle.std.proofs.lemmas.Grind.{flat_map-append}
@@ -21,19 +22,11 @@ use Rattle.cd_gateway.specs.Stepping.{Moment, HasExchanged, after_all}
 
 -- ---- a connection
 
-no-or : (b : Bool) → (b || false) ≡ b
-no-or true = refl
-no-or false = refl
-
-or-true : (b : Bool) → true ≡ (b || true)
-or-true true = refl
-or-true false = refl
-
 unchanged : (c : Connection) → after_all [] false [] c ≡ c
 unchanged c =
     ap (λ (p : List ℕ). record c { taken = c.taken ++ []; ended = c.ended || false; put = p }) (append-nil c.put)
     ∙ ap (λ (t : List ℕ). record c { taken = t; ended = c.ended || false }) (append-nil c.taken)
-    ∙ ap (λ (b : Bool). record c { ended = b }) (no-or c.ended)
+    ∙ ap (λ (b : Bool). record c { ended = b }) (or-false c.ended)
 
 pub nothing-yet : (told : Option Past) → told ≡ option_map (with_connection (after_all [] false [])) told
 nothing-yet told = no-change (after_all [] false []) told unchanged
@@ -47,7 +40,7 @@ taking taken piece ended put first old now one two =
 pub ending : (taken put : List ℕ) (first old now : Option Past) → old ≡ option_map (with_connection (after_all taken false put)) first → now ≡ option_map (with_connection with_end) old → now ≡ option_map (with_connection (after_all taken true put)) first
 ending taken put first old now one two =
     changes (after_all taken false put) with_end (after_all taken true put) first old now one two
-    (λ c. ap (λ (b : Bool). record (after_all taken true put c) { ended = b }) (or-true c.ended))
+    (λ c. ap (λ (b : Bool). record (after_all taken true put c) { ended = b }) (sym (or-true c.ended)))
 
 pub putting : (taken : List ℕ) (ended : Bool) (put part : List ℕ) (first old now : Option Past) → old ≡ option_map (with_connection (after_all taken ended put)) first → now ≡ option_map (after_put part) old
     → now ≡ option_map (with_connection (after_all taken ended (put ++ part))) first

@@ -10,7 +10,7 @@ ghost use Rattle.cd_session.specs.declared.lane_end.LaneHow.TheVariants as how;
 ghost use Rattle.cd_gateway.specs.Lanes.{IsRelayed, counted};
 ghost use Rattle.cd_gateway.specs.Stepping.{LaneGoesOn, MayDial};
 
-use crate::connection::relay_connection;
+use crate::worker::Worker;
 use cd_outside::{Accepted, Address, Lane};
 use cd_peers::{Balancer, Peers};
 use cd_session::{Counts, LaneEnd, LaneHow};
@@ -40,22 +40,17 @@ pub fn relay_lane<R: Wait, L: Lane, P: Peers>(
     ensures failed { result.how ≡ how.AcceptFault → Rose (L.faults lane.old) (L.faults lane.new) }
     ensures running { ¬ (result.how ≡ how.Halted) }
 {
+    let worker = Worker {
+        rt,
+        alloc,
+        balancer,
+        upstreams,
+        place,
+    };
     let mut counts = Counts::new();
     for _ in rt.forever() {
         match lane.accept() {
-            Accepted::Connection(at) => {
-                relay_accepted(
-                    rt,
-                    alloc,
-                    balancer,
-                    upstreams,
-                    place,
-                    lane,
-                    peers,
-                    &at,
-                    &mut counts,
-                );
-            }
+            Accepted::Connection(at) => worker.relay_accepted(lane, peers, &at, &mut counts),
             Accepted::Ended => return counts.end(LaneHow::Ended),
             Accepted::Failed => return counts.end(LaneHow::AcceptFault),
         }
@@ -63,29 +58,27 @@ pub fn relay_lane<R: Wait, L: Lane, P: Peers>(
     unreachable!()
 }
 
-// Relays the connection that has just come, to this address, and counts what came of it.
-fn relay_accepted<R: Wait, L: Lane, P: Peers>(
-    rt: &R,
-    alloc: Global,
-    balancer: &Mutex<Balancer>,
-    upstreams: &[Address],
-    place: u32,
-    lane: &mut L,
-    peers: &mut P,
-    at: &Address,
-    counts: &mut Counts,
-)
-    requires may { MayDial place (length upstreams.now) (P.busy peers.old) }
-    requires busy { L.busy lane.old ≡ true }
-    ensures busy { L.busy lane.new ≡ false }
-    ensures idle { P.busy peers.new ≡ false }
-    ensures goes { (before : Option (List Exchange)) (old then : Option Past) (lane_first peers_first faults : ℕ)
-        → LaneGoesOn upstreams.now (counted lane_first peers_first) (counted faults (P.faults peers.old)) counts.old.answered counts.old.cut before (P.past peers.old) old then
-        → faults ≤ L.faults lane.old → L.past lane.old ≡ option_map (after_accept (accepted.Connection at.now)) then
-        → LaneGoesOn upstreams.now (counted lane_first peers_first) (counted (L.faults lane.new) (P.faults peers.new)) counts.new.answered counts.new.cut before (P.past peers.new) old (L.past lane.new) }
-    ensures later { L.faults lane.old ≤ L.faults lane.new }
-{
-    let _ = at;
-    let end = relay_connection(rt, alloc, balancer, upstreams, place, lane, peers);
-    counts.add(&end);
+impl<R: Wait> Worker<'_, R> {
+    // Relays the connection that has just come, to this address, and counts what came of it.
+    fn relay_accepted<L: Lane, P: Peers>(
+        &self,
+        lane: &mut L,
+        peers: &mut P,
+        at: &Address,
+        counts: &mut Counts,
+    )
+        requires may { MayDial self.now.place (length self.now.upstreams.now) (P.busy peers.old) }
+        requires busy { L.busy lane.old ≡ true }
+        ensures busy { L.busy lane.new ≡ false }
+        ensures idle { P.busy peers.new ≡ false }
+        ensures goes { (before : Option (List Exchange)) (old then : Option Past) (lane_first peers_first faults : ℕ)
+            → LaneGoesOn self.now.upstreams.now (counted lane_first peers_first) (counted faults (P.faults peers.old)) counts.old.answered counts.old.cut before (P.past peers.old) old then
+            → faults ≤ L.faults lane.old → L.past lane.old ≡ option_map (after_accept (accepted.Connection at.now)) then
+            → LaneGoesOn self.now.upstreams.now (counted lane_first peers_first) (counted (L.faults lane.new) (P.faults peers.new)) counts.new.answered counts.new.cut before (P.past peers.new) old (L.past lane.new) }
+        ensures later { L.faults lane.old ≤ L.faults lane.new }
+    {
+        let _ = at;
+        let end = self.relay_connection(lane, peers);
+        counts.add(&end);
+    }
 }

@@ -6,13 +6,14 @@
 //! with the counts that tie each failed exchange and each interrupted connection to a fault, or to memory that lacked, and what
 //! ended it (`IsRelayed`).
 //!
-//! Files: lane.rt relays the connections of a lane, connection.rt one connection, and requests.rt goes on after a request.
-//! specs/Stepping.antt has what is known of a connection and a lane from call to call. Only a call of the lane, of the peers or of
-//! the lock waits.
+//! Files: lane.rt relays the connections of a lane, connection.rt one connection, and requests.rt goes on after a request. A worker's
+//! handles, upstreams and place are kept together (worker.rt). specs/Stepping.antt has what is known of a connection and a lane from
+//! call to call. Only a call of the lane, of the peers or of the lock waits.
 #![tactic(auto)]
 
 mod connection;
 mod lane;
 mod requests;
+mod worker;
 
 pub use lane::relay_lane;

@@ -3,7 +3,7 @@ use Rattle.std.proofs.Common.{◌≡◌, ℕ, List, [], length, length-append, r
 use Rattle.httparse.specs.Grammar.{print_response}
 use Rattle.cd_proxy.specs.declared.limits.TheConstants.{MAX_INFORMATIONAL}
 use Rattle.cd_proxy.specs.declared.reading.Reading.TheVariants as reading
-use Rattle.cd_proxy.specs.Heads.{HasNoHead}
+use Rattle.cd_proxy.specs.Reading.{HasNoHead}
 use Rattle.cd_proxy.specs.Responses.{IsReading}
 use Rattle.cd_proxy.proofs.FinalLemmas.{no_head_no_final}
 use Rattle.cd_proxy.proofs.ResponseLemmas.{no_final_no_response}

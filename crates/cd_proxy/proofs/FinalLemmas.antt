@@ -3,8 +3,8 @@ use Rattle.std.proofs.Common.{◌≡◌, ℕ, zero, suc, ◌≤◌, ◌+◌, Boo
 use Rattle.std.proofs.lemmas.Bool.Decides.{nat_tests}
 use Rattle.std.proofs.Math.Seq.{take-add}
 use Rattle.cd_proxy.specs.declared.head.Head.{Head}
-use Rattle.cd_proxy.specs.Heads.{BeginsHead, HasNoHead, NeverHasHead, BeginsFinal, is_final, is_informational}
-use Rattle.cd_proxy.specs.Reading.{HasNoFinal, NeverHasFinal, Skips}
+use Rattle.cd_proxy.specs.Heads.{BeginsHead, BeginsFinal, is_final, is_informational}
+use Rattle.cd_proxy.specs.Reading.{HasNoHead, NeverHasHead, HasNoFinal, NeverHasFinal, Skips}
 use Rattle.cd_proxy.proofs.HeadLemmas.{BeginsHead-append, BeginsHead-unique, head_alone}
 
 -- a status is not both

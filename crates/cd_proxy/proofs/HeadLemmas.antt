@@ -1,25 +1,26 @@
 -- What one reading of a head says of every other, and what the front of a text says of the text.
 use Rattle.std.proofs.Common.{◌≡◌, ℕ, ◌≤◌, ◌<◌, ◌+◌, ◌-◌, List, [], ◌++◌, length, take, drop, ap, ◌∙◌, sym, subst, arith, append_assoc, length-append}
-use Rattle.std.proofs.lemmas.List.{length-map, take-append-drop, take-append-le, append-nil, append_cancel_right}
+use Rattle.std.proofs.lemmas.List.{length-map, length-take, take-append-drop, take-append-le, append-nil, append_cancel_right}
 use Rattle.httparse.specs.declared.borrowed.Response.{Response}
-use Rattle.httparse.specs.Grammar.{ResponseHead, print_response}
+use Rattle.httparse.specs.Grammar.{ReadsResponse, ResponseHead, print_response}
 use Rattle.httparse.specs.Borrowed.{HoldsResponse, header_parts}
 use Rattle.httparse.specs.Spans.{name_and_value, ResponseOverflows}
 use Rattle.httparse.proofs.GrammarLemmas.{ReadsResponse-append, response_unique}
 use Rattle.cd_wire.specs.declared.limits.TheConstants.{MAX_HEAD_BYTES, MAX_HEAD_FIELDS}
 use Rattle.cd_wire.proofs.FrontLemmas.{rest_of_front, take_past}
 use Rattle.cd_proxy.specs.declared.head.Head.{Head}
-use Rattle.cd_proxy.specs.Heads.{BeginsHead, HasNoHead, NeverHasHead, head_of}
+use Rattle.cd_proxy.specs.declared.head.HeadRead.{HeadRead}
+use Rattle.cd_proxy.specs.declared.head.HeadRead.TheVariants.{Whole, Partial, Hopeless}
+use Rattle.cd_proxy.specs.Heads.{BeginsHead, head_of}
+use Rattle.cd_proxy.specs.Reading.{IsHeadRead, NeverHasHead}
+
+-- a head of another input, with the same lines
+of_lines : {input text rest left : List ℕ} {head : Head} (b : BeginsHead input head rest) → ReadsResponse text b.lines left → BeginsHead text head left
+of_lines b reads = record { lines = b.lines; reads = reads; short = b.short; few = b.few; is = b.is }
 
 pub BeginsHead-append : (input : List ℕ) (head : Head) (rest more : List ℕ)
     → BeginsHead input head rest → BeginsHead (input ++ more) head (rest ++ more)
-BeginsHead-append input head rest more b = record {
-  lines = b.lines;
-  reads = ReadsResponse-append input b.lines rest more b.reads;
-  short = b.short;
-  few = b.few;
-  is = b.is;
-}
+BeginsHead-append input head rest more b = of_lines b (ReadsResponse-append input b.lines rest more b.reads)
 
 pub BeginsHead-unique : (input : List ℕ) (head other : Head) (rest left : List ℕ)
     → BeginsHead input head rest → BeginsHead input other left → (head ≡ other) × (rest ≡ left)
@@ -67,55 +68,42 @@ read_head_is bytes len response lines head short held few is =
 -- ---- a head without what follows it
 
 pub head_alone : (text : List ℕ) (head : Head) (len : ℕ) → BeginsHead text head (drop len text) → BeginsHead (take len text) head []
-head_alone text head len b = record {
-  lines = b.lines;
-  reads = (
-    b.reads.0,
-    append_cancel_right (take len text) (print_response b.lines) (drop len text) (take-append-drop len text ∙ b.reads.1)
-        ∙ sym (append-nil (print_response b.lines)),
-  );
-  short = b.short;
-  few = b.few;
-  is = b.is;
-}
+head_alone text head len b = of_lines b (
+  b.reads.0,
+  append_cancel_right (take len text) (print_response b.lines) (drop len text) (take-append-drop len text ∙ b.reads.1)
+      ∙ sym (append-nil (print_response b.lines)),
+)
 
 -- ---- the front of a text
 
--- what the front begins with, the text begins with
-pub head_of_front : (text : List ℕ) (n len : ℕ) (head : Head) → len ≤ length (take n text)
-    → BeginsHead (take n text) head (drop len (take n text)) → BeginsHead text head (drop len text)
-head_of_front text n len head within b =
-    subst (λ t. BeginsHead t head (drop len text)) (take-append-drop n text)
-    (subst (λ r. BeginsHead (take n text ++ drop n text) head r) (rest_of_front text n len within)
-    (BeginsHead-append (take n text) head (drop len (take n text)) (drop n text) b))
-
 -- a head of the text is one of its front
-pub front_has_head : (text : List ℕ) (head : Head) (rest : List ℕ) → BeginsHead text head rest
+front_has_head : (text : List ℕ) (head : Head) (rest : List ℕ) → BeginsHead text head rest
     → (r : List ℕ) × BeginsHead (take MAX_HEAD_BYTES text) head r
 front_has_head text head rest b =
-    let cut = take_past (print_response b.lines) rest MAX_HEAD_BYTES b.short in (
-      take (MAX_HEAD_BYTES - length (print_response b.lines)) rest,
-      record {
-        lines = b.lines;
-        reads = (b.reads.0, ap (take MAX_HEAD_BYTES) b.reads.1 ∙ cut);
-        short = b.short;
-        few = b.few;
-        is = b.is;
-      },
+    let lines = print_response b.lines in
+    (take (MAX_HEAD_BYTES - length lines) rest, of_lines b (b.reads.0, ap (take MAX_HEAD_BYTES) b.reads.1 ∙ take_past lines rest MAX_HEAD_BYTES b.short))
+
+-- what is read of the front is so of the text
+of_front : (text : List ℕ) (read : HeadRead) → IsHeadRead (take MAX_HEAD_BYTES text) read → IsHeadRead text read
+of_front text (Whole head len) (within, b) =
+    let short : length (take MAX_HEAD_BYTES text) ≤ length text = omega (arith, length-take MAX_HEAD_BYTES text) in (
+      omega (arith, within, short),
+      subst (λ t. BeginsHead t head (drop len text)) (take-append-drop MAX_HEAD_BYTES text)
+          (subst (λ r. BeginsHead (take MAX_HEAD_BYTES text ++ drop MAX_HEAD_BYTES text) head r) (rest_of_front text MAX_HEAD_BYTES len within)
+          (BeginsHead-append (take MAX_HEAD_BYTES text) head (drop len (take MAX_HEAD_BYTES text)) (drop MAX_HEAD_BYTES text) b)),
     )
-
-pub no_head_in_front : (text : List ℕ) → HasNoHead (take MAX_HEAD_BYTES text) → HasNoHead text
-no_head_in_front text none head rest b =
-    let f = front_has_head text head rest b in none head f.0 f.1
-
-pub never_head_in_front : (text : List ℕ) (n : ℕ) → NeverHasHead (take n text) → NeverHasHead text
-never_head_in_front text n never more head rest b =
-    never (drop n text ++ more) head rest
+of_front text Partial none = λ head rest b. let f = front_has_head text head rest b in none head f.0 f.1
+of_front text Hopeless never = λ more head rest b.
+    never (drop MAX_HEAD_BYTES text ++ more) head rest
     (subst (λ t. BeginsHead t head rest)
-    (ap (λ t. t ++ more) (sym (take-append-drop n text)) ∙ append_assoc (take n text) (drop n text) more) b)
+    (ap (λ t. t ++ more) (sym (take-append-drop MAX_HEAD_BYTES text)) ∙ append_assoc (take MAX_HEAD_BYTES text) (drop MAX_HEAD_BYTES text) more) b)
 
-pub never_head_when_full : (text : List ℕ) → MAX_HEAD_BYTES ≤ length text → HasNoHead (take MAX_HEAD_BYTES text)
-    → NeverHasHead text
-never_head_when_full text full none more head rest b =
+pub front_read : (text front : List ℕ) (read : HeadRead) → front ≡ take MAX_HEAD_BYTES text → IsHeadRead front read → IsHeadRead text read
+front_read text front read same r = of_front text read (subst (λ (t : List ℕ). IsHeadRead t read) same r)
+
+-- a text that fills its front has no head ever, where the front has none
+pub full_read : (text front : List ℕ) (found : HeadRead) → MAX_HEAD_BYTES ≤ length text → front ≡ take MAX_HEAD_BYTES text → found ≡ Partial → IsHeadRead front found → NeverHasHead text
+full_read text front found full same is r = λ more head rest b.
+    let none = subst (λ (t : List ℕ). IsHeadRead t Partial) same (subst (λ (h : HeadRead). IsHeadRead front h) is r) in
     let f = front_has_head (text ++ more) head rest b in
     none head f.0 (subst (λ t. BeginsHead t head f.0) (take-append-le MAX_HEAD_BYTES text more full) f.1)

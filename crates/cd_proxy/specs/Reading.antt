@@ -13,7 +13,15 @@ use Rattle.cd_proxy.specs.declared.content.Content.TheVariants as kept
 use Rattle.cd_proxy.specs.declared.content.ContentRead.{ContentRead}
 use Rattle.cd_proxy.specs.declared.content.ContentRead.TheVariants as content
 use Rattle.cd_proxy.specs.Responses.{BeginsContent}
-use Rattle.cd_proxy.specs.Heads.{BeginsHead, HasNoHead, NeverHasHead, BeginsFinal}
+use Rattle.cd_proxy.specs.Heads.{BeginsHead, BeginsFinal}
+
+-- the input begins with no head
+abbrev pub HasNoHead : List ℕ → Type 0
+HasNoHead input = (head : Head) (rest : List ℕ) → ¬ (BeginsHead input head rest)
+
+-- no input that begins so begins with a head
+abbrev pub NeverHasHead : List ℕ → Type 0
+NeverHasHead input = (more : List ℕ) → HasNoHead (input ++ more)
 
 -- a head and its length; or none yet; or none ever
 abbrev pub IsHeadRead : List ℕ → HeadRead → Type 0

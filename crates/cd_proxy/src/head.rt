@@ -84,14 +84,7 @@ pub(crate) fn read_head(alloc: Global, bytes: &[u8]) -> Result<HeadRead, NoMemor
     let front = front_of(bytes, MAX_HEAD_BYTES);
     let read = parse_head(alloc, front)?;
     match read {
-        HeadRead::Whole(head, len) => Ok(HeadRead::Whole(head, len)),
-        HeadRead::Partial => {
-            if bytes.len() >= MAX_HEAD_BYTES {
-                Ok(HeadRead::Hopeless)
-            } else {
-                Ok(HeadRead::Partial)
-            }
-        }
-        HeadRead::Hopeless => Ok(HeadRead::Hopeless),
+        HeadRead::Partial if bytes.len() >= MAX_HEAD_BYTES => Ok(HeadRead::Hopeless),
+        read => Ok(read),
     }
 }

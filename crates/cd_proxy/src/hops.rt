@@ -1,34 +1,14 @@
 //! Which fields end at this hop (RFC 9110, section 7.6.1).
-ghost use Rattle.std.specs.Prelude.{◌≡◌, ◌<◌, ◌∷◌, [], ◌||◌, not, codes, length, filter, IfOk, IfSome, IfNone};
-ghost use Rattle.std.specs.List.{list_any, slice_split, position};
+ghost use Rattle.std.specs.Prelude.{◌≡◌, ◌||◌, not, codes, filter, IfOk};
+ghost use Rattle.std.specs.List.{list_any, slice_split};
 ghost use Rattle.cd_wire.specs.Fields.{is_named};
 ghost use Rattle.cd_wire.specs.Framing.{is_comma};
 ghost use Rattle.cd_proxy.specs.Removed.{is_member, lists, is_listed, is_of_one_hop, is_removed, passed_on};
 
 use crate::own_field::{OwnField, lend};
 use cd_text::{List, NoMemory};
-use cd_wire::{Field, rest_from, trimmed};
+use cd_wire::{Field, trimmed};
 use std::alloc::Global;
-
-fn comma(list: &[u8]) -> Option<usize>
-    ensures { result ≡ position is_comma list.now }
-{
-    list.iter().position(|byte| *byte == b',')
-}
-
-// The first member of a list, and what stands after its comma; `None` where there is no comma.
-#[tactic(auto, using(cd_wire::proofs::MemberLemmas::members_cut, cd_wire::proofs::MemberLemmas::comma_within, cd_wire::proofs::MemberLemmas::no_comma))]
-fn first_member(list: &[u8]) -> Option<(&[u8], &[u8])>
-    ensures some { IfSome result (λ cut. slice_split is_comma list.now
-        ≡ cut.0.now ∷ slice_split is_comma cut.1.now) }
-    ensures shorter { IfSome result (λ cut. length cut.1.now < length list.now) }
-    ensures none { IfNone result (slice_split is_comma list.now ≡ list.now ∷ []) }
-{
-    match comma(list) {
-        Some(end) => Some((&list[..end], rest_from(list, end + 1))),
-        None => None,
-    }
-}
 
 // Whether the member is this name, in any case.
 fn is_member(name: &[u8], member: &[u8]) -> bool
@@ -38,16 +18,11 @@ fn is_member(name: &[u8], member: &[u8]) -> bool
 }
 
 // Whether a member of the list is this name.
-fn has_member(name: &[u8], mut list: &[u8]) -> bool
+fn has_member(name: &[u8], list: &[u8]) -> bool
     ensures { result ≡ list_any (is_member name.now) (slice_split is_comma list.now) }
 {
-    while let Some((member, rest)) = first_member(list) {
-        if is_member(name, member) {
-            return true;
-        }
-        list = rest;
-    }
-    is_member(name, list)
+    list.split(|byte| *byte == b',')
+        .any(|member| is_member(name, member))
 }
 
 fn is_connection(field: &Field<'_>) -> bool
@@ -123,7 +98,6 @@ fn without_removed(fields: List<OwnField>, connections: &[Field<'_>]) -> List<Ow
 }
 
 /// The fields that are passed on of a response. Memory is taken for its Connection fields alone.
-
 pub(crate) fn passed_own(alloc: Global, fields: List<OwnField>) -> Result<List<OwnField>, NoMemory>
     ensures { IfOk result (λ kept. kept ≡ passed_on fields) }
 {

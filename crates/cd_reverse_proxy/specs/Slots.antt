@@ -1,5 +1,5 @@
 -- Lanes with their peers while they are served: for the clauses of private functions.
-use Rattle.std.specs.Prelude.{◌≡◌, ◌≤◌, ℕ, Bool, false, List, All, length, Option}
+use Rattle.std.specs.Prelude.{◌≡◌, ◌≤◌, ℕ, Bool, false, List, [], All, length, Option}
 use Rattle.cd_outside.specs.declared.address.Address.{Address}
 use Rattle.cd_outside.specs.declared.past.Past.{Past}
 use Rattle.cd_output.specs.Devices.{device}
@@ -15,6 +15,11 @@ module _ {L P : Type 0} (upstreams : List Address) (connected : L → Bool) (fau
     pub lane : connected t.lane ≡ false
     pub peers : dialled t.peers ≡ false
     pub worker : IsRelayedWorker upstreams (record { lane = device past faults s.lane t.lane; peers = device told failed s.peers t.peers }) t.end
+
+-- a list of slots has none yet, and its memory has room for so many
+pub record HasRoom {L P : Type 0} (slots : List (Slot L P)) (capacity count : ℕ) : Type 0 where
+  pub empty : slots ≡ []
+  pub room : count ≤ capacity
 
 module _ {L P : Type 0} (connected : L → Bool) (dialled : P → Bool) where
   -- the lanes may be served, each by its peers: none has a connection, and no peers have an exchange

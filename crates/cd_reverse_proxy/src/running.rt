@@ -8,11 +8,10 @@ ghost use Rattle.cd_peers.specs.declared.limits.TheConstants.{MAX_UPSTREAMS};
 ghost use Rattle.cd_reverse_proxy.specs.declared.status.Status.{Status as Ending};
 ghost use Rattle.cd_reverse_proxy.specs.Running.{Concludes, HasBegun, IsLast, RunsTo, answered_of, closing_calls, cut_of};
 ghost use Rattle.cd_reverse_proxy.specs.Seen.{seen};
-ghost use Rattle.cd_reverse_proxy.specs.Slots.{AreBack, AreReady};
+ghost use Rattle.cd_reverse_proxy.specs.Slots.{AreBack, AreReady, HasRoom};
 ghost use Rattle.cd_reverse_proxy.specs.Top.{EndsAs, code_of, unopened_line};
 ghost use Rattle.cd_reverse_proxy.specs.Workers.{workers};
 
-use crate::counts::Counts;
 use crate::ended::{ProxyEnded, unserved};
 use crate::lines::{served_line, unopened_line};
 use crate::serving::serve_all;
@@ -22,6 +21,7 @@ use crate::status::Status;
 use cd_output::say;
 use cd_outside::{Address, Fixtures, Given, Key, Lane, Opened, Sink};
 use cd_peers::{Balancer, Peers, Policy};
+use cd_session::Counts;
 use cd_text::{List, NoMemory, Text};
 use std::alloc::Global;
 use std::sync::{Mutex, Wait};
@@ -53,8 +53,7 @@ fn prepare<L, P>(
 ) -> Result<Prepared<L, P>, NoMemory>
     ensures refusal { IfOk result (λ made. made.refusal ≡ unopened_line settings.now.from) }
     ensures shared { IfOk result (λ made. made.shared ≡ settings.now.upstreams) }
-    ensures empty { IfOk result (λ made. made.slots.items ≡ []) }
-    ensures room { IfOk result (λ made. lanes ≤ vec_capacity made.slots) }
+    ensures room { IfOk result (λ made. HasRoom made.slots.items (vec_capacity made.slots) lanes) }
 {
     let refusal = unopened_line(alloc, &settings.from)?;
     let shared = copies(alloc, settings.upstreams.as_slice())?;
@@ -79,8 +78,7 @@ fn serve<R: Threads + Wait + Sync, O: Sink, L: Lane + Send, P: Peers + Send>(
 ) -> Option<Counts>
     requires ready { AreReady L.busy P.busy lanes.old.items peers.old.items }
     requires upstreams { 0 < length upstreams.now }
-    requires empty { slots.old.items ≡ [] }
-    requires room { vec_len lanes.old ≤ vec_capacity slots.old }
+    requires room { HasRoom slots.old.items (vec_capacity slots.old) (vec_len lanes.old) }
     ensures back { AreBack L.busy P.busy lanes.old.items lanes.new.items peers.old.items peers.new.items }
     ensures empty { slots.new.items ≡ [] }
     ensures begun { HasBegun upstreams.now (workers L.past L.faults P.past P.faults lanes.old.items lanes.new.items peers.old.items peers.new.items)
@@ -176,8 +174,7 @@ fn run_opened<R: Threads + Wait + Sync, O: Sink, F: Fixtures, L: Lane + Send, P:
 ) -> ProxyEnded<F, L, P>
     requires ready { AreReady L.busy P.busy lanes.items peers.items }
     requires upstreams { 0 < length upstreams.now }
-    requires empty { slots.items ≡ [] }
-    requires room { vec_len lanes ≤ vec_capacity slots }
+    requires room { HasRoom slots.items (vec_capacity slots) (vec_len lanes) }
     ensures back { AreBack L.busy P.busy lanes.items result.lanes peers.items result.peers }
     ensures calls { CallsGrow (F.calls fixtures) (closing_calls key.now) (F.calls result.fixtures) }
     ensures runs { RunsTo upstreams.now (workers L.past L.faults P.past P.faults lanes.items result.lanes peers.items result.peers)
@@ -195,12 +192,11 @@ fn run_opened<R: Threads + Wait + Sync, O: Sink, F: Fixtures, L: Lane + Send, P:
     conclude(alloc, counts, out, fixtures, lanes, peers)
 }
 
-// Opens the address, and serves; or says that it can't be opened.
-fn run_prepared<R: Threads + Wait + Sync, O: Sink, F: Fixtures, L: Lane + Send, P: Peers + Send>(
+/// Runs as these settings say: opens the address, and serves; or says that it can't be opened.
+pub fn run_proxy<R: Threads + Wait + Sync, O: Sink, F: Fixtures, L: Lane + Send, P: Peers + Send>(
     rt: &R,
     alloc: Global,
     settings: ProxySettings,
-    prepared: Prepared<L, P>,
     out: &mut O,
     fixtures: F,
     lanes: List<L>,
@@ -209,13 +205,12 @@ fn run_prepared<R: Threads + Wait + Sync, O: Sink, F: Fixtures, L: Lane + Send, 
     requires ready { AreReady L.busy P.busy lanes peers }
     requires some { 0 < length settings.upstreams }
     requires few { length settings.upstreams ≤ MAX_UPSTREAMS }
-    requires refusal { prepared.refusal ≡ unopened_line settings.from }
-    requires shared { prepared.shared ≡ settings.upstreams }
-    requires empty { prepared.slots.items ≡ [] }
-    requires room { length lanes ≤ vec_capacity prepared.slots }
     ensures back { AreBack L.busy P.busy lanes result.lanes peers result.peers }
     ensures ends { EndsAs (seen O.holds O.faults F.calls F.faults L.past L.faults P.past P.faults out.old out.new fixtures lanes peers result) result.status (Ok settings) }
 {
+    let Ok(prepared) = prepare(alloc, &settings, lanes.len()) else {
+        return unserved(Status::NoMemory, fixtures, lanes, peers);
+    };
     let Prepared {
         refusal,
         shared,
@@ -247,27 +242,5 @@ fn run_prepared<R: Threads + Wait + Sync, O: Sink, F: Fixtures, L: Lane + Send, 
             let _ = say(out, refusal.as_str());
             unserved(Status::Unopened, fixtures, lanes, peers)
         }
-    }
-}
-
-/// Runs as these settings say.
-pub fn run_proxy<R: Threads + Wait + Sync, O: Sink, F: Fixtures, L: Lane + Send, P: Peers + Send>(
-    rt: &R,
-    alloc: Global,
-    settings: ProxySettings,
-    out: &mut O,
-    fixtures: F,
-    lanes: List<L>,
-    peers: List<P>,
-) -> ProxyEnded<F, L, P>
-    requires ready { AreReady L.busy P.busy lanes peers }
-    requires some { 0 < length settings.upstreams }
-    requires few { length settings.upstreams ≤ MAX_UPSTREAMS }
-    ensures back { AreBack L.busy P.busy lanes result.lanes peers result.peers }
-    ensures ends { EndsAs (seen O.holds O.faults F.calls F.faults L.past L.faults P.past P.faults out.old out.new fixtures lanes peers result) result.status (Ok settings) }
-{
-    match prepare(alloc, &settings, lanes.len()) {
-        Ok(prepared) => run_prepared(rt, alloc, settings, prepared, out, fixtures, lanes, peers),
-        Err(NoMemory) => unserved(Status::NoMemory, fixtures, lanes, peers),
     }
 }

@@ -2,10 +2,11 @@
 ghost use Rattle.std.specs.Prelude.{◌≡◌, ◌<◌, ◌≤◌, ◌++◌, ◌∷◌, [], min, map, length, sum_by, vec_len};
 ghost use Rattle.std.specs.Vec.{vec_capacity};
 ghost use Rattle.cd_outside.specs.Counts.{count_end};
+ghost use Rattle.cd_reverse_proxy.specs.Slots.{HasRoom};
 
-use crate::counts::Counts;
+use crate::counts::add_lane;
 use crate::slot::Slot;
-use cd_session::{LaneEnd, LaneHow};
+use cd_session::{Counts, LaneEnd, LaneHow};
 
 // Adds a value for which there is room.
 fn place<T>(list: &mut Vec<T>, value: T)
@@ -22,8 +23,7 @@ fn place<T>(list: &mut Vec<T>, value: T)
 /// Moves each lane with its peers into a slot, for which there is room.
 pub fn seat<L, P>(slots: &mut Vec<Slot<L, P>>, lanes: &mut Vec<L>, peers: &mut Vec<P>)
     requires enough { length peers.old.items ≡ length lanes.old.items }
-    requires empty { slots.old.items ≡ [] }
-    requires room { vec_len lanes.old ≤ vec_capacity slots.old }
+    requires room { HasRoom slots.old.items (vec_capacity slots.old) (vec_len lanes.old) }
     ensures lanes { map (λ slot. slot.lane) slots.new.items ≡ lanes.old.items }
     ensures peers { map (λ slot. slot.peers) slots.new.items ≡ peers.old.items }
     ensures none { (lanes.new.items ≡ []) × (peers.new.items ≡ []) }
@@ -66,7 +66,7 @@ pub fn unseat<L, P>(slots: &mut Vec<Slot<L, P>>, lanes: &mut Vec<L>, peers: &mut
             peers: of_lane,
             end,
         } = slots.remove(0);
-        sums.add(end);
+        add_lane(&mut sums, end);
         place(lanes, lane);
         place(peers, of_lane);
     }

@@ -3,14 +3,14 @@ ghost use Rattle.std.specs.Prelude.{◌≡◌, ◌<◌, ◌≤◌, ℕ, [], fals
 ghost use Rattle.std.specs.Vec.{vec_capacity};
 ghost use Rattle.cd_peers.specs.declared.limits.TheConstants.{MAX_PLACES};
 ghost use Rattle.cd_gateway.specs.Stepping.{MayDial};
-ghost use Rattle.cd_reverse_proxy.specs.Slots.{AreBack, AreReady, IsRelayedSlot};
+ghost use Rattle.cd_reverse_proxy.specs.Slots.{AreBack, AreReady, HasRoom, IsRelayedSlot};
 ghost use Rattle.cd_reverse_proxy.specs.Workers.{AreRelayed, workers};
 
-use crate::counts::Counts;
 use crate::seats::{seat, unseat};
 use crate::slot::{Slot, relay_slot};
 use cd_outside::{Address, Lane};
 use cd_peers::{Balancer, Peers};
+use cd_session::Counts;
 use std::alloc::Global;
 use std::sync::{Mutex, Wait};
 use std::thread;
@@ -78,8 +78,7 @@ pub fn serve_all<R: Threads + Wait + Sync, L: Lane + Send, P: Peers + Send>(
 ) -> Counts
     requires ready { AreReady L.busy P.busy lanes.old.items peers.old.items }
     requires upstreams { 0 < length upstreams.now }
-    requires empty { slots.old.items ≡ [] }
-    requires room { vec_len lanes.old ≤ vec_capacity slots.old }
+    requires room { HasRoom slots.old.items (vec_capacity slots.old) (vec_len lanes.old) }
     ensures back { AreBack L.busy P.busy lanes.old.items lanes.new.items peers.old.items peers.new.items }
     ensures empty { slots.new.items ≡ [] }
     ensures served { AreRelayed upstreams.now (workers L.past L.faults P.past P.faults lanes.old.items lanes.new.items peers.old.items peers.new.items) result.answered result.cut }

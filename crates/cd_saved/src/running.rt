@@ -14,7 +14,6 @@ use cd_program::{Ended, Initial, Status, run_all, unbegun};
 use cd_standard::Standard;
 use cd_text::List;
 use std::alloc::Global;
-use std::marker::Brand;
 use std::sync::ledger::{Blank, Share};
 use std::sync::{Mutex, Wait};
 use std::thread::Threads;
@@ -93,8 +92,8 @@ pub struct EndedOver<F, L, D: Disk> {
     pub saver: Saver<D>,
 }
 
-// Runs over the lanes and a saver, by the ledger of a run.
-fn run_in_run<
+/// Runs over the lanes, each of which saves what it keeps by one saver, by the ledger of the run.
+pub fn run_over<
     R: Threads + Wait + Sync,
     S: Source,
     O: Sink,
@@ -153,38 +152,4 @@ fn run_in_run<
             }
         }
     }
-}
-
-/// Runs over the lanes, each of which saves what it keeps by one saver.
-pub fn run_over<
-    R: Threads + Wait + Sync,
-    S: Source,
-    O: Sink,
-    F: Fixtures + Send,
-    L: Lane + Send,
-    D: Disk + Send,
->(
-    rt: &R,
-    alloc: Global,
-    initial: Initial,
-    config: &mut S,
-    out: &mut O,
-    fixtures: F,
-    lanes: List<L>,
-    saver: Saver<D>,
-) -> EndedOver<F, L, D>
-    requires some { 1 ≤ length lanes }
-    requires few { length lanes ≤ MAX_LANES }
-    requires idle { All (λ lane. L.busy lane ≡ false) lanes }
-    requires sound { IsSoundStart initial }
-    ensures count { length result.ended.lanes ≡ length lanes }
-    ensures idle { All (λ lane. L.busy lane ≡ false) result.ended.lanes }
-    ensures unread { is_of_file initial ≡ false → config.new ≡ config.old }
-    ensures ran { HasRunOver initial (device D.seen D.faults saver.slots.disk result.saver.slots.disk)
-        (seen S.left S.faults O.holds O.faults F.calls F.faults L.past L.faults config.old config.new out.old out.new fixtures lanes result.ended) result.ended.status }
-{
-    let blank = Blank::new(lanes.len() as u64);
-    run_in_run::<R, S, O, F, L, D, Brand>(
-        rt, alloc, initial, config, out, fixtures, lanes, saver, blank,
-    )
 }

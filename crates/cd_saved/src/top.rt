@@ -18,7 +18,9 @@ use cd_outside::{Fixtures, Lane, Sink, Source};
 use cd_program::{Ended, caddy_main, unbegun};
 use cd_text::{List, Text};
 use std::alloc::Global;
+use std::marker::Brand;
 use std::sync::Wait;
+use std::sync::ledger::Blank;
 use std::thread::Threads;
 
 // Opens the disk, and runs.
@@ -52,8 +54,9 @@ fn run_saved<
         Err((disk, why)) => (unbegun(decline(why, out), fixtures, lanes), disk),
         Ok((saver, saved)) => {
             let initial = which.initial(saved);
-            let EndedOver { ended, saver } = run_over(
-                rt, alloc, initial, config, out, fixtures, lanes, saver,
+            let blank = Blank::new(lanes.len() as u64);
+            let EndedOver { ended, saver } = run_over::<R, S, O, F, L, D, Brand>(
+                rt, alloc, initial, config, out, fixtures, lanes, saver, blank,
             );
             (ended, saver.close())
         }

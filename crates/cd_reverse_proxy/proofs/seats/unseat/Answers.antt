@@ -23,10 +23,10 @@ loop-slots-preserved g c =
     record {
       lanes = moved-out (λ slot. slot.lane) c.loop-slots.lanes.items c.place.new.list.items c.remove-lane.result.lane c.loop-slots.slots.items c.remove-lane.new.self.items c.remove-lane.result _ c.place.ensures.items refl slots inv.lanes;
       peers = moved-out (λ slot. slot.peers) c.loop-slots.peers.items c.place-in-loop-slots.new.list.items c.remove-lane.result.peers c.loop-slots.slots.items c.remove-lane.new.self.items c.remove-lane.result _ c.place-in-loop-slots.ensures.items refl slots inv.peers;
-      answered = counted (λ slot. slot.end.answered) c.loop-slots.slots.items c.remove-lane.new.self.items c.remove-lane.result count_end c.loop-slots.sums.answered c.add.new.self.answered _ c.add.ensures.answered slots inv.answered;
-      answered_fits = omega (arith, c.add.ensures.answered);
-      cut = counted (λ slot. slot.end.cut) c.loop-slots.slots.items c.remove-lane.new.self.items c.remove-lane.result count_end c.loop-slots.sums.cut c.add.new.self.cut _ c.add.ensures.cut slots inv.cut;
-      cut_fits = omega (arith, c.add.ensures.cut);
+      answered = counted (λ slot. slot.end.answered) c.loop-slots.slots.items c.remove-lane.new.self.items c.remove-lane.result count_end c.loop-slots.sums.answered c.add_lane.new.sums.answered _ c.add_lane.ensures.answered slots inv.answered;
+      answered_fits = omega (arith, c.add_lane.ensures.answered);
+      cut = counted (λ slot. slot.end.cut) c.loop-slots.slots.items c.remove-lane.new.self.items c.remove-lane.result count_end c.loop-slots.sums.cut c.add_lane.new.sums.cut _ c.add_lane.ensures.cut slots inv.cut;
+      cut_fits = omega (arith, c.add_lane.ensures.cut);
       lanes_room = let n = moved-length c.loop-slots.lanes.items c.place.new.list.items _ c.loop-slots.slots.items c.remove-lane.new.self.items c.remove-lane.result c.place.ensures.items slots in omega (arith, n, inv.lanes_room, c.place.ensures.capacity);
       peers_room = let n = moved-length c.loop-slots.peers.items c.place-in-loop-slots.new.list.items _ c.loop-slots.slots.items c.remove-lane.new.self.items c.remove-lane.result c.place-in-loop-slots.ensures.items slots in omega (arith, n, inv.peers_room, c.place-in-loop-slots.ensures.capacity);
     }

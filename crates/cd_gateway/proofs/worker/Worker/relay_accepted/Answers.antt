@@ -4,11 +4,11 @@ use Rattle.cd_outside.specs.Counts.{count_end}
 use Rattle.cd_gateway.specs.Lanes.{counted}
 use Rattle.cd_gateway.specs.Stepping.{IsEnded, LaneGoesOn, moment}
 use Rattle.cd_gateway.proofs.Going.{lane-more}
-use Rattle.cd_gateway.proofs.lane.relay_accepted.Goals as goal
+use Rattle.cd_gateway.proofs.worker.Worker.relay_accepted.Goals as goal
 
 pub returns-clause-goes : goal.returns-clause-goes
 returns-clause-goes g c before old then l0 p0 faults so_far le came =
-    let upstreams = c.args.upstreams.now in
+    let upstreams = c.args.self.now.upstreams.now in
     let n : ℕ = c.args.counts.now.answered in
     let e = c.relay_connection-end.result in
     let failed : ℕ = g.L.Lane.faults c.relay_connection-end.new.lane in

@@ -1,7 +1,7 @@
 use Rattle.std.proofs.Common.{◌≤◌, ◌+◌, ℕ, min, refl, sym, subst}
 use Rattle.cd_outside.specs.Counts.{count_end}
 use Rattle.cd_saved.proofs.Over.{lacking, run_over_disk}
-use Rattle.cd_saved.proofs.running.run_in_run.Goals as goal
+use Rattle.cd_saved.proofs.running.run_over.Goals as goal
 
 pub returns-in-Err-clause-ran : goal.returns-in-Err-clause-ran
 returns-in-Err-clause-ran g c =

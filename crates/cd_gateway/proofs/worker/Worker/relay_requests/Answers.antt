@@ -2,7 +2,7 @@ use Rattle.std.proofs.Common.{false, arith}
 use Rattle.cd_session.proofs.Causes.{never-halted, risen-later}
 use Rattle.cd_gateway.specs.Stepping.{moment}
 use Rattle.cd_gateway.proofs.Connecting.{goes-started}
-use Rattle.cd_gateway.proofs.connection.relay_requests.Goals as goal
+use Rattle.cd_gateway.proofs.worker.Worker.relay_requests.Goals as goal
 
 pub loop-init : goal.loop-init
 loop-init g c = record {
@@ -10,7 +10,7 @@ loop-init g c = record {
   may = c.requires.may;
   busy = c.requires.busy;
   later = omega arith;
-  goes = goes-started c.args.upstreams.now c.new-session.result.intake c.new-session.result.ended c.new-session.result.answered c.new-session.ensures.intake c.new-session.ensures.ended c.new-session.ensures.answered
+  goes = goes-started c.args.self.now.upstreams.now c.new-session.result.intake c.new-session.result.ended c.new-session.result.answered c.new-session.ensures.intake c.new-session.ensures.ended c.new-session.ensures.answered
       (moment (g.L.Lane.past c.args.lane.now) (g.P.Peers.past c.args.peers.now) (g.P.Peers.faults c.args.peers.now));
 }
 
