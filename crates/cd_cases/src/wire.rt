@@ -11,18 +11,12 @@
 //!     {"fields": BYTES, "found": BYTES}       the names and values of the first request's fields, as `a=b|`
 //!     {"render": {"status": N, "fields": [[NAME, VALUE], ..], "body": BYTES, "close": TRUTH}, "head": TRUTH, "close": TRUTH, "answered": BYTES}
 //!     {"refusal": STATUS, "answered": BYTES}
+use cd_rig::{InPieces, found, found_in_pieces};
 use cd_rows::{Outcome, RowFault, bytes_at, bytes_of, find, is_true, number_of, only};
 use cd_text::{List, NoMemory, Octets};
 use cd_tree::{SharedText, Tree};
 use cd_wire::{Answer, Field, Fields, Intake, Lent, Next, Request, refusal, render};
 use std::alloc::Global;
-
-fn found(bytes: Octets) -> Outcome {
-    Outcome {
-        member: "found",
-        bytes,
-    }
-}
 
 fn answered(bytes: Octets) -> Outcome {
     Outcome {
@@ -33,71 +27,37 @@ fn answered(bytes: Octets) -> Outcome {
 
 pub fn input_outcome(alloc: Global, row: &Tree) -> Result<Outcome, RowFault> {
     only(alloc, row, "input open pieces found")?;
-    let input = bytes_at(alloc, row, "input")?;
-    let ends = !is_true(row, "open")?;
-    let whole = played(alloc, input.as_slice(), input.len(), ends)?;
-    match find(row, "pieces") {
-        None => in_pieces(alloc, whole, input.as_slice(), 1, ends),
-        Some(sizes) => in_sizes(alloc, whole, input.as_slice(), sizes, ends),
-    }
-}
-
-// What was found, unless something else is found in pieces of this size.
-fn in_pieces(
-    alloc: Global,
-    whole: Octets,
-    input: &[u8],
-    size: usize,
-    ends: bool,
-) -> Result<Outcome, RowFault> {
-    let other = played(alloc, input, size, ends)?;
-    if other.equals(whole.as_slice()) {
-        Ok(found(whole))
-    } else {
-        Ok(found(other))
-    }
-}
-
-fn in_sizes(
-    alloc: Global,
-    whole: Octets,
-    input: &[u8],
-    sizes: &Tree,
-    ends: bool,
-) -> Result<Outcome, RowFault> {
-    let Tree::Items(sizes) = sizes else {
-        return Err(RowFault::Malformed("sizes that are no list"));
+    let bytes = bytes_at(alloc, row, "input")?;
+    let input = Input {
+        bytes: bytes.as_slice(),
+        ends: !is_true(row, "open")?,
     };
-    for size in sizes.as_slice() {
-        let other = played(alloc, input, size_of(size)?, ends)?;
-        if !other.equals(whole.as_slice()) {
-            return Ok(found(other));
-        }
-    }
-    Ok(found(whole))
+    let whole = input.found(alloc, bytes.len())?;
+    found_in_pieces(alloc, row, &input, whole)
 }
 
-fn size_of(size: &Tree) -> Result<usize, RowFault> {
-    match size {
-        Tree::Num(number) => Ok(number.size as usize),
-        _ => Err(RowFault::Malformed("a size that is no number")),
-    }
+/// The input of a connection.
+#[derive(Drop)]
+struct Input<'a> {
+    bytes: &'a [u8],
+    ends: bool,
 }
 
-// What is found in an input that comes in pieces of this size.
-fn played(alloc: Global, input: &[u8], size: usize, ends: bool) -> Result<Octets, NoMemory> {
-    let mut intake = Intake::new(alloc);
-    let mut out = Octets::new(alloc);
-    for piece in input.chunks(size.max(1)) {
-        intake.push(piece)?;
-        if take_all(alloc, &mut intake, false, &mut out)? {
-            return Ok(out);
+impl<'a> InPieces for Input<'a> {
+    fn found(&self, alloc: Global, size: usize) -> Result<Octets, NoMemory> {
+        let mut intake = Intake::new(alloc);
+        let mut out = Octets::new(alloc);
+        for piece in self.bytes.chunks(size.max(1)) {
+            intake.push(piece)?;
+            if take_all(alloc, &mut intake, false, &mut out)? {
+                return Ok(out);
+            }
         }
+        if self.ends {
+            take_all(alloc, &mut intake, true, &mut out)?;
+        }
+        Ok(out)
     }
-    if ends {
-        take_all(alloc, &mut intake, true, &mut out)?;
-    }
-    Ok(out)
 }
 
 // Takes what there is, and answers whether that is the end of the requests.

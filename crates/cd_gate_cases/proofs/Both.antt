@@ -1,5 +1,5 @@
 -- Two passes, from a new gate to its end.
-use Rattle.std.proofs.Common.{◌≡◌, ℕ, zero, suc, ◌+◌, Bool, true, false, cond, List, [], ◌∷◌, ◌++◌, length, Some, None, refl, sym, ap, ◌∙◌, subst, arith, eq-eqb, length-append}
+use Rattle.std.proofs.Common.{◌≡◌, ℕ, zero, suc, ◌+◌, Bool, true, false, cond, List, [], ◌∷◌, length, Some, None, refl, sym, ap, ◌∙◌, subst, arith, eq-eqb}
 use mathlib.Core.Option.{some, some-injective, some-ne-none}
 use lib.ListN.{get_elem?}
 use Rattle.cd_legal.specs.declared.state.OpenTicket.{OpenTicket}
@@ -17,7 +17,8 @@ use Rattle.cd_gate_cases.specs.declared.board.Board.{Board}
 use Rattle.cd_gate_cases.specs.declared.board.Board.TheVariants.{Running, Halted, Retired}
 use Rattle.cd_gate_cases.specs.Boards.{state_on, StandsFor}
 use Rattle.cd_gate_cases.specs.Passes.{begins, Has, HasSeenHalt, Met}
-use Rattle.cd_gate_cases.proofs.Turns.{halted_is, halted_stays}
+use Rattle.cd_fixed.proofs.Halted.{halted-stays}
+use Rattle.cd_gate_cases.proofs.Turns.{halted_is}
 
 -- ---- passes
 
@@ -42,18 +43,6 @@ free_of g p q one two = record { each = each }
     each zero r is = subst (λ (z : Pass Board). IsFree z) (some-injective p r is) (one.owes, one.duties)
     each (suc zero) r is = subst (λ (z : Pass Board). IsFree z) (some-injective q r is) (two.owes, two.duties)
     each (suc (suc i)) r is = absurd (some-ne-none r (sym is))
-
-empty : {A : Type 0} (xs : List A) → length xs ≡ 0 → xs ≡ []
-empty [] is = refl
-empty (x ∷ xs) is = absurd (omega arith)
-
--- a list of two from which two were taken
-pub two_of : {A : Type 0} (ps ab bs : List A) (x y : A) → ps ≡ ab ++ y ∷ [] → ab ≡ bs ++ x ∷ [] → length ps ≡ 2 → (ps ≡ x ∷ y ∷ []) × (bs ≡ [])
-two_of ps ab bs x y is has two =
-    let p = ap length is ∙ length-append ab (y ∷ []) in
-    let q = ap length has ∙ length-append bs (x ∷ []) in
-    let none : bs ≡ [] = empty bs (omega arith) in
-    (is ∙ (ap (λ l. l ++ y ∷ []) has ∙ ap (λ l. (l ++ x ∷ []) ++ y ∷ []) none), none)
 
 -- how the two passes of a new gate begin
 pub record Begins (g : Gate Board) (p q : Pass Board) : Type 0 where
@@ -117,7 +106,7 @@ meets o p q b n first second had c =
       log = c.log;
       history = c.history;
       board = c.board;
-      ended = at_end b (sym (halted_is b c.log c.board) ∙ halted_stays (view p).seen c.log one.0 had) (ap (λ (z : State). may_retire z 0) (sym whole) ∙ c.due 0);
+      ended = at_end b (sym (halted_is b c.log c.board) ∙ halted-stays (view p).seen c.log one.0 had) (ap (λ (z : State). may_retire z 0) (sym whole) ∙ c.due 0);
       first = ap begins one.1 ∙ first;
       second = ap begins two.1 ∙ second;
     }

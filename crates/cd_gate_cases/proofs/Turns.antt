@@ -6,19 +6,20 @@ use Rattle.cd_legal.specs.declared.entry.Entry.{Entry}
 use Rattle.cd_legal.specs.declared.entry.Entry.TheVariants.{Begin, Halt, Retire}
 use Rattle.cd_legal.specs.declared.entry.Signed.{Signed}
 use Rattle.cd_legal.specs.declared.state.State.{State}
-use Rattle.cd_legal.specs.Entry.{signed, entries}
+use Rattle.cd_legal.specs.Entry.{signed}
 use Rattle.cd_legal.specs.Laws.{core_at, is_core}
-use Rattle.cd_legal.specs.Legal.{after, state_at, state_from, may_retire}
+use Rattle.cd_legal.specs.Legal.{after, state_at, may_retire}
 use Rattle.cd_legal.specs.State.{has_number}
 use Rattle.cd_legal.specs.Whole.{nothing_left}
 use Rattle.cd_legal.proofs.Cores.{bare-core}
 use Rattle.cd_legal.proofs.Facts.{is-less}
 use Rattle.cd_legal.proofs.Histories.{first, second}
-use Rattle.cd_legal.proofs.Logs.{prefix_more, state-append, state-snoc}
+use Rattle.cd_legal.proofs.Logs.{prefix_more, state-snoc}
 use Rattle.cd_gate.specs.declared.view.View.{View}
 use Rattle.cd_gate.specs.Tables.{Found}
 use Rattle.cd_gate.proofs.Cored.{one_more}
 use Rattle.cd_gate.proofs.Entries.{core_quiet, left_bare}
+use Rattle.cd_fixed.proofs.Halted.{halted-stays}
 use Rattle.cd_gate_cases.specs.declared.board.Board.{Board}
 use Rattle.cd_gate_cases.specs.declared.board.Board.TheVariants.{Running, Halted, Retired}
 use Rattle.cd_gate_cases.specs.Boards.{state_on, StandsFor}
@@ -33,6 +34,12 @@ stands_now b v log f turn stands = ap state_at (f.in_turn turn) ∙ stands
 -- a request has begun or ended
 pub stands_quiet : (b : Board) (log : List Signed) (k : ℕ) (e : Entry) → is_core e ≡ false → StandsFor b (core_at log) → StandsFor b (core_at (log ++ signed k e ∷ []))
 stands_quiet b log k e is stands = ap state_at (core_quiet log k e is) ∙ stands
+
+-- a pass has looked for room, and begun a request
+pub stands_begun : (b : Board) (v w : View Board) (log more : List Signed) (n : ℕ) → StandsFor b (core_at v.seen) → v.turn ≡ true → Found v log → w.seen ≡ log → w.turn ≡ true → Found w more
+    → StandsFor b (core_at (more ++ signed w.number (Begin w.number n) ∷ []))
+stands_begun b v w log more n stands turn f looked still g =
+    stands_quiet b more w.number (Begin w.number n) refl (stands_now b w more g still (ap (λ (l : List Signed). state_at (core_at l)) looked ∙ stands_now b v log f turn stands))
 
 -- the board has made the entry
 pub stands_next : (b c : Board) (log : List Signed) (k : ℕ) (e : Entry) → is_core e ≡ true → state_on c ≡ after (state_on b) e → StandsFor b (core_at log) → StandsFor c (core_at (log ++ signed k e ∷ []))
@@ -122,23 +129,11 @@ begins-same xs k e is = begins-snoc xs k e ∙ same (begins xs) (cond (is_begin 
     same : (a b : ℕ) → b ≡ 0 → a + b ≡ a
     same a b is = omega arith
 
--- ---- the halt stays
-
-halted_after : (s : State) (e : Entry) → s.halted ≡ true → (after s e).halted ≡ true
-halted_after s (Halt n) is = refl
-halted_after s e is = is
-
-halted_from : (s : State) (es : List Entry) → s.halted ≡ true → (state_from s es).halted ≡ true
-halted_from s [] is = is
-halted_from s (e ∷ es) is = halted_from (after s e) es (halted_after s e is)
-
-pub halted_stays : (xs ys : List Signed) → IsPrefix xs ys → (state_at xs).halted ≡ true → (state_at ys).halted ≡ true
-halted_stays xs ys p is =
-    ap (λ (l : List Signed). (state_at l).halted) (sym p.1) ∙ (ap (λ (s : State). s.halted) (state-append xs p.0) ∙ halted_from (state_at xs) (entries p.0) is)
+-- ---- what more was seen
 
 -- a pass that has seen more has seen it too
 pub seen_on : (v w : View Board) (log : List Signed) → IsPrefix v.seen log → w.seen ≡ log → (state_at v.seen).halted ≡ true → (state_at w.seen).halted ≡ true
-seen_on v w log p is had = halted_stays v.seen w.seen (subst (λ (l : List Signed). IsPrefix v.seen l) (sym is) p) had
+seen_on v w log p is had = halted-stays v.seen w.seen (subst (λ (l : List Signed). IsPrefix v.seen l) (sym is) p) had
 
 pub seen_more : (v w : View Board) (log more : List Signed) → IsPrefix v.seen log → w.seen ≡ log ++ more → (state_at v.seen).halted ≡ true → (state_at w.seen).halted ≡ true
 seen_more v w log more p is had = seen_on v w (log ++ more) (prefix_more v.seen log more p) is had

@@ -6,7 +6,8 @@ ghost use Rattle.cd_gate_cases.specs.Passes.{Has, HasSeenHalt, begun, Met};
 
 use crate::board::Board;
 use crate::halting::halt;
-use crate::requests::serve;
+use crate::requests::{Caller, serve};
+use cd_fixed::{put_two, take_two};
 use cd_gate::{Gate, NoGate, Pass};
 use std::alloc::Global;
 use std::sync::Wait;
@@ -29,21 +30,15 @@ pub struct Ended {
 }
 
 // The pass serves so many requests, halts the host, unless it was halted, and serves as many more. It says how many duties it had.
-fn play<R: Wait>(
-    rt: &R,
-    gate: &Gate<Board>,
-    pass: &mut Pass<Board>,
-    number: u32,
-    requests: u32,
-) -> Option<u32>
-    requires { Has gate.now pass.old number None [] }
-    ensures has { Has gate.now pass.new number None [] }
+fn play<R: Wait>(caller: &Caller<'_, R>, pass: &mut Pass<Board>, requests: u32) -> Option<u32>
+    requires { Has caller.now.gate.now pass.old caller.now.number None [] }
+    ensures has { Has caller.now.gate.now pass.new caller.now.number None [] }
     ensures begun { IfSome result (λ _. begun pass.new ≡ begun pass.old + 2 * requests) }
     ensures halted { IfSome result (λ _. HasSeenHalt pass.new) }
 {
-    let before = serve(rt, gate, pass, number, requests)?;
-    let halted = halt(rt, gate, pass, number);
-    let after = serve(rt, gate, pass, number, requests)?;
+    let before = serve(caller, pass, requests)?;
+    let halted = halt(caller, pass);
+    let after = serve(caller, pass, requests)?;
     Some(before.wrapping_add(halted).wrapping_add(after))
 }
 
@@ -64,8 +59,22 @@ fn play_both<R: Threads + Wait + Sync>(
 {
     let played = join_mut(
         rt,
-        &mut || play(rt, gate, one, 0, requests),
-        &mut || play(rt, gate, two, 1, requests),
+        &mut || {
+            let caller = Caller {
+                rt,
+                gate,
+                number: 0,
+            };
+            play(&caller, one, requests)
+        },
+        &mut || {
+            let caller = Caller {
+                rt,
+                gate,
+                number: 1,
+            };
+            play(&caller, two, requests)
+        },
     );
     gate.tell(one, two);
     played
@@ -75,16 +84,13 @@ fn play_both<R: Threads + Wait + Sync>(
 pub fn meet<R: Threads + Wait + Sync>(rt: &R, alloc: Global, requests: u32) -> Result<Ended, NotMet>
     ensures { IfOk result (λ ended. Met ended.board (2 * requests)) }
 {
-    let (gate, mut passes) = match Gate::new(alloc, Board::Running, 2) {
+    let (gate, passes) = match Gate::new(alloc, Board::Running, 2) {
         Ok(made) => made,
         Err(NoGate { value: _ }) => return Err(NotMet::NoMemory),
     };
-    let mut two = passes.pop().unwrap();
-    let mut one = passes.pop().unwrap();
+    let (mut one, mut two, empty) = take_two(passes);
     let played = play_both(rt, &gate, &mut one, &mut two, requests);
-    passes.push_reserved(one);
-    passes.push_reserved(two);
-    let board = gate.close(passes);
+    let board = gate.close(put_two(empty, one, two));
     match played {
         (Some(first), Some(second)) => Ok(Ended {
             board,

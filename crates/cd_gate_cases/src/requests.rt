@@ -15,6 +15,14 @@ pub struct Request {
     pub halted: bool,
 }
 
+/// By what a pass of this number calls the gate.
+#[derive(Drop)]
+pub struct Caller<'a, R> {
+    pub rt: &'a R,
+    pub gate: &'a Gate<Board>,
+    pub number: u32,
+}
+
 struct NamesRetire;
 
 impl Names<u32> for NamesRetire {
@@ -24,90 +32,78 @@ impl Names<u32> for NamesRetire {
 }
 
 // Begins a request in a turn, as the board says whether the host is halted. None where no request more may begin.
-fn begin<R: Wait>(
-    rt: &R,
-    gate: &Gate<Board>,
-    pass: &mut Pass<Board>,
-    number: u32,
-) -> Option<Request>
-    requires { Has gate.now pass.old number None [] }
-    ensures has { IfSome result (λ request. Has gate.now pass.new number (Some request.serial) []) }
+fn begin<R: Wait>(caller: &Caller<'_, R>, pass: &mut Pass<Board>) -> Option<Request>
+    requires { Has caller.now.gate.now pass.old caller.now.number None [] }
+    ensures has { IfSome result (λ request. Has caller.now.gate.now pass.new caller.now.number (Some request.serial) []) }
     ensures seen { IfSome result (λ request. HasSeen pass.new request) }
     ensures begun { IfSome result (λ _. begun pass.new ≡ begun pass.old + 1) }
     ensures halted { HasSeenHalt pass.old → HasSeenHalt pass.new }
-    ensures none { result ≡ None → Has gate.now pass.new number None [] }
+    ensures none { result ≡ None → Has caller.now.gate.now pass.new caller.now.number None [] }
 {
-    let turn = gate.enter(rt, pass);
+    let turn = caller.gate.enter(caller.rt, pass);
     let halted = turn.value.is_halted();
-    if !gate.check(pass) {
-        gate.leave(turn, pass);
+    if !caller.gate.check(pass) {
+        caller.gate.leave(turn, pass);
         return None;
     }
-    let serial = gate.begin_step(pass);
-    gate.leave(turn, pass);
+    let serial = caller.gate.begin_step(pass);
+    caller.gate.leave(turn, pass);
     Some(Request { serial, halted })
 }
 
 // Ends the request by one step, which waits for nobody. It says whether its serial is then due.
-fn finish(gate: &Gate<Board>, pass: &mut Pass<Board>, number: u32, request: Request) -> bool
-    requires has { Has gate.now pass.old number (Some request.serial) [] }
+fn finish<R>(caller: &Caller<'_, R>, pass: &mut Pass<Board>, request: Request) -> bool
+    requires has { Has caller.now.gate.now pass.old caller.now.number (Some request.serial) [] }
     requires seen { HasSeen pass.old request }
-    ensures has { Has gate.now pass.new number None (more_due result request.serial []) }
+    ensures has { Has caller.now.gate.now pass.new caller.now.number None (more_due result request.serial []) }
     ensures begun { begun pass.new ≡ begun pass.old }
     ensures halted { HasSeenHalt pass.old → HasSeenHalt pass.new }
 {
-    gate.finish_step(pass, request.serial, request.halted)
+    caller
+        .gate
+        .finish_step(pass, request.serial, request.halted)
 }
 
 /// The pass retires the serial, which is its duty.
-pub fn retire<R: Wait>(rt: &R, gate: &Gate<Board>, pass: &mut Pass<Board>, number: u32, serial: u32)
-    requires { Has gate.now pass.old number None (serial ∷ []) }
-    ensures has { Has gate.now pass.new number None [] }
+pub fn retire<R: Wait>(caller: &Caller<'_, R>, pass: &mut Pass<Board>, serial: u32)
+    requires { Has caller.now.gate.now pass.old caller.now.number None (serial ∷ []) }
+    ensures has { Has caller.now.gate.now pass.new caller.now.number None [] }
     ensures begun { begun pass.new ≡ begun pass.old }
     ensures halted { HasSeenHalt pass.old → HasSeenHalt pass.new }
 {
-    let mut turn = gate.enter(rt, pass);
+    let mut turn = caller.gate.enter(caller.rt, pass);
     turn.value = Board::Retired;
-    gate.note::<u32, NamesRetire>(&mut turn, pass, &serial);
-    gate.leave(turn, pass);
+    caller
+        .gate
+        .note::<u32, NamesRetire>(&mut turn, pass, &serial);
+    caller.gate.leave(turn, pass);
 }
 
 // The pass begins a request and ends it. It says whether it had a duty, or `None` where no request more may begin.
-fn serve_one<R: Wait>(
-    rt: &R,
-    gate: &Gate<Board>,
-    pass: &mut Pass<Board>,
-    number: u32,
-) -> Option<bool>
-    requires { Has gate.now pass.old number None [] }
-    ensures has { Has gate.now pass.new number None [] }
+fn serve_one<R: Wait>(caller: &Caller<'_, R>, pass: &mut Pass<Board>) -> Option<bool>
+    requires { Has caller.now.gate.now pass.old caller.now.number None [] }
+    ensures has { Has caller.now.gate.now pass.new caller.now.number None [] }
     ensures begun { IfSome result (λ _. begun pass.new ≡ begun pass.old + 1) }
     ensures halted { HasSeenHalt pass.old → HasSeenHalt pass.new }
 {
-    let request = begin(rt, gate, pass, number)?;
-    if finish(gate, pass, number, request) {
-        retire(rt, gate, pass, number, request.serial);
+    let request = begin(caller, pass)?;
+    if finish(caller, pass, request) {
+        retire(caller, pass, request.serial);
         return Some(true);
     }
     Some(false)
 }
 
 /// The pass begins and ends so many requests. It says how many duties it had, or `None` where no request more may begin.
-pub fn serve<R: Wait>(
-    rt: &R,
-    gate: &Gate<Board>,
-    pass: &mut Pass<Board>,
-    number: u32,
-    requests: u32,
-) -> Option<u32>
-    requires { Has gate.now pass.old number None [] }
-    ensures has { Has gate.now pass.new number None [] }
+pub fn serve<R: Wait>(caller: &Caller<'_, R>, pass: &mut Pass<Board>, requests: u32) -> Option<u32>
+    requires { Has caller.now.gate.now pass.old caller.now.number None [] }
+    ensures has { Has caller.now.gate.now pass.new caller.now.number None [] }
     ensures begun { IfSome result (λ _. begun pass.new ≡ begun pass.old + requests) }
     ensures halted { HasSeenHalt pass.old → HasSeenHalt pass.new }
 {
     let mut duties: u32 = 0;
     for _ in 0..requests {
-        if serve_one(rt, gate, pass, number)? {
+        if serve_one(caller, pass)? {
             duties = duties.wrapping_add(1);
         }
     }

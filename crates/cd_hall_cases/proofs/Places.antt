@@ -8,7 +8,9 @@ use Rattle.cd_gate.proofs.Views.{in_range}
 use Rattle.cd_life.specs.declared.board.Board.{Board}
 use Rattle.cd_hall.specs.declared.hall.Hall.{Hall}
 use Rattle.cd_hall.specs.Ends.{ArePassesOf, IsHalted}
-use Rattle.cd_hall_cases.specs.Passes.{Has, HasServed}
+use Rattle.cd_pair.specs.Passes.{Has}
+use Rattle.cd_pair.proofs.Both.{begins_at}
+use Rattle.cd_hall_cases.specs.Passes.{HasServed}
 
 -- what is found at a place is what an index gives
 found : {A : Type 0} (xs : List A) (i : ℕ) (p : A) → get_elem? xs i ≡ some p → slice_index_or xs i p ≡ p
@@ -27,18 +29,7 @@ module _ {A F B : Type 0} {g : _} (h : Hall A F B g) where
 
   -- how the passes of a new hall begin
   pub begin_of : (ps : List OfHall) → IsRowOf h.gate ps × AreNew ps × (length ps ≡ 2) → ArePassesOf h ps → (i : ℕ) (d : OfHall) → i < length ps → Has h (slice_index_or ps i d) i None None []
-  begin_of ps f ours i d lt =
-      let p = slice_index_or ps i d in
-      let at : get_elem? ps i ≡ some p = there ps i d lt in
-      record {
-        pass = ours i p at;
-        number = (f.0.each i p at).1;
-        owes = (f.1.each i p at).2.0;
-        duties = (f.1.each i p at).2.1;
-        root = λ first.
-            let first_at : get_elem? ps 0 ≡ some p = subst (λ (n : ℕ). get_elem? ps n ≡ some p) first at in
-            ((f.0.root p first_at).0 ∙ f.2, (f.0.root p first_at).1);
-      }
+  begin_of ps f ours i d lt = begins_at h ps f ours i (slice_index_or ps i d) (there ps i d lt)
 
   -- they are done, as many as there were
   abbrev pub AreDone : List OfHall → List OfHall → Type 0

@@ -1,31 +1,13 @@
--- What is known of a pass between its calls.
-use Rattle.std.specs.Prelude.{◌≡◌, ℕ, true, false, List, [], Option, None}
-use Rattle.cd_tree.specs.declared.tree.Tree.{Tree}
+-- What is known of a pass whose thread is done.
+use Rattle.std.specs.Prelude.{◌≡◌, ℕ, true, [], None}
 use Rattle.cd_legal.specs.Legal.{state_at}
 use Rattle.cd_gate.specs.declared.pass.Pass.{Pass}
 use Rattle.cd_gate.specs.Passes.{view}
-use Rattle.cd_gate.specs.Words.{owed}
 use Rattle.cd_life.specs.declared.board.Board.{Board}
 use Rattle.cd_hall.specs.declared.hall.Hall.{Hall}
-use Rattle.cd_hall.specs.Calls.{IsPassOf}
-use Rattle.cd_hall.specs.Drafts.{Held}
+use Rattle.cd_pair.specs.Passes.{Has}
 
--- a pass of the hall with this number, which has this ticket, this draft and these duties; that of number 0 began with two passes
-pub record Has {A F B : Type 0} {g : _} (h : Hall A F B g) (p : Pass (Board A F B g)) (k : ℕ) (ticket draft : Option ℕ) (due : List ℕ) : Type 0 where
-  pub pass : IsPassOf h p
-  pub number : (view p).number ≡ k
-  pub owes : owed (view p) ≡ record { ticket = ticket; draft = draft }
-  pub duties : (view p).duties ≡ due
-  pub root : k ≡ 0 → ((view p).made ≡ 2) × ((view p).joined ≡ [])
-
--- a draft of this tree of which nothing is there yet
-pub record IsNew (h : Held) (t : Tree) : Type 0 where
-  pub tree : h.tree ≡ t
-  pub made : h.made ≡ 0
-  pub started : h.started ≡ 0
-  pub failed : h.failed ≡ false
-
--- a pass of the hall that is done: that of number 0 has seen the halt
+-- that of number 0 has seen the halt
 pub record HasServed {A F B : Type 0} {g : _} (h : Hall A F B g) (p : Pass (Board A F B g)) (k : ℕ) : Type 0 where
   pub has : Has h p k None None []
   pub halted : k ≡ 0 → (state_at (view p).seen).halted ≡ true

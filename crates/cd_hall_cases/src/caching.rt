@@ -3,15 +3,13 @@ ghost use Rattle.std.specs.Prelude.{◌≡◌, [], Some, None};
 ghost use Rattle.cd_gate.specs.Passes.{view};
 ghost use Rattle.cd_hall.specs.Caches.{IsCacheOf};
 ghost use Rattle.cd_hall.specs.Tickets.{IsTicketOf};
-ghost use Rattle.cd_hall_cases.specs.Passes.{Has};
+ghost use Rattle.cd_pair.specs.Passes.{Has};
 
-use crate::changes::Refused;
-use crate::fixed::Fixed;
-use crate::requests::retire;
-use cd_gate::Pass;
-use cd_hall::{Cache, Hall, NoFetch, Now, Ticket, caches_keep_their_configurations};
+use crate::plans::{On, Player, Set};
+use cd_hall::{Cache, NoFetch, Now, Ticket, caches_keep_their_configurations};
 use cd_life::Board;
 use cd_outside::MemoryFixtures;
+use cd_pair::Refused;
 use std::sync::Wait;
 
 /// A request that began and ended.
@@ -25,23 +23,22 @@ pub struct Asked {
 
 /// The pass begins a request by its cache, and ends it.
 pub fn ask_now<R: Wait>(
-    rt: &R,
-    hall: &Hall<Fixed, MemoryFixtures>,
-    pass: &mut Pass<Board<Fixed, MemoryFixtures>>,
-    cache: &mut Cache<Fixed>,
+    on: &On<'_, R>,
+    pass: &mut Player,
+    cache: &mut Cache<Set>,
     number: u32,
 ) -> Result<Asked, Refused>
-    requires has { Has hall.now pass.old number None None [] }
+    requires has { Has on.now.hall.now pass.old number None None [] }
     requires cache { IsCacheOf (view pass.old) cache.old }
-    ensures has { Has hall.now pass.new number None None [] }
+    ensures has { Has on.now.hall.now pass.new number None None [] }
     ensures cache { IsCacheOf (view pass.new) cache.new }
 {
-    match hall.begin_now(pass, cache) {
-        Now::Ready(ticket) => Ok(end_now(rt, hall, pass, cache, ticket, true, number)),
-        Now::Stale(hold) => match hall.fetch(rt, hold, cache, pass) {
-            Ok(ticket) => Ok(end_now(rt, hall, pass, cache, ticket, false, number)),
+    match on.hall.begin_now(pass, cache) {
+        Now::Ready(ticket) => Ok(end_now(on, pass, cache, ticket, true, number)),
+        Now::Stale(hold) => match on.hall.fetch(on.rt, hold, cache, pass) {
+            Ok(ticket) => Ok(end_now(on, pass, cache, ticket, false, number)),
             Err(NoFetch { duty }) => {
-                retire(rt, hall, pass, duty, number);
+                on.retire(pass, duty, number);
                 Err(Refused::NoMemory)
             }
         },
@@ -51,22 +48,21 @@ pub fn ask_now<R: Wait>(
 
 // Ends the request, whose configuration the cache then has, and retires what is due.
 fn end_now<R: Wait>(
-    rt: &R,
-    hall: &Hall<Fixed, MemoryFixtures>,
-    pass: &mut Pass<Board<Fixed, MemoryFixtures>>,
-    cache: &mut Cache<Fixed>,
-    ticket: Ticket<Fixed>,
+    on: &On<'_, R>,
+    pass: &mut Player,
+    cache: &mut Cache<Set>,
+    ticket: Ticket<Set>,
     ready: bool,
     number: u32,
 ) -> Asked
-    requires has { Has hall.now pass.old number (Some ticket.serial) None [] }
+    requires has { Has on.now.hall.now pass.old number (Some ticket.serial) None [] }
     requires ticket { IsTicketOf (view pass.old) ticket }
-    ensures has { Has hall.now pass.new number None None [] }
+    ensures has { Has on.now.hall.now pass.new number None None [] }
     ensures cache { IsCacheOf (view pass.new) cache.new }
 {
     let serial = ticket.serial();
-    let duty = hall.finish_now(ticket, cache, pass);
-    retire(rt, hall, pass, duty, number);
-    caches_keep_their_configurations::<Board<Fixed, MemoryFixtures>, Fixed>(cache);
+    let duty = on.hall.finish_now(ticket, cache, pass);
+    on.retire(pass, duty, number);
+    caches_keep_their_configurations::<Board<Set, MemoryFixtures>, Set>(cache);
     Asked { serial, ready }
 }

@@ -1,26 +1,21 @@
 //! Requests, changes and the halt of a hall, and the openings of its drafts, under two configurations that never change.
 //!
-//! The set of modules (fixed.rt) has two configurations (plans.rt). The calls of a pass are in requests.rt, caching.rt, changes.rt,
-//! opening.rt and halting.rt: each spends its ticket, draft and duty, also where memory runs out. scenes.rt has what happens in a hall of two
-//! passes, meeting.rt makes the hall and ends it, and telling.rt prints what it came to. In threads.rt each of two passes has a
-//! thread of its own.
+//! Of the set of modules (`cd_fixed`) the two configurations are in plans.rt. Most calls of a pass are in `cd_pair`, which also makes the
+//! hall and ends it; those of changes, openings and a cache are in changes.rt, opening.rt and caching.rt: each spends its ticket, draft
+//! and duty, also where memory runs out. scenes.rt has what happens in a hall of two passes, and telling.rt prints what it came to. In
+//! threads.rt each of two passes has a thread of its own.
 #![tactic(auto)]
 
 mod caching;
 mod changes;
 mod counts;
-mod fixed;
-mod halting;
-mod meeting;
 mod opening;
 mod plans;
-mod requests;
 mod scenes;
 mod telling;
 mod threads;
 
-use meeting::meet;
-use scenes::Scene;
+use scenes::{Scene, meet};
 use std::process::ExitCode;
 use telling::{tell, tell_threads};
 use threads::meet_in_threads;
@@ -45,10 +40,10 @@ const SCENES: [Scene; 15] = [
 
 fn main(rt: HostRuntime) -> ExitCode {
     for scene in SCENES {
-        let Ok(ended) = meet(&rt, rt.alloc(), scene) else {
+        let Ok((named, ended)) = meet(&rt, rt.alloc(), scene) else {
             return ExitCode::from(2);
         };
-        if tell(&rt, scene, &ended).is_err() {
+        if tell(&rt, scene, &named, &ended).is_err() {
             return ExitCode::from(2);
         }
     }

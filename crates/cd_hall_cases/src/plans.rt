@@ -1,43 +1,45 @@
-// What the two configurations consist of.
-ghost use Rattle.std.specs.Prelude.{◌≡◌, ◌≤◌, ◌∷◌, [], IfOk, codes, length};
+// What the two configurations consist of, and names for the passes of a hall under them.
+ghost use Rattle.std.specs.Prelude.{◌≡◌, ◌∷◌, [], IfOk, codes};
 ghost use Rattle.cd_outside.specs.declared.key.Key.TheVariants.{Listen, Writer};
-ghost use Rattle.cd_tree.specs.declared.tree.Tree.{out-Tree};
-ghost use Rattle.cd_hall_cases.specs.Fixed.{fixed_plan, plain_plan, wide_plan, is_true_layer, localhost};
+ghost use Rattle.cd_hall_cases.specs.Plans.{plain_plan, wide_plan, localhost};
 
+use cd_fixed::{Fixed, Plans, list_of};
 use cd_legal::{Plan, PlanApp, PlanModule};
 use cd_outside::{Address, Key};
+use cd_pair::Table;
 use cd_text::{List, NoMemory, Text};
-use cd_tree::{Path, Tree};
+use cd_tree::Path;
 use std::alloc::Global;
 
-/// What the configuration of a tree consists of.
-pub fn plan_for(alloc: Global, tree: &Tree) -> Result<Plan, NoMemory>
-    ensures plan { IfOk result (λ plan. plan ≡ fixed_plan tree.now) }
-    ensures modules { IfOk result (λ plan. length plan.modules ≤ 3) }
-    ensures apps { IfOk result (λ plan. length plan.apps ≤ 2) }
-{
-    if is_true(tree) {
-        wide(alloc)
-    } else {
-        plain(alloc)
-    }
-}
+/// The first configuration is the plain one, and the other the wide one.
+pub struct PlainAndWide;
 
-/// Whether the tree is true.
-pub fn is_true(tree: &Tree) -> bool
-    ensures { result ≡ is_true_layer (out-Tree tree.now) }
-{
-    match tree {
-        Tree::Bool(truth) => *truth,
-        _ => false,
+/// Where passes are at work in this program.
+pub type On<'a, R> = cd_pair::Stage<'a, R, Set>;
+
+/// Such a pass, and two of them.
+pub type Player = cd_pair::Player<Set>;
+
+pub type Pair = cd_pair::Pair<Table<Set>>;
+
+/// The set of modules.
+pub type Set = Fixed<PlainAndWide>;
+
+impl Plans for PlainAndWide {
+    ghost use Rattle.cd_hall_cases.specs.Plans.{plain_or_wide};
+
+    ghost planned = { plain_or_wide };
+
+    fn plan(alloc: Global, other: bool) -> Result<Plan, NoMemory> {
+        if other { wide(alloc) } else { plain(alloc) }
     }
 }
 
 fn plain(alloc: Global) -> Result<Plan, NoMemory>
     ensures { IfOk result (λ plan. plan ≡ plain_plan) }
 {
-    let modules = one(alloc, writer(alloc)?)?;
-    let apps = one(alloc, listener(alloc)?)?;
+    let modules = list_of(alloc, writer(alloc)?)?;
+    let apps = list_of(alloc, listener(alloc)?)?;
     Ok(Plan { modules, apps })
 }
 
@@ -60,7 +62,7 @@ fn writers(alloc: Global) -> Result<List<PlanModule>, NoMemory>
 fn writer(alloc: Global) -> Result<PlanModule, NoMemory>
     ensures { IfOk result (λ made. made ≡ record { name = codes "writer"; at = record { parts = [] }; keys = Writer (codes "stdout") ∷ [] }) }
 {
-    let keys = one(alloc, writes(alloc, "stdout")?)?;
+    let keys = list_of(alloc, writes(alloc, "stdout")?)?;
     module(alloc, "writer", keys)
 }
 
@@ -89,7 +91,7 @@ fn tracer(alloc: Global) -> Result<PlanModule, NoMemory>
 fn listener(alloc: Global) -> Result<PlanApp, NoMemory>
     ensures { IfOk result (λ app. app ≡ record { name = codes "listener"; keys = Listen (localhost 8080) ∷ [] }) }
 {
-    let keys = one(alloc, listens(alloc, 8080)?)?;
+    let keys = list_of(alloc, listens(alloc, 8080)?)?;
     let name = Text::from_str(alloc, "listener")?;
     Ok(PlanApp { name, keys })
 }
@@ -123,18 +125,10 @@ fn listens(alloc: Global, port: u16) -> Result<Key, NoMemory>
     Ok(Key::Listen(Address { host, port }))
 }
 
-fn one<T: Drop>(alloc: Global, first: T) -> Result<List<T>, NoMemory>
-    ensures { IfOk result (λ list. list ≡ first ∷ []) }
-{
-    let mut list = List::new(alloc);
-    list.push(first)?;
-    Ok(list)
-}
-
 fn two<T: Drop>(alloc: Global, first: T, second: T) -> Result<List<T>, NoMemory>
     ensures { IfOk result (λ list. list ≡ first ∷ second ∷ []) }
 {
-    let mut list = one(alloc, first)?;
+    let mut list = list_of(alloc, first)?;
     list.push(second)?;
     Ok(list)
 }

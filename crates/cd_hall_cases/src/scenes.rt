@@ -1,21 +1,17 @@
 // What happens in a hall of two passes. Each scene ends with no ticket, no draft and no duty, and names what it shows.
-ghost use Rattle.std.specs.Prelude.{◌≡◌, [], Some, None};
+ghost use Rattle.std.specs.Prelude.{None};
 ghost use Rattle.cd_gate.specs.Passes.{view};
 ghost use Rattle.cd_hall.specs.Caches.{IsCacheOf};
-ghost use Rattle.cd_hall.specs.Tickets.{IsTicketOf};
-ghost use Rattle.cd_hall_cases.specs.Passes.{Has};
+ghost use Rattle.cd_pair.specs.Pairs.{AreIdle};
+ghost use Rattle.cd_pair.specs.Passes.{Runs};
 
 use crate::caching::{Asked, ask_now};
-use crate::changes::{Refused, open_and_give_up, publish, reload, reload_times};
-use crate::fixed::Fixed;
-use crate::halting::halt;
-use crate::requests::{begin, end};
-use cd_gate::Pass;
-use cd_hall::{Cache, Hall, Ticket};
+use crate::changes::{open_and_give_up, publish, reload, reload_times};
+use crate::plans::{On, Pair, Set};
+use cd_hall::{Cache, Ticket};
 use cd_legal::MAX_UNRETIRED;
-use cd_life::Board;
-use cd_outside::{Key, MemoryFixtures};
-use cd_text::{List, NoMemory};
+use cd_outside::Key;
+use cd_pair::{Ended, Refused, Stage, close_hall, open_hall};
 use std::alloc::Global;
 use std::sync::Wait;
 
@@ -57,105 +53,86 @@ pub enum Named {
 }
 
 impl Scene {
-    /// Which openings fail in the scene.
-    pub fn failing(self, alloc: Global) -> Result<List<u64>, NoMemory> {
-        let mut failing = List::new(alloc);
-        if let Scene::Fails(number) = self {
-            failing.push(number)?;
+    /// Which opening fails in the scene.
+    fn fails(self) -> Option<u64> {
+        match self {
+            Scene::Fails(number) => Some(number),
+            _ => None,
         }
-        Ok(failing)
     }
 }
 
-/// Plays the scene.
-pub fn play<R: Wait>(
-    rt: &R,
-    alloc: Global,
-    hall: &Hall<Fixed, MemoryFixtures>,
-    one: &mut Pass<Board<Fixed, MemoryFixtures>>,
-    two: &mut Pass<Board<Fixed, MemoryFixtures>>,
-    scene: Scene,
-) -> Result<Named, Refused>
-    requires one { Has hall.now one.old 0 None None [] }
-    requires two { Has hall.now two.old 1 None None [] }
-    ensures one { Has hall.now one.new 0 None None [] }
-    ensures two { Has hall.now two.new 1 None None [] }
+/// Two passes of a hall play the scene, and the hall is halted and closed.
+pub fn meet<R: Wait>(rt: &R, alloc: Global, scene: Scene) -> Result<(Named, Ended), Refused> {
+    let (hall, mut pair, places) = open_hall(alloc, scene.fails())?;
+    let played = play(
+        &Stage {
+            rt,
+            alloc,
+            hall: &hall,
+        },
+        &mut pair,
+        scene,
+    );
+    let ended = close_hall(rt, alloc, hall, pair, places);
+    Ok((played?, ended))
+}
+
+fn play<R: Wait>(on: &On<'_, R>, pair: &mut Pair, scene: Scene) -> Result<Named, Refused>
+    requires { AreIdle on.now.hall.now pair.old }
+    ensures { AreIdle on.now.hall.now pair.new }
 {
     match scene {
-        Scene::InUse => in_use(rt, alloc, hall, one, two),
-        Scene::Superseded => superseded(rt, alloc, hall, one, two),
-        Scene::ChangerEndsLast => both_end(rt, alloc, hall, one, two, false),
-        Scene::ChangerEndsFirst => both_end(rt, alloc, hall, one, two, true),
-        Scene::Halted => halted(rt, alloc, hall, one, two),
-        Scene::HaltedAtRest => halted_at_rest(rt, alloc, hall, one),
-        Scene::Fails(_) => opens(rt, alloc, hall, one),
-        Scene::Opens => opens(rt, alloc, hall, one),
-        Scene::GivenUp => given_up(rt, alloc, hall, one),
-        Scene::Overlaps => overlaps(rt, alloc, hall, one),
-        Scene::Cached => cached(rt, alloc, hall, one, two),
+        Scene::InUse => in_use(on, pair),
+        Scene::Superseded => superseded(on, pair),
+        Scene::ChangerEndsLast => both_end(on, pair, false),
+        Scene::ChangerEndsFirst => both_end(on, pair, true),
+        Scene::Halted => halted(on, pair),
+        Scene::HaltedAtRest => halted_at_rest(on, pair),
+        Scene::Fails(_) => opens(on, pair),
+        Scene::Opens => opens(on, pair),
+        Scene::GivenUp => given_up(on, pair),
+        Scene::Overlaps => overlaps(on, pair),
+        Scene::Cached => cached(on, pair),
     }
 }
 
-fn in_use<R: Wait>(
-    rt: &R,
-    alloc: Global,
-    hall: &Hall<Fixed, MemoryFixtures>,
-    one: &mut Pass<Board<Fixed, MemoryFixtures>>,
-    two: &mut Pass<Board<Fixed, MemoryFixtures>>,
-) -> Result<Named, Refused>
-    requires one { Has hall.now one.old 0 None None [] }
-    requires two { Has hall.now two.old 1 None None [] }
-    ensures one { Has hall.now one.new 0 None None [] }
-    ensures two { Has hall.now two.new 1 None None [] }
+fn in_use<R: Wait>(on: &On<'_, R>, pair: &mut Pair) -> Result<Named, Refused>
+    requires { AreIdle on.now.hall.now pair.old }
+    ensures { AreIdle on.now.hall.now pair.new }
 {
-    reload(rt, alloc, hall, one, false, 0)?;
-    let ticket = begin(rt, hall, two, 1)?;
-    let followed = reload_times(rt, alloc, hall, one, 0, MAX_UNRETIRED - 1);
-    let refused = serial_in(reload(rt, alloc, hall, one, false, 0));
-    end(rt, hall, two, ticket, 1);
+    reload(on, &mut pair.one, false, 0)?;
+    let ticket = on.begin(&mut pair.two, 1)?;
+    let followed = reload_times(on, &mut pair.one, MAX_UNRETIRED - 1);
+    let refused = serial_in(reload(on, &mut pair.one, false, 0));
+    on.end(&mut pair.two, ticket, 1);
     followed?;
-    reload(rt, alloc, hall, one, false, 0)?;
+    reload(on, &mut pair.one, false, 0)?;
     Ok(Named::Number(refused))
 }
 
-fn superseded<R: Wait>(
-    rt: &R,
-    alloc: Global,
-    hall: &Hall<Fixed, MemoryFixtures>,
-    one: &mut Pass<Board<Fixed, MemoryFixtures>>,
-    two: &mut Pass<Board<Fixed, MemoryFixtures>>,
-) -> Result<Named, Refused>
-    requires one { Has hall.now one.old 0 None None [] }
-    requires two { Has hall.now two.old 1 None None [] }
-    ensures one { Has hall.now one.new 0 None None [] }
-    ensures two { Has hall.now two.new 1 None None [] }
+fn superseded<R: Wait>(on: &On<'_, R>, pair: &mut Pair) -> Result<Named, Refused>
+    requires { AreIdle on.now.hall.now pair.old }
+    ensures { AreIdle on.now.hall.now pair.new }
 {
-    reload(rt, alloc, hall, one, false, 0)?;
-    let ticket = begin(rt, hall, two, 1)?;
-    let followed = reload(rt, alloc, hall, one, false, 0);
-    let refused = serial_in(publish(rt, alloc, hall, two, &ticket, false, 1));
-    end(rt, hall, two, ticket, 1);
+    reload(on, &mut pair.one, false, 0)?;
+    let ticket = on.begin(&mut pair.two, 1)?;
+    let followed = reload(on, &mut pair.one, false, 0);
+    let refused = serial_in(publish(on, &mut pair.two, &ticket, false, 1));
+    on.end(&mut pair.two, ticket, 1);
     followed?;
     Ok(Named::Number(refused))
 }
 
-fn halted<R: Wait>(
-    rt: &R,
-    alloc: Global,
-    hall: &Hall<Fixed, MemoryFixtures>,
-    one: &mut Pass<Board<Fixed, MemoryFixtures>>,
-    two: &mut Pass<Board<Fixed, MemoryFixtures>>,
-) -> Result<Named, Refused>
-    requires one { Has hall.now one.old 0 None None [] }
-    requires two { Has hall.now two.old 1 None None [] }
-    ensures one { Has hall.now one.new 0 None None [] }
-    ensures two { Has hall.now two.new 1 None None [] }
+fn halted<R: Wait>(on: &On<'_, R>, pair: &mut Pair) -> Result<Named, Refused>
+    requires { AreIdle on.now.hall.now pair.old }
+    ensures { AreIdle on.now.hall.now pair.new }
 {
-    reload(rt, alloc, hall, one, false, 0)?;
-    let ticket = begin(rt, hall, two, 1)?;
-    let first = halt(rt, hall, one, 0);
-    let again = halt(rt, hall, one, 0);
-    let duties = end(rt, hall, two, ticket, 1);
+    reload(on, &mut pair.one, false, 0)?;
+    let ticket = on.begin(&mut pair.two, 1)?;
+    let first = on.halt(&mut pair.one, 0);
+    let again = on.halt(&mut pair.one, 0);
+    let duties = on.end(&mut pair.two, ticket, 1);
     match (first, again) {
         (Some(0), None) => Ok(Named::Number(duties)),
         _ => Err(Refused::Halted),
@@ -163,31 +140,22 @@ fn halted<R: Wait>(
 }
 
 // Two requests run under one configuration, the next one follows, and they end: first that of the pass which let it follow, or last.
-fn both_end<R: Wait>(
-    rt: &R,
-    alloc: Global,
-    hall: &Hall<Fixed, MemoryFixtures>,
-    one: &mut Pass<Board<Fixed, MemoryFixtures>>,
-    two: &mut Pass<Board<Fixed, MemoryFixtures>>,
-    changer_first: bool,
-) -> Result<Named, Refused>
-    requires one { Has hall.now one.old 0 None None [] }
-    requires two { Has hall.now two.old 1 None None [] }
-    ensures one { Has hall.now one.new 0 None None [] }
-    ensures two { Has hall.now two.new 1 None None [] }
+fn both_end<R: Wait>(on: &On<'_, R>, pair: &mut Pair, changer_first: bool) -> Result<Named, Refused>
+    requires { AreIdle on.now.hall.now pair.old }
+    ensures { AreIdle on.now.hall.now pair.new }
 {
-    reload(rt, alloc, hall, one, false, 0)?;
-    let other = begin(rt, hall, two, 1)?;
-    let Ok(changer) = begin(rt, hall, one, 0) else {
-        end(rt, hall, two, other, 1);
+    reload(on, &mut pair.one, false, 0)?;
+    let other = on.begin(&mut pair.two, 1)?;
+    let Ok(changer) = on.begin(&mut pair.one, 0) else {
+        on.end(&mut pair.two, other, 1);
         return Err(Refused::NoMemory);
     };
-    let followed = publish(rt, alloc, hall, one, &changer, false, 0);
-    let (first, second) = end_both(rt, hall, one, two, changer, other, changer_first);
+    let followed = publish(on, &mut pair.one, &changer, false, 0);
+    let (first, second) = end_both(on, pair, changer, other, changer_first);
     followed?;
-    let last = begin(rt, hall, two, 1)?;
+    let last = on.begin(&mut pair.two, 1)?;
     let serial = last.serial();
-    end(rt, hall, two, last, 1);
+    on.end(&mut pair.two, last, 1);
     Ok(Named::Duties {
         first,
         second,
@@ -197,45 +165,35 @@ fn both_end<R: Wait>(
 
 // The requests of both passes end, that of the first pass first or last. It says how many duties came at each end.
 fn end_both<R: Wait>(
-    rt: &R,
-    hall: &Hall<Fixed, MemoryFixtures>,
-    one: &mut Pass<Board<Fixed, MemoryFixtures>>,
-    two: &mut Pass<Board<Fixed, MemoryFixtures>>,
-    changer: Ticket<Fixed>,
-    other: Ticket<Fixed>,
+    on: &On<'_, R>,
+    pair: &mut Pair,
+    changer: Ticket<Set>,
+    other: Ticket<Set>,
     changer_first: bool,
 ) -> (u32, u32)
-    requires one { Has hall.now one.old 0 (Some changer.serial) None [] }
-    requires changer { IsTicketOf (view one.old) changer }
-    requires two { Has hall.now two.old 1 (Some other.serial) None [] }
-    requires other { IsTicketOf (view two.old) other }
-    ensures one { Has hall.now one.new 0 None None [] }
-    ensures two { Has hall.now two.new 1 None None [] }
+    requires one { Runs on.now.hall.now pair.old.one 0 changer None }
+    requires two { Runs on.now.hall.now pair.old.two 1 other None }
+    ensures { AreIdle on.now.hall.now pair.new }
 {
     if changer_first {
-        let first = end(rt, hall, one, changer, 0);
-        let second = end(rt, hall, two, other, 1);
+        let first = on.end(&mut pair.one, changer, 0);
+        let second = on.end(&mut pair.two, other, 1);
         return (first, second);
     }
-    let first = end(rt, hall, two, other, 1);
-    let second = end(rt, hall, one, changer, 0);
+    let first = on.end(&mut pair.two, other, 1);
+    let second = on.end(&mut pair.one, changer, 0);
     (first, second)
 }
 
-fn halted_at_rest<R: Wait>(
-    rt: &R,
-    alloc: Global,
-    hall: &Hall<Fixed, MemoryFixtures>,
-    one: &mut Pass<Board<Fixed, MemoryFixtures>>,
-) -> Result<Named, Refused>
-    requires { Has hall.now one.old 0 None None [] }
-    ensures { Has hall.now one.new 0 None None [] }
+fn halted_at_rest<R: Wait>(on: &On<'_, R>, pair: &mut Pair) -> Result<Named, Refused>
+    requires { AreIdle on.now.hall.now pair.old }
+    ensures { AreIdle on.now.hall.now pair.new }
 {
-    reload(rt, alloc, hall, one, false, 0)?;
-    let halted = halt(rt, hall, one, 0);
-    let ticket = begin(rt, hall, one, 0)?;
+    reload(on, &mut pair.one, false, 0)?;
+    let halted = on.halt(&mut pair.one, 0);
+    let ticket = on.begin(&mut pair.one, 0)?;
     let last = ticket.serial();
-    let second = end(rt, hall, one, ticket, 0);
+    let second = on.end(&mut pair.one, ticket, 0);
     match halted {
         Some(first) => Ok(Named::Duties {
             first,
@@ -246,93 +204,65 @@ fn halted_at_rest<R: Wait>(
     }
 }
 
-fn opens<R: Wait>(
-    rt: &R,
-    alloc: Global,
-    hall: &Hall<Fixed, MemoryFixtures>,
-    one: &mut Pass<Board<Fixed, MemoryFixtures>>,
-) -> Result<Named, Refused>
-    requires { Has hall.now one.old 0 None None [] }
-    ensures { Has hall.now one.new 0 None None [] }
+fn opens<R: Wait>(on: &On<'_, R>, pair: &mut Pair) -> Result<Named, Refused>
+    requires { AreIdle on.now.hall.now pair.old }
+    ensures { AreIdle on.now.hall.now pair.new }
 {
-    match reload(rt, alloc, hall, one, true, 0) {
+    match reload(on, &mut pair.one, true, 0) {
         Ok(()) => Ok(Named::Nothing),
         Err(Refused::Closed(key)) => Ok(Named::Key(key)),
         Err(refused) => Err(refused),
     }
 }
 
-fn given_up<R: Wait>(
-    rt: &R,
-    alloc: Global,
-    hall: &Hall<Fixed, MemoryFixtures>,
-    one: &mut Pass<Board<Fixed, MemoryFixtures>>,
-) -> Result<Named, Refused>
-    requires { Has hall.now one.old 0 None None [] }
-    ensures { Has hall.now one.new 0 None None [] }
+fn given_up<R: Wait>(on: &On<'_, R>, pair: &mut Pair) -> Result<Named, Refused>
+    requires { AreIdle on.now.hall.now pair.old }
+    ensures { AreIdle on.now.hall.now pair.new }
 {
-    let ticket = begin(rt, hall, one, 0)?;
-    let given_up = open_and_give_up(rt, alloc, hall, one, &ticket, 0);
-    end(rt, hall, one, ticket, 0);
+    let ticket = on.begin(&mut pair.one, 0)?;
+    let given_up = open_and_give_up(on, &mut pair.one, &ticket);
+    on.end(&mut pair.one, ticket, 0);
     given_up?;
     Ok(Named::Nothing)
 }
 
-fn overlaps<R: Wait>(
-    rt: &R,
-    alloc: Global,
-    hall: &Hall<Fixed, MemoryFixtures>,
-    one: &mut Pass<Board<Fixed, MemoryFixtures>>,
-) -> Result<Named, Refused>
-    requires { Has hall.now one.old 0 None None [] }
-    ensures { Has hall.now one.new 0 None None [] }
+fn overlaps<R: Wait>(on: &On<'_, R>, pair: &mut Pair) -> Result<Named, Refused>
+    requires { AreIdle on.now.hall.now pair.old }
+    ensures { AreIdle on.now.hall.now pair.new }
 {
-    reload(rt, alloc, hall, one, false, 0)?;
-    reload(rt, alloc, hall, one, true, 0)?;
-    reload(rt, alloc, hall, one, false, 0)?;
+    reload(on, &mut pair.one, false, 0)?;
+    reload(on, &mut pair.one, true, 0)?;
+    reload(on, &mut pair.one, false, 0)?;
     Ok(Named::Nothing)
 }
 
-fn cached<R: Wait>(
-    rt: &R,
-    alloc: Global,
-    hall: &Hall<Fixed, MemoryFixtures>,
-    one: &mut Pass<Board<Fixed, MemoryFixtures>>,
-    two: &mut Pass<Board<Fixed, MemoryFixtures>>,
-) -> Result<Named, Refused>
-    requires one { Has hall.now one.old 0 None None [] }
-    requires two { Has hall.now two.old 1 None None [] }
-    ensures one { Has hall.now one.new 0 None None [] }
-    ensures two { Has hall.now two.new 1 None None [] }
+fn cached<R: Wait>(on: &On<'_, R>, pair: &mut Pair) -> Result<Named, Refused>
+    requires { AreIdle on.now.hall.now pair.old }
+    ensures { AreIdle on.now.hall.now pair.new }
 {
     let mut cache = Cache::empty();
-    let asked = ask_by_cache(rt, alloc, hall, one, two, &mut cache);
+    let asked = ask_by_cache(on, pair, &mut cache);
     cache.end();
     Ok(Named::Asked(asked?))
 }
 
 // The second pass asks twice before any configuration follows, then under the first one, and twice under the third one.
 fn ask_by_cache<R: Wait>(
-    rt: &R,
-    alloc: Global,
-    hall: &Hall<Fixed, MemoryFixtures>,
-    one: &mut Pass<Board<Fixed, MemoryFixtures>>,
-    two: &mut Pass<Board<Fixed, MemoryFixtures>>,
-    cache: &mut Cache<Fixed>,
+    on: &On<'_, R>,
+    pair: &mut Pair,
+    cache: &mut Cache<Set>,
 ) -> Result<[Asked; 5], Refused>
-    requires one { Has hall.now one.old 0 None None [] }
-    requires two { Has hall.now two.old 1 None None [] }
-    requires cache { IsCacheOf (view two.old) cache.old }
-    ensures one { Has hall.now one.new 0 None None [] }
-    ensures two { Has hall.now two.new 1 None None [] }
+    requires idle { AreIdle on.now.hall.now pair.old }
+    requires cache { IsCacheOf (view pair.old.two) cache.old }
+    ensures { AreIdle on.now.hall.now pair.new }
 {
-    let first = ask_now(rt, hall, two, cache, 1)?;
-    let second = ask_now(rt, hall, two, cache, 1)?;
-    reload(rt, alloc, hall, one, false, 0)?;
-    let third = ask_now(rt, hall, two, cache, 1)?;
-    reload_times(rt, alloc, hall, one, 0, 2)?;
-    let fourth = ask_now(rt, hall, two, cache, 1)?;
-    let fifth = ask_now(rt, hall, two, cache, 1)?;
+    let first = ask_now(on, &mut pair.two, cache, 1)?;
+    let second = ask_now(on, &mut pair.two, cache, 1)?;
+    reload(on, &mut pair.one, false, 0)?;
+    let third = ask_now(on, &mut pair.two, cache, 1)?;
+    reload_times(on, &mut pair.one, 2)?;
+    let fourth = ask_now(on, &mut pair.two, cache, 1)?;
+    let fifth = ask_now(on, &mut pair.two, cache, 1)?;
     Ok([first, second, third, fourth, fifth])
 }
 

@@ -1,17 +1,18 @@
 // What a hall came to is printed, as a line.
 use crate::caching::Asked;
 use crate::counts::{Counts, count};
-use crate::meeting::Ended;
 use crate::scenes::{Named, Scene};
 use crate::threads::Met;
-use cd_outside::{FixtureCall, Key, MemoryFixtures};
+use cd_fixed::{tell_calls, tell_key};
+use cd_outside::MemoryFixtures;
+use cd_pair::Ended;
 use std::io;
 
 /// Prints what the scene came to: what it names, how many configurations were published, and the calls of the fixtures.
-pub fn tell(rt: &impl Print, scene: Scene, ended: &Ended) -> io::Result<()> {
+pub fn tell(rt: &impl Print, scene: Scene, named: &Named, ended: &Ended) -> io::Result<()> {
     let published = ended.published;
     tell_scene(rt, scene)?;
-    match &ended.named {
+    match named {
         Named::Number(number) => {
             print!(rt; ": {number}; published {published}, ")?;
             tell_counts(rt, &ended.fixtures)
@@ -92,34 +93,4 @@ fn tell_counts(rt: &impl Print, fixtures: &MemoryFixtures) -> io::Result<()> {
         shut,
     } = count(fixtures);
     println!(rt; "opened {opened}, closed {closed}, shut {shut}")
-}
-
-// All calls in their order: + is an opening, ! one that failed, and - a closing.
-fn tell_calls(rt: &impl Print, fixtures: &MemoryFixtures) -> io::Result<()> {
-    for call in fixtures.calls().as_slice() {
-        tell_call(rt, call)?;
-    }
-    println!(rt; "")
-}
-
-fn tell_call(rt: &impl Print, call: &FixtureCall) -> io::Result<()> {
-    match call {
-        FixtureCall::Opened(key) => tell_key(rt, "+", key),
-        FixtureCall::NotOpened(key) => tell_key(rt, "!", key),
-        FixtureCall::Closed(key) => tell_key(rt, "-", key),
-        FixtureCall::Shut => print!(rt; " shut"),
-    }
-}
-
-fn tell_key(rt: &impl Print, sign: &str, key: &Key) -> io::Result<()> {
-    match key {
-        Key::Listen(address) => {
-            let port = address.port;
-            print!(rt; " {sign}{port}")
-        }
-        Key::Writer(name) => {
-            let name = name.as_str();
-            print!(rt; " {sign}{name}")
-        }
-    }
 }

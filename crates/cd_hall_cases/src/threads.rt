@@ -1,17 +1,15 @@
 // Two threads that meet in a hall: what comes of it is the same whatever the order of their turns.
 ghost use Rattle.std.specs.Prelude.{◌≡◌, ◌<◌, ◌≤◌, ℕ, [], None, length, slice_index_or};
-ghost use Rattle.cd_hall_cases.specs.Passes.{Has, HasServed};
+ghost use Rattle.cd_pair.specs.Passes.{Has};
+ghost use Rattle.cd_hall_cases.specs.Passes.{HasServed};
 
-use crate::changes::{Refused, reload};
+use crate::changes::reload;
 use crate::counts::{Counts, count};
-use crate::fixed::Fixed;
-use crate::halting::halt;
-use crate::plans::is_true;
-use crate::requests::{begin, end};
-use cd_gate::Pass;
+use crate::plans::{On, Player, Set};
+use cd_fixed::is_true;
 use cd_hall::{Closed, Hall, NoHall};
-use cd_life::Board;
 use cd_outside::MemoryFixtures;
+use cd_pair::{Refused, Stage};
 use cd_text::List;
 use std::alloc::Global;
 use std::sync::Wait;
@@ -38,7 +36,7 @@ pub fn meet_in_threads<R: Threads + Wait + Sync>(rt: &R, alloc: Global) -> Resul
     let Ok(fixtures) = MemoryFixtures::new(alloc, List::new(alloc)) else {
         return Err(Refused::NoMemory);
     };
-    let (hall, mut passes) = match Hall::<Fixed, MemoryFixtures>::new(alloc, fixtures, 2) {
+    let (hall, mut passes) = match Hall::<Set, MemoryFixtures>::new(alloc, fixtures, 2) {
         Ok(made) => made,
         Err(NoHall { fixtures }) => {
             drop(fixtures);
@@ -64,8 +62,8 @@ pub fn meet_in_threads<R: Threads + Wait + Sync>(rt: &R, alloc: Global) -> Resul
 fn serve_all<R: Threads + Wait + Sync>(
     rt: &R,
     alloc: Global,
-    hall: &Hall<Fixed, MemoryFixtures>,
-    passes: &mut Vec<Pass<Board<Fixed, MemoryFixtures>>>,
+    hall: &Hall<Set, MemoryFixtures>,
+    passes: &mut Vec<Player>,
 )
     requires two { length passes.old.items ≡ 2 }
     requires has { (i : ℕ) (d : _) → i < length passes.old.items → Has hall.now (slice_index_or passes.old.items i d) i None None [] }
@@ -78,8 +76,8 @@ fn serve_all<R: Threads + Wait + Sync>(
 fn serve_each<R: Threads + Wait + Sync>(
     rt: &R,
     alloc: Global,
-    hall: &Hall<Fixed, MemoryFixtures>,
-    passes: &mut [Pass<Board<Fixed, MemoryFixtures>>],
+    hall: &Hall<Set, MemoryFixtures>,
+    passes: &mut [Player],
 )
     requires two { length passes.old ≡ 2 }
     requires has { (i : ℕ) (d : _) → i < length passes.old → Has hall.now (slice_index_or passes.old i d) i None None [] }
@@ -90,7 +88,7 @@ fn serve_each<R: Threads + Wait + Sync>(
         rt,
         passes,
         2,
-        &|place, pass: &mut Pass<Board<Fixed, MemoryFixtures>>|
+        &|place, pass: &mut Player|
             requires { (place < 2) × Has hall.now pass.now place None None [] }
             ensures { HasServed hall.entry.now pass.exit.now place }
         { serve(rt, alloc, hall, pass, place) },
@@ -101,61 +99,48 @@ fn serve_each<R: Threads + Wait + Sync>(
 fn serve<R: Wait>(
     rt: &R,
     alloc: Global,
-    hall: &Hall<Fixed, MemoryFixtures>,
-    pass: &mut Pass<Board<Fixed, MemoryFixtures>>,
+    hall: &Hall<Set, MemoryFixtures>,
+    pass: &mut Player,
     place: usize,
 )
     requires two { place < 2 }
     requires has { Has hall.now pass.old place None None [] }
     ensures { HasServed hall.now pass.new place }
 {
+    let on = Stage { rt, alloc, hall };
     if place == 0 {
-        publish_and_halt(rt, alloc, hall, pass);
+        publish_and_halt(&on, pass);
     } else {
-        ask(rt, hall, pass);
+        ask(&on, pass);
     }
 }
 
-fn publish_and_halt<R: Wait>(
-    rt: &R,
-    alloc: Global,
-    hall: &Hall<Fixed, MemoryFixtures>,
-    pass: &mut Pass<Board<Fixed, MemoryFixtures>>,
-)
-    requires { Has hall.now pass.old 0 None None [] }
-    ensures { HasServed hall.now pass.new 0 }
+fn publish_and_halt<R: Wait>(on: &On<'_, R>, pass: &mut Player)
+    requires { Has on.now.hall.now pass.old 0 None None [] }
+    ensures { HasServed on.now.hall.now pass.new 0 }
 {
-    let _ = reload_in_turn(rt, alloc, hall, pass);
-    halt(rt, hall, pass, 0);
+    let _ = reload_in_turn(on, pass);
+    on.halt(pass, 0);
 }
 
 // The plain configuration and the wide one follow by turns.
-fn reload_in_turn<R: Wait>(
-    rt: &R,
-    alloc: Global,
-    hall: &Hall<Fixed, MemoryFixtures>,
-    pass: &mut Pass<Board<Fixed, MemoryFixtures>>,
-) -> Result<(), Refused>
-    requires { Has hall.now pass.old 0 None None [] }
-    ensures { Has hall.now pass.new 0 None None [] }
+fn reload_in_turn<R: Wait>(on: &On<'_, R>, pass: &mut Player) -> Result<(), Refused>
+    requires { Has on.now.hall.now pass.old 0 None None [] }
+    ensures { Has on.now.hall.now pass.new 0 None None [] }
 {
     for turn in 0..CONFIGURATIONS {
-        reload(rt, alloc, hall, pass, turn % 2 == 1, 0)?;
+        reload(on, pass, turn % 2 == 1, 0)?;
     }
     Ok(())
 }
 
-fn ask<R: Wait>(
-    rt: &R,
-    hall: &Hall<Fixed, MemoryFixtures>,
-    pass: &mut Pass<Board<Fixed, MemoryFixtures>>,
-)
-    requires { Has hall.now pass.old 1 None None [] }
-    ensures { Has hall.now pass.new 1 None None [] }
+fn ask<R: Wait>(on: &On<'_, R>, pass: &mut Player)
+    requires { Has on.now.hall.now pass.old 1 None None [] }
+    ensures { Has on.now.hall.now pass.new 1 None None [] }
 {
     for _ in 0..REQUESTS {
-        if let Ok(ticket) = begin(rt, hall, pass, 1) {
-            end(rt, hall, pass, ticket, 1);
+        if let Ok(ticket) = on.begin(pass, 1) {
+            on.end(pass, ticket, 1);
         }
     }
 }

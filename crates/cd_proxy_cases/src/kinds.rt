@@ -1,10 +1,10 @@
 //! The kinds of rows, each named by a member that no other kind has.
 use crate::commands::command_outcome;
 use crate::forwards::forward_outcome;
-use crate::handles::Handles;
 use crate::picks::picks_outcome;
 use crate::relays::relay_outcome;
 use crate::responses::response_outcome;
+use cd_rig::Handles;
 use cd_rows::{Kinds, Outcome, RowFault, has};
 use cd_tree::Tree;
 use std::alloc::Global;

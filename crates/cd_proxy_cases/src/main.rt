@@ -6,14 +6,13 @@
 
 mod commands;
 mod forwards;
-mod handles;
 mod kinds;
 mod picks;
 mod relays;
 mod responses;
 
+use cd_rig::Handles;
 use cd_rows::check_files;
-use handles::Handles;
 use kinds::Cases;
 use std::process::ExitCode;
 

@@ -8,7 +8,8 @@
 //! It is `more`, `bad`, or the bytes that a client of HTTP/1.1 is sent for it. The bytes are read whole, and again in pieces of each
 //! of the sizes, or byte by byte where there are none.
 use cd_proxy::{PassedResponse, Reading, ResponseIntake, response};
-use cd_rows::{Outcome, RowFault, bytes_at, find, is_true, only};
+use cd_rig::{InPieces, found_in_pieces};
+use cd_rows::{Outcome, RowFault, bytes_at, is_true, only};
 use cd_text::{NoMemory, Octets};
 use cd_tree::Tree;
 use cd_wire::render;
@@ -18,88 +19,45 @@ use std::alloc::Global;
 pub fn response_outcome(alloc: Global, row: &Tree) -> Result<Outcome, RowFault> {
     only(alloc, row, "response open to_head pieces found")?;
     let bytes = bytes_at(alloc, row, "response")?;
-    let ended = !is_true(row, "open")?;
-    let to_head = is_true(row, "to_head")?;
-    let whole = read_whole(alloc, bytes.as_slice(), ended, to_head)?;
-    match find(row, "pieces") {
-        None => in_pieces(alloc, whole, bytes.as_slice(), 1, ended, to_head),
-        Some(sizes) => in_sizes(alloc, whole, bytes.as_slice(), sizes, ended, to_head),
-    }
-}
-
-fn found(bytes: Octets) -> Outcome {
-    Outcome {
-        member: "found",
-        bytes,
-    }
-}
-
-// What was found, unless something else is found in pieces of this size.
-fn in_pieces(
-    alloc: Global,
-    whole: Octets,
-    bytes: &[u8],
-    size: usize,
-    ended: bool,
-    to_head: bool,
-) -> Result<Outcome, RowFault> {
-    let other = read_pieces(alloc, bytes, size, ended, to_head)?;
-    if other.equals(whole.as_slice()) {
-        Ok(found(whole))
-    } else {
-        Ok(found(other))
-    }
-}
-
-fn in_sizes(
-    alloc: Global,
-    whole: Octets,
-    bytes: &[u8],
-    sizes: &Tree,
-    ended: bool,
-    to_head: bool,
-) -> Result<Outcome, RowFault> {
-    let Tree::Items(sizes) = sizes else {
-        return Err(RowFault::Malformed("sizes that are no list"));
+    let input = Input {
+        bytes: bytes.as_slice(),
+        ended: !is_true(row, "open")?,
+        to_head: is_true(row, "to_head")?,
     };
-    for size in sizes.as_slice() {
-        let other = read_pieces(alloc, bytes, size_of(size)?, ended, to_head)?;
-        if !other.equals(whole.as_slice()) {
-            return Ok(found(other));
-        }
-    }
-    Ok(found(whole))
+    let whole = input.read_whole(alloc)?;
+    found_in_pieces(alloc, row, &input, whole)
 }
 
-fn size_of(size: &Tree) -> Result<usize, RowFault> {
-    match size {
-        Tree::Num(number) => Ok(number.size as usize),
-        _ => Err(RowFault::Malformed("a size that is no number")),
-    }
-}
-
-fn read_whole(alloc: Global, bytes: &[u8], ended: bool, to_head: bool) -> Result<Octets, NoMemory> {
-    let read = response(alloc, bytes, ended, to_head)?;
-    words_of(alloc, &read, to_head)
-}
-
-fn read_pieces(
-    alloc: Global,
-    bytes: &[u8],
-    size: usize,
+/// The bytes of an upstream.
+#[derive(Drop)]
+struct Input<'a> {
+    bytes: &'a [u8],
+    /// No more bytes come.
     ended: bool,
+    /// The request was HEAD.
     to_head: bool,
-) -> Result<Octets, NoMemory> {
-    let mut intake = ResponseIntake::new(alloc, to_head);
-    for piece in bytes.chunks(size.max(1)) {
-        intake.push(piece)?;
-        let read = intake.next(false)?;
-        if !matches!(read, Reading::More) {
-            return words_of(alloc, &read, to_head);
-        }
+}
+
+impl<'a> Input<'a> {
+    fn read_whole(&self, alloc: Global) -> Result<Octets, NoMemory> {
+        let read = response(alloc, self.bytes, self.ended, self.to_head)?;
+        words_of(alloc, &read, self.to_head)
     }
-    let read = intake.next(ended)?;
-    words_of(alloc, &read, to_head)
+}
+
+impl<'a> InPieces for Input<'a> {
+    fn found(&self, alloc: Global, size: usize) -> Result<Octets, NoMemory> {
+        let mut intake = ResponseIntake::new(alloc, self.to_head);
+        for piece in self.bytes.chunks(size.max(1)) {
+            intake.push(piece)?;
+            let read = intake.next(false)?;
+            if !matches!(read, Reading::More) {
+                return words_of(alloc, &read, self.to_head);
+            }
+        }
+        let read = intake.next(self.ended)?;
+        words_of(alloc, &read, self.to_head)
+    }
 }
 
 fn words_of(alloc: Global, read: &Reading, to_head: bool) -> Result<Octets, NoMemory> {

@@ -4,13 +4,13 @@ ghost use Rattle.cd_tree.specs.Tree.{IsSound};
 ghost use Rattle.cd_legal.specs.declared.limits.TheConstants.{MAX_LANES};
 
 use crate::ending::{Shown, text_of};
-use crate::handles::Handles;
 use crate::laning::{lanes_of, meeting_of, numbers_of, pieces};
 use crate::meeting::{Happened, Meeting};
 use crate::opening::{MeetingFixtures, WaitingOpening};
 use crate::resting::RestingLane;
 use cd_outside::{MemoryFixtures, MemorySink, MemorySource};
 use cd_program::caddy_main;
+use cd_rig::Handles;
 use cd_rows::{Kinds, Outcome, RowFault, bytes_at, find, has, is_true, needed, number_of, only};
 use cd_text::{List, Octets, Text};
 use cd_tree::{Tree, print};

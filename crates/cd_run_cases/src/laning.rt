@@ -25,11 +25,25 @@ pub fn lanes_of(
     ensures few { IfOk result (λ lanes. length lanes ≤ MAX_LANES) }
     ensures idle { IfOk result (λ lanes. All (λ lane. is_some lane.lane.current ≡ false) lanes) }
 {
-    match find(row, "lanes") {
-        None => one_lane(alloc, row, size),
-        Some(Tree::Items(trees)) => listed_lanes(alloc, row, trees.as_slice(), size, happened),
-        Some(_) => Err(RowFault::Malformed("lanes that are no list")),
+    let trees = match find(row, "lanes") {
+        None => return one_lane(alloc, row, size),
+        Some(Tree::Items(trees)) => trees.as_slice(),
+        Some(_) => return Err(RowFault::Malformed("lanes that are no list")),
+    };
+    if trees.is_empty() || trees.len() > MAX_LANES as usize {
+        return Err(RowFault::Malformed("no lane, or too many"));
     }
+    let mut lanes = List::new(alloc);
+    for tree in trees {
+        let places = Places {
+            coming: meeting_of(row, "meet", &happened.arrivals, trees.len())?,
+            waiting: meeting_of(tree, "waits", &happened.answers, 1)?,
+            returning: returning_of(alloc, tree, happened)?,
+            answering: Some(Meeting::at(Arc::try_clone(&happened.answers)?, 1, 0)),
+        };
+        lanes.push(listed_lane(alloc, tree, size, places)?)?;
+    }
+    Ok(lanes)
 }
 
 fn one_lane(alloc: Global, row: &Tree, size: usize) -> Result<List<RestingLane>, RowFault>
@@ -47,33 +61,6 @@ fn one_lane(alloc: Global, row: &Tree, size: usize) -> Result<List<RestingLane>,
     );
     let mut lanes = List::new(alloc);
     lanes.push(lane)?;
-    Ok(lanes)
-}
-
-fn listed_lanes(
-    alloc: Global,
-    row: &Tree,
-    trees: &[Tree],
-    size: usize,
-    happened: &Happened,
-) -> Result<List<RestingLane>, RowFault>
-    ensures some { IfOk result (λ lanes. 1 ≤ length lanes) }
-    ensures few { IfOk result (λ lanes. length lanes ≤ MAX_LANES) }
-    ensures idle { IfOk result (λ lanes. All (λ lane. is_some lane.lane.current ≡ false) lanes) }
-{
-    if trees.is_empty() || trees.len() > MAX_LANES as usize {
-        return Err(RowFault::Malformed("no lane, or too many"));
-    }
-    let mut lanes = List::new(alloc);
-    for tree in trees {
-        let places = Places {
-            coming: meeting_of(row, "meet", &happened.arrivals, trees.len())?,
-            waiting: meeting_of(tree, "waits", &happened.answers, 1)?,
-            returning: returning_of(alloc, tree, happened)?,
-            answering: Some(Meeting::at(Arc::try_clone(&happened.answers)?, 1, 0)),
-        };
-        lanes.push(listed_lane(alloc, tree, size, places)?)?;
-    }
     Ok(lanes)
 }
 

@@ -10,15 +10,14 @@
 
 mod conversation;
 mod ending;
-mod handles;
 mod laning;
 mod meeting;
 mod opening;
 mod resting;
 
+use cd_rig::Handles;
 use cd_rows::check_files;
 use conversation::Conversations;
-use handles::Handles;
 use std::process::ExitCode;
 
 fn main(rt: HostRuntime) -> ExitCode {

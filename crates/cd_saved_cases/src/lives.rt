@@ -1,11 +1,11 @@
 //! What is done with a file, step by step.
 use crate::faults::disk_failing;
 use crate::file::{append_file, file_in, file_of};
-use crate::handles::Handles;
 use crate::running::run_over;
 use crate::saving::save_on;
 use crate::tearing::images_found;
 use cd_autosave::MemoryDisk;
+use cd_rig::Handles;
 use cd_rows::{Kinds, Outcome, RowFault, find, has, only};
 use cd_text::Octets;
 use cd_tree::Tree;

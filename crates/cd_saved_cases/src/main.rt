@@ -10,14 +10,13 @@
 
 mod faults;
 mod file;
-mod handles;
 mod lives;
 mod running;
 mod saving;
 mod tearing;
 
+use cd_rig::Handles;
 use cd_rows::check_files;
-use handles::Handles;
 use lives::Lives;
 use std::process::ExitCode;
 

@@ -1,5 +1,2 @@
-pub mod Goes
-pub mod Halts
-pub mod Following
-pub mod Truths
-pub mod Both
+pub mod Works
+pub mod Asks

@@ -1,24 +1,14 @@
 // Requests ask for changes.
-ghost use Rattle.std.specs.Prelude.{◌≡◌, [], Some, None, IfOk, true};
-ghost use Rattle.cd_tree.specs.declared.tree.Tree.TheVariants.{Bool};
-ghost use Rattle.cd_gate.specs.Passes.{view};
-ghost use Rattle.cd_life.specs.Fits.{Suits};
-ghost use Rattle.cd_life.specs.Origins.{change_of};
+ghost use Rattle.std.specs.Prelude.{◌≡◌, [], None, true};
 ghost use Rattle.cd_life.specs.Shares.{conf_in};
-ghost use Rattle.cd_hall.specs.Tickets.{IsTicketOf};
-ghost use Rattle.cd_serve_cases.specs.Fixed.{fixed_change, runs};
-ghost use Rattle.cd_serve_cases.specs.Passes.{Has};
+ghost use Rattle.cd_pair.specs.Passes.{Has, Runs};
+ghost use Rattle.cd_pair.specs.Runs.{runs};
 
-use crate::fixed::{Fixed, load_fixed};
-use crate::requests::{NotPlayed, begin, end};
-use cd_gate::Pass;
-use cd_hall::{Hall, Ticket};
-use cd_life::{Board, Origin};
-use cd_outside::MemoryFixtures;
+use crate::plans::{On, Player, Set};
+use cd_fixed::{load_fixed, request_for};
+use cd_hall::Ticket;
+use cd_pair::{Refused, runs};
 use cd_serve::{Attempt, attempt_change};
-use cd_text::NoMemory;
-use cd_wire::Request;
-use std::alloc::Global;
 use std::sync::Wait;
 
 /// What came of a request for a change.
@@ -30,126 +20,72 @@ pub struct Asked {
     pub attempt: Option<Attempt>,
 }
 
-/// The pass asks so many times for the first configuration, each time by a request of its own.
-pub fn change_times<R: Wait>(
-    rt: &R,
-    alloc: Global,
-    hall: &Hall<Fixed, MemoryFixtures>,
-    pass: &mut Pass<Board<Fixed, MemoryFixtures>>,
-    number: u32,
-    times: u32,
-) -> Result<(), NotPlayed>
-    requires { Has hall.now pass.old number None None [] }
-    ensures { Has hall.now pass.new number None None [] }
+/// The second pass asks so many times for the first configuration, each time by a request of its own.
+pub fn change_times<R: Wait>(on: &On<'_, R>, pass: &mut Player, times: u32) -> Result<(), Refused>
+    requires { Has on.now.hall.now pass.old 1 None None [] }
+    ensures { Has on.now.hall.now pass.new 1 None None [] }
 {
     for _ in 0..times {
-        change(rt, alloc, hall, pass, false, number)?;
+        change(on, pass, false, 1)?;
     }
     Ok(())
 }
 
 /// The pass asks for the other configuration, or for the first one, by a request of its own.
 pub fn change<R: Wait>(
-    rt: &R,
-    alloc: Global,
-    hall: &Hall<Fixed, MemoryFixtures>,
-    pass: &mut Pass<Board<Fixed, MemoryFixtures>>,
+    on: &On<'_, R>,
+    pass: &mut Player,
     other: bool,
     number: u32,
-) -> Result<Asked, NotPlayed>
-    requires { Has hall.now pass.old number None None [] }
-    ensures { Has hall.now pass.new number None None [] }
+) -> Result<Asked, Refused>
+    requires { Has on.now.hall.now pass.old number None None [] }
+    ensures { Has on.now.hall.now pass.new number None None [] }
 {
-    let ticket = begin(rt, hall, pass, number)?;
-    let asked = ask(rt, alloc, hall, pass, &ticket, other, number);
-    end(rt, hall, pass, ticket, number);
+    let ticket = on.begin(pass, number)?;
+    let asked = ask(on, pass, &ticket, other, number);
+    on.end(pass, ticket, number);
     Ok(asked)
 }
 
 /// The request of the pass asks for the other configuration, or for the first one.
 pub fn ask<R: Wait>(
-    rt: &R,
-    alloc: Global,
-    hall: &Hall<Fixed, MemoryFixtures>,
-    pass: &mut Pass<Board<Fixed, MemoryFixtures>>,
-    ticket: &Ticket<Fixed>,
+    on: &On<'_, R>,
+    pass: &mut Player,
+    ticket: &Ticket<Set>,
     other: bool,
     number: u32,
 ) -> Asked
-    requires has { Has hall.now pass.old number (Some ticket.now.serial) None [] }
-    requires ticket { IsTicketOf (view pass.old) ticket.now }
+    requires { Runs on.now.hall.now pass.old number ticket.now None }
     ensures serial { result.serial ≡ ticket.now.serial }
-    ensures has { Has hall.now pass.new number (Some ticket.now.serial) None [] }
-    ensures ticket { IsTicketOf (view pass.new) ticket.now }
+    ensures runs { Runs on.now.hall.now pass.new number ticket.now None }
 {
     let serial = ticket.serial();
-    if !runs(ticket) {
-        return Asked {
-            serial,
-            attempt: None,
-        };
-    }
-    let attempt = attempt(rt, alloc, hall, pass, ticket, other, number);
-    Asked {
-        serial,
-        attempt: Some(attempt),
-    }
-}
-
-// Whether the configuration of the ticket runs.
-fn runs(ticket: &Ticket<Fixed>) -> bool
-    ensures { result ≡ runs (conf_in ticket.now.share) }
-{
-    ticket.compiled().running
+    let attempt = if runs(ticket) {
+        Some(attempt(on, pass, ticket, other, number))
+    } else {
+        None
+    };
+    Asked { serial, attempt }
 }
 
 // Attempts the change that a request for the other configuration, or for the first one, asks for.
 fn attempt<R: Wait>(
-    rt: &R,
-    alloc: Global,
-    hall: &Hall<Fixed, MemoryFixtures>,
-    pass: &mut Pass<Board<Fixed, MemoryFixtures>>,
-    ticket: &Ticket<Fixed>,
+    on: &On<'_, R>,
+    pass: &mut Player,
+    ticket: &Ticket<Set>,
     other: bool,
     number: u32,
 ) -> Attempt
-    requires has { Has hall.now pass.old number (Some ticket.now.serial) None [] }
-    requires ticket { IsTicketOf (view pass.old) ticket.now }
+    requires has { Runs on.now.hall.now pass.old number ticket.now None }
     requires runs { runs (conf_in ticket.now.share) ≡ true }
-    ensures has { Has hall.now pass.new number (Some ticket.now.serial) None [] }
-    ensures ticket { IsTicketOf (view pass.new) ticket.now }
+    ensures { Runs on.now.hall.now pass.new number ticket.now None }
 {
     let _ = number;
-    let Ok(request) = request(alloc, other) else {
+    let Ok(request) = request_for(on.alloc, other) else {
         return Attempt::Lacking;
     };
-    let Ok(loaded) = load_fixed(alloc, other) else {
+    let Ok(loaded) = load_fixed(on.alloc, other) else {
         return Attempt::Lacking;
     };
-    attempt_change(rt, alloc, hall, pass, ticket, loaded, &request)
-}
-
-// A request for the other configuration, or for the first one.
-#[tactic(auto, unfolding(cd_wire::specs::Framing::request_of))]
-fn request(alloc: Global, other: bool) -> Result<Request, NoMemory>
-    ensures { IfOk result (λ request. request.close ≡ other) }
-{
-    let minor = if other { 0 } else { 1 };
-    Ok(Request::plain(alloc, b"POST", b"/load", minor)?)
-}
-
-/// Where the other configuration comes from, or the first one, that follows that of the ticket: none may after the halt.
-pub fn origin_after(alloc: Global, ticket: &Ticket<Fixed>, other: bool) -> Result<Origin, NotPlayed>
-    ensures { IfOk result (λ origin. Suits fixed_change (conf_in ticket.now.share) (change_of origin) (Bool other)) }
-{
-    if runs(ticket) {
-        let Ok(request) = request(alloc, other) else {
-            return Err(NotPlayed);
-        };
-        return Ok(Origin::of(&request));
-    }
-    if ticket.halted() {
-        return Err(NotPlayed);
-    }
-    Ok(Origin::First)
+    attempt_change(on.rt, on.alloc, on.hall, pass, ticket, loaded, &request)
 }

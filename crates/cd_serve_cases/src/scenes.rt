@@ -1,19 +1,13 @@
 // What happens in a hall of two passes. Each scene leaves both with no ticket, no draft and no duty.
-ghost use Rattle.std.specs.Prelude.{◌≡◌, [], Some, None};
-ghost use Rattle.cd_gate.specs.Passes.{view};
-ghost use Rattle.cd_hall.specs.Tickets.{IsTicketOf};
-ghost use Rattle.cd_serve_cases.specs.Passes.{Has};
+ghost use Rattle.std.specs.Prelude.{[], None};
+ghost use Rattle.cd_pair.specs.Pairs.{AreIdle};
+ghost use Rattle.cd_pair.specs.Passes.{Has, Runs};
 
-use crate::asking::{Asked, ask, change, change_times, origin_after};
-use crate::drafting::{begin_with_first, make_and_open, publish};
-use crate::fixed::Fixed;
-use crate::halting::halt;
-use crate::requests::{NotPlayed, begin, end};
-use cd_gate::Pass;
-use cd_hall::{Hall, Ticket};
-use cd_life::Board;
-use cd_outside::MemoryFixtures;
-use cd_text::{List, NoMemory};
+use crate::asking::{Asked, ask, change, change_times};
+use crate::drafting::{attempt_of, begin_with_first, make_and_open};
+use crate::plans::{On, Pair, Set};
+use cd_hall::Ticket;
+use cd_pair::{Ended, Refused, Stage, close_hall, open_hall, origin_after};
 use std::alloc::Global;
 use std::sync::Wait;
 
@@ -40,54 +34,52 @@ pub struct Shown {
 }
 
 impl Scene {
-    /// Which openings fail in the scene, counted from 0.
-    pub fn failing(self, alloc: Global) -> Result<List<u64>, NoMemory> {
-        let mut failing = List::new(alloc);
+    /// Which opening fails in the scene, counted from 0.
+    fn fails(self) -> Option<u64> {
         if self == Scene::CannotOpen {
-            failing.push(1)?;
+            Some(1)
+        } else {
+            None
         }
-        Ok(failing)
     }
 }
 
-/// Plays the scene, after the second pass has let the first configuration follow.
-pub fn play<R: Wait>(
-    rt: &R,
-    alloc: Global,
-    hall: &Hall<Fixed, MemoryFixtures>,
-    one: &mut Pass<Board<Fixed, MemoryFixtures>>,
-    two: &mut Pass<Board<Fixed, MemoryFixtures>>,
-    scene: Scene,
-) -> Result<Shown, NotPlayed>
-    requires one { Has hall.now one.old 0 None None [] }
-    requires two { Has hall.now two.old 1 None None [] }
-    ensures one { Has hall.now one.new 0 None None [] }
-    ensures two { Has hall.now two.new 1 None None [] }
+/// Two passes of a hall play the scene, after the second one has let the first configuration follow. The hall is halted and closed.
+pub fn meet<R: Wait>(rt: &R, alloc: Global, scene: Scene) -> Result<(Shown, Ended), Refused> {
+    let (hall, mut pair, places) = open_hall(alloc, scene.fails())?;
+    let played = play(
+        &Stage {
+            rt,
+            alloc,
+            hall: &hall,
+        },
+        &mut pair,
+        scene,
+    );
+    let ended = close_hall(rt, alloc, hall, pair, places);
+    Ok((played?, ended))
+}
+
+fn play<R: Wait>(on: &On<'_, R>, pair: &mut Pair, scene: Scene) -> Result<Shown, Refused>
+    requires { AreIdle on.now.hall.now pair.old }
+    ensures { AreIdle on.now.hall.now pair.new }
 {
-    begin_with_first(rt, alloc, hall, two, 1)?;
+    begin_with_first(on, &mut pair.two)?;
     match scene {
-        Scene::SupersededTwice => superseded_twice(rt, alloc, hall, one, two),
-        Scene::Halted => halted(rt, alloc, hall, one, two),
-        Scene::StillInUse => still_in_use(rt, alloc, hall, one, two),
-        Scene::CannotOpen => cannot_open(rt, alloc, hall, one),
+        Scene::SupersededTwice => superseded_twice(on, pair),
+        Scene::Halted => halted(on, pair),
+        Scene::StillInUse => still_in_use(on, pair),
+        Scene::CannotOpen => cannot_open(on, pair),
     }
 }
 
-fn superseded_twice<R: Wait>(
-    rt: &R,
-    alloc: Global,
-    hall: &Hall<Fixed, MemoryFixtures>,
-    one: &mut Pass<Board<Fixed, MemoryFixtures>>,
-    two: &mut Pass<Board<Fixed, MemoryFixtures>>,
-) -> Result<Shown, NotPlayed>
-    requires one { Has hall.now one.old 0 None None [] }
-    requires two { Has hall.now two.old 1 None None [] }
-    ensures one { Has hall.now one.new 0 None None [] }
-    ensures two { Has hall.now two.new 1 None None [] }
+fn superseded_twice<R: Wait>(on: &On<'_, R>, pair: &mut Pair) -> Result<Shown, Refused>
+    requires { AreIdle on.now.hall.now pair.old }
+    ensures { AreIdle on.now.hall.now pair.new }
 {
-    let first = overtaken(rt, alloc, hall, one, two)?;
-    let second = overtaken(rt, alloc, hall, one, two)?;
-    let third = change(rt, alloc, hall, one, true, 0)?;
+    let first = overtaken(on, pair)?;
+    let second = overtaken(on, pair)?;
+    let third = change(on, &mut pair.one, true, 0)?;
     Ok(Shown {
         first,
         second,
@@ -96,46 +88,30 @@ fn superseded_twice<R: Wait>(
 }
 
 // The second pass changes the configuration between the beginning of a request of the first pass and its attempt.
-fn overtaken<R: Wait>(
-    rt: &R,
-    alloc: Global,
-    hall: &Hall<Fixed, MemoryFixtures>,
-    one: &mut Pass<Board<Fixed, MemoryFixtures>>,
-    two: &mut Pass<Board<Fixed, MemoryFixtures>>,
-) -> Result<Asked, NotPlayed>
-    requires one { Has hall.now one.old 0 None None [] }
-    requires two { Has hall.now two.old 1 None None [] }
-    ensures one { Has hall.now one.new 0 None None [] }
-    ensures two { Has hall.now two.new 1 None None [] }
+fn overtaken<R: Wait>(on: &On<'_, R>, pair: &mut Pair) -> Result<Asked, Refused>
+    requires { AreIdle on.now.hall.now pair.old }
+    ensures { AreIdle on.now.hall.now pair.new }
 {
-    let ticket = begin(rt, hall, one, 0)?;
-    let changed = change(rt, alloc, hall, two, false, 1);
-    let asked = ask(rt, alloc, hall, one, &ticket, true, 0);
-    end(rt, hall, one, ticket, 0);
+    let ticket = on.begin(&mut pair.one, 0)?;
+    let changed = change(on, &mut pair.two, false, 1);
+    let asked = ask(on, &mut pair.one, &ticket, true, 0);
+    on.end(&mut pair.one, ticket, 0);
     changed?;
     Ok(asked)
 }
 
-fn halted<R: Wait>(
-    rt: &R,
-    alloc: Global,
-    hall: &Hall<Fixed, MemoryFixtures>,
-    one: &mut Pass<Board<Fixed, MemoryFixtures>>,
-    two: &mut Pass<Board<Fixed, MemoryFixtures>>,
-) -> Result<Shown, NotPlayed>
-    requires one { Has hall.now one.old 0 None None [] }
-    requires two { Has hall.now two.old 1 None None [] }
-    ensures one { Has hall.now one.new 0 None None [] }
-    ensures two { Has hall.now two.new 1 None None [] }
+fn halted<R: Wait>(on: &On<'_, R>, pair: &mut Pair) -> Result<Shown, Refused>
+    requires { AreIdle on.now.hall.now pair.old }
+    ensures { AreIdle on.now.hall.now pair.new }
 {
-    let ticket = begin(rt, hall, two, 1)?;
-    let first = halted_before_publishing(rt, alloc, hall, one, two, &ticket);
-    let second = ask(rt, alloc, hall, two, &ticket, true, 1);
-    end(rt, hall, two, ticket, 1);
-    let third = change(rt, alloc, hall, two, true, 1);
-    let again = halt(rt, hall, one, 0);
-    let (Ok(first), Ok(third), false) = (first, third, again) else {
-        return Err(NotPlayed);
+    let ticket = on.begin(&mut pair.two, 1)?;
+    let first = halted_before_publishing(on, pair, &ticket);
+    let second = ask(on, &mut pair.two, &ticket, true, 1);
+    on.end(&mut pair.two, ticket, 1);
+    let third = change(on, &mut pair.two, true, 1);
+    let again = on.halt(&mut pair.one, 0);
+    let (Ok(first), Ok(third), None) = (first, third, again) else {
+        return Err(Refused::Halted);
     };
     Ok(Shown {
         first,
@@ -146,27 +122,22 @@ fn halted<R: Wait>(
 
 // The first pass halts the host between the opening of a draft of the second pass and its publishing.
 fn halted_before_publishing<R: Wait>(
-    rt: &R,
-    alloc: Global,
-    hall: &Hall<Fixed, MemoryFixtures>,
-    one: &mut Pass<Board<Fixed, MemoryFixtures>>,
-    two: &mut Pass<Board<Fixed, MemoryFixtures>>,
-    ticket: &Ticket<Fixed>,
-) -> Result<Asked, NotPlayed>
-    requires one { Has hall.now one.old 0 None None [] }
-    requires two { Has hall.now two.old 1 (Some ticket.now.serial) None [] }
-    requires ticket { IsTicketOf (view two.old) ticket.now }
-    ensures one { Has hall.now one.new 0 None None [] }
-    ensures two { Has hall.now two.new 1 (Some ticket.now.serial) None [] }
-    ensures ticket { IsTicketOf (view two.new) ticket.now }
+    on: &On<'_, R>,
+    pair: &mut Pair,
+    ticket: &Ticket<Set>,
+) -> Result<Asked, Refused>
+    requires one { Has on.now.hall.now pair.old.one 0 None None [] }
+    requires two { Runs on.now.hall.now pair.old.two 1 ticket.now None }
+    ensures one { Has on.now.hall.now pair.new.one 0 None None [] }
+    ensures two { Runs on.now.hall.now pair.new.two 1 ticket.now None }
 {
     let serial = ticket.serial();
-    let origin = origin_after(alloc, ticket, true)?;
-    let draft = make_and_open(rt, alloc, hall, two, ticket, true, 1)?;
-    let halted = halt(rt, hall, one, 0);
-    let attempt = publish(rt, hall, two, ticket, draft, origin, 1);
-    if !halted {
-        return Err(NotPlayed);
+    let origin = origin_after(on.alloc, ticket, true)?;
+    let draft = make_and_open(on, &mut pair.two, ticket, true, 1)?;
+    let halted = on.halt(&mut pair.one, 0);
+    let attempt = attempt_of(on.publish(&mut pair.two, ticket, draft, origin, 1));
+    if halted.is_none() {
+        return Err(Refused::Halted);
     }
     Ok(Asked {
         serial,
@@ -174,25 +145,17 @@ fn halted_before_publishing<R: Wait>(
     })
 }
 
-fn still_in_use<R: Wait>(
-    rt: &R,
-    alloc: Global,
-    hall: &Hall<Fixed, MemoryFixtures>,
-    one: &mut Pass<Board<Fixed, MemoryFixtures>>,
-    two: &mut Pass<Board<Fixed, MemoryFixtures>>,
-) -> Result<Shown, NotPlayed>
-    requires one { Has hall.now one.old 0 None None [] }
-    requires two { Has hall.now two.old 1 None None [] }
-    ensures one { Has hall.now one.new 0 None None [] }
-    ensures two { Has hall.now two.new 1 None None [] }
+fn still_in_use<R: Wait>(on: &On<'_, R>, pair: &mut Pair) -> Result<Shown, Refused>
+    requires { AreIdle on.now.hall.now pair.old }
+    ensures { AreIdle on.now.hall.now pair.new }
 {
-    let ticket = begin(rt, hall, one, 0)?;
-    let followed = change_times(rt, alloc, hall, two, 1, 1_022);
-    let first = change(rt, alloc, hall, two, false, 1);
-    let second = change(rt, alloc, hall, two, true, 1);
-    end(rt, hall, one, ticket, 0);
+    let ticket = on.begin(&mut pair.one, 0)?;
+    let followed = change_times(on, &mut pair.two, 1_022);
+    let first = change(on, &mut pair.two, false, 1);
+    let second = change(on, &mut pair.two, true, 1);
+    on.end(&mut pair.one, ticket, 0);
     followed?;
-    let third = change(rt, alloc, hall, two, true, 1)?;
+    let third = change(on, &mut pair.two, true, 1)?;
     Ok(Shown {
         first: first?,
         second: second?,
@@ -200,18 +163,13 @@ fn still_in_use<R: Wait>(
     })
 }
 
-fn cannot_open<R: Wait>(
-    rt: &R,
-    alloc: Global,
-    hall: &Hall<Fixed, MemoryFixtures>,
-    one: &mut Pass<Board<Fixed, MemoryFixtures>>,
-) -> Result<Shown, NotPlayed>
-    requires { Has hall.now one.old 0 None None [] }
-    ensures { Has hall.now one.new 0 None None [] }
+fn cannot_open<R: Wait>(on: &On<'_, R>, pair: &mut Pair) -> Result<Shown, Refused>
+    requires { AreIdle on.now.hall.now pair.old }
+    ensures { AreIdle on.now.hall.now pair.new }
 {
-    let first = change(rt, alloc, hall, one, true, 0)?;
-    let second = change(rt, alloc, hall, one, true, 0)?;
-    let third = change(rt, alloc, hall, one, false, 0)?;
+    let first = change(on, &mut pair.one, true, 0)?;
+    let second = change(on, &mut pair.one, true, 0)?;
+    let third = change(on, &mut pair.one, false, 0)?;
     Ok(Shown {
         first,
         second,

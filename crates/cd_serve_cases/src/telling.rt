@@ -1,21 +1,27 @@
 // What a hall came to is printed, as a line.
 use crate::asking::Asked;
-use crate::meeting::Ended;
-use crate::scenes::Scene;
-use cd_outside::{FixtureCall, Key, MemoryFixtures};
+use crate::scenes::{Scene, Shown};
+use cd_fixed::tell_calls;
+use cd_pair::Ended;
 use cd_serve::{Attempt, ChangeFault};
 use std::alloc::Global;
 use std::io;
 
 /// Prints what the scene came to: its three requests, how many configurations were published, and the calls of the fixtures.
-pub fn tell(rt: &impl Print, alloc: Global, scene: Scene, ended: &Ended) -> io::Result<()> {
+pub fn tell(
+    rt: &impl Print,
+    alloc: Global,
+    scene: Scene,
+    shown: &Shown,
+    ended: &Ended,
+) -> io::Result<()> {
     let published = ended.published;
     tell_scene(rt, scene)?;
-    tell_asked(rt, alloc, &ended.shown.first)?;
+    tell_asked(rt, alloc, &shown.first)?;
     print!(rt; ",")?;
-    tell_asked(rt, alloc, &ended.shown.second)?;
+    tell_asked(rt, alloc, &shown.second)?;
     print!(rt; ",")?;
-    tell_asked(rt, alloc, &ended.shown.third)?;
+    tell_asked(rt, alloc, &shown.third)?;
     print!(rt; "; published {published};")?;
     tell_calls(rt, &ended.fixtures)
 }
@@ -55,35 +61,5 @@ fn tell_fault(rt: &impl Print, alloc: Global, fault: &ChangeFault) -> io::Result
     match body.strip_suffix('\n') {
         Some(words) => print!(rt; "{status} {words}"),
         None => print!(rt; "{status} and no line"),
-    }
-}
-
-// All calls in their order: + is an opening, ! one that failed, and - a closing.
-fn tell_calls(rt: &impl Print, fixtures: &MemoryFixtures) -> io::Result<()> {
-    for call in fixtures.calls().as_slice() {
-        tell_call(rt, call)?;
-    }
-    println!(rt; "")
-}
-
-fn tell_call(rt: &impl Print, call: &FixtureCall) -> io::Result<()> {
-    match call {
-        FixtureCall::Opened(key) => tell_key(rt, "+", key),
-        FixtureCall::NotOpened(key) => tell_key(rt, "!", key),
-        FixtureCall::Closed(key) => tell_key(rt, "-", key),
-        FixtureCall::Shut => print!(rt; " shut"),
-    }
-}
-
-fn tell_key(rt: &impl Print, sign: &str, key: &Key) -> io::Result<()> {
-    match key {
-        Key::Listen(address) => {
-            let port = address.port;
-            print!(rt; " {sign}{port}")
-        }
-        Key::Writer(name) => {
-            let name = name.as_str();
-            print!(rt; " {sign}{name}")
-        }
     }
 }

@@ -1,6 +1,5 @@
-use Rattle.std.proofs.Common.{rules, ◌≡◌, true, false, [], ◌∷◌, ◌++◌, refl, sym, ap, ◌∙◌, subst, arith}
+use Rattle.std.proofs.Common.{rules, ◌≡◌, true, false, [], refl, sym, ap, ◌∙◌, subst, arith}
 use Rattle.cd_legal.specs.declared.entry.Entry.TheVariants.{Halt}
-use Rattle.cd_legal.specs.Entry.{signed}
 use Rattle.cd_legal.specs.Laws.{core_at}
 use Rattle.cd_legal.specs.Legal.{state_at}
 use Rattle.cd_gate.specs.declared.view.View.{View}
@@ -9,6 +8,7 @@ use Rattle.cd_gate_cases.specs.declared.board.Board.{Board}
 use Rattle.cd_gate_cases.specs.declared.board.Board.TheVariants.{Halted}
 use Rattle.cd_gate_cases.specs.Boards.{state_on, StandsFor}
 use Rattle.cd_gate_cases.specs.Passes.{begins}
+use Rattle.cd_fixed.proofs.Halted.{halted-after}
 use Rattle.cd_gate_cases.proofs.Turns.{left, halted_is, serial_is, serial_zero, stands_halted, begins-same}
 use Rattle.cd_gate_cases.proofs.halting.halt_once.Goals as goal
 
@@ -68,14 +68,7 @@ returns-clause-begun g c =
 
 pub returns-clause-halted : goal.returns-clause-halted
 returns-clause-halted g c =
-    let b = c.enter-turn.result.value in
-    let w = view c.enter-turn.new.pass in
-    let f = c.enter-turn.ensures.seen in
     let h = c.halt_step-begins.ensures.halts in
-    let t = c.settle_step-due.ensures.settles in
-    let runs : (state_on b).halted ≡ false = search rules in
-    let found : StandsFor b (core_at h.0) = ap state_at h.1.core_is ∙ (ap (λ (z : View Board). state_at (core_at z.seen)) f.1 ∙ f.2.board) in
     ap (λ (z : View Board). (state_at z.seen).halted) c.leave-2.ensures.seen
-    ∙ (ap (λ (z : View Board). (state_at z.seen).halted) t.3
-    ∙ (ap (λ (z : View Board). (state_at z.seen).halted) h.3
-    ∙ halted_is Halted (h.0 ++ signed w.number (Halt 1) ∷ []) (stands_halted b h.0 w.number runs found)))
+    ∙ (ap (λ (z : View Board). (state_at z.seen).halted) c.settle_step-due.ensures.settles.3
+    ∙ (ap (λ (z : View Board). (state_at z.seen).halted) h.3 ∙ halted-after h.0 (view c.enter-turn.new.pass).number 1 []))

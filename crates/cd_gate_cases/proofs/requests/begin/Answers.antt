@@ -1,4 +1,4 @@
-use Rattle.std.proofs.Common.{rules, ◌≡◌, ◌+◌, true, false, [], ◌∷◌, ◌++◌, List, refl, sym, ap, ◌∙◌}
+use Rattle.std.proofs.Common.{rules, ◌≡◌, ◌+◌, true, false, [], ◌∷◌, ◌++◌, List, sym, ap, ◌∙◌}
 use Rattle.cd_legal.specs.declared.entry.Entry.TheVariants.{Begin}
 use Rattle.cd_legal.specs.declared.entry.Signed.{Signed}
 use Rattle.cd_legal.specs.Entry.{signed}
@@ -9,7 +9,7 @@ use Rattle.cd_gate.specs.Passes.{view}
 use Rattle.cd_gate_cases.specs.declared.board.Board.{Board}
 use Rattle.cd_gate_cases.specs.Boards.{StandsFor}
 use Rattle.cd_gate_cases.specs.Passes.{begins}
-use Rattle.cd_gate_cases.proofs.Turns.{stands_now, stands_quiet, left, halted_is, begins-snoc, seen_on, seen_more, at_serial, serial_begun}
+use Rattle.cd_gate_cases.proofs.Turns.{stands_now, stands_begun, left, halted_is, begins-snoc, seen_on, seen_more, at_serial, serial_begun}
 use Rattle.cd_gate_cases.proofs.requests.begin.Goals as goal
 
 pub leave-requires-clause-left : goal.leave-requires-clause-left
@@ -36,18 +36,14 @@ returns-then-not-check-clause-halted g c =
 
 pub leave-requires-2-clause-board : goal.leave-requires-2-clause-board
 leave-requires-2-clause-board g c =
-    let b = c.enter-turn.result.value in
-    let v = view c.enter-turn.new.pass in
     let w = view c.check.new.pass in
     let f = c.enter-turn.ensures.seen in
     let room : c.check.result ≡ true = search rules in
     let t = c.check.ensures.room room in
     let e = c.begin_step-serial.ensures.begins in
-    let turn : v.turn ≡ true = ap (λ (z : View Board). z.turn) f.1 in
-    let found : StandsFor b (core_at v.seen) = ap (λ (z : View Board). state_at (core_at z.seen)) f.1 ∙ f.2.board in
-    let checked : StandsFor b (core_at w.seen) = ap (λ (z : View Board). state_at (core_at z.seen)) t.3 ∙ stands_now b v t.0 t.1 turn found in
+    let turn : (view c.enter-turn.new.pass).turn ≡ true = ap (λ (z : View Board). z.turn) f.1 in
     ap (λ (z : View Board). state_at (core_at z.seen)) e.1.is
-    ∙ stands_quiet b e.0 w.number (Begin w.number c.begin_step-serial.result) refl (stands_now b w e.0 e.1.found (ap (λ (z : View Board). z.turn) t.3 ∙ turn) checked)
+    ∙ stands_begun c.enter-turn.result.value (view c.enter-turn.new.pass) w t.0 e.0 c.begin_step-serial.result (ap (λ (z : View Board). state_at (core_at z.seen)) f.1 ∙ f.2.board) turn t.1 (ap (λ (z : View Board). z.seen) t.3) (ap (λ (z : View Board). z.turn) t.3 ∙ turn) e.1.found
 
 pub leave-requires-2-clause-left : goal.leave-requires-2-clause-left
 leave-requires-2-clause-left g c = left c.enter-turn.result.value (view c.begin_step-serial.new.pass).seen (leave-requires-2-clause-board g c)
@@ -64,9 +60,7 @@ returns-clause-seen g c =
     let t = c.check.ensures.room room in
     let e = c.begin_step-serial.ensures.begins in
     let turn : v.turn ≡ true = ap (λ (z : View Board). z.turn) f.1 in
-    let found : StandsFor b (core_at v.seen) = ap (λ (z : View Board). state_at (core_at z.seen)) f.1 ∙ f.2.board in
-    let checked : StandsFor b (core_at w.seen) = ap (λ (z : View Board). state_at (core_at z.seen)) t.3 ∙ stands_now b v t.0 t.1 turn found in
-    let now = stands_quiet b e.0 w.number (Begin w.number n) refl (stands_now b w e.0 e.1.found (ap (λ (z : View Board). z.turn) t.3 ∙ turn) checked) in
+    let now = stands_begun b v w t.0 e.0 n (ap (λ (z : View Board). state_at (core_at z.seen)) f.1 ∙ f.2.board) turn t.1 (ap (λ (z : View Board). z.seen) t.3) (ap (λ (z : View Board). z.turn) t.3 ∙ turn) e.1.found in
     let log : List Signed = e.0 ++ signed w.number (Begin w.number n) ∷ [] in
     let seen : y.seen ≡ log = ap (λ (z : View Board). z.seen) c.leave-2.ensures.seen ∙ ap (λ (z : View Board). z.seen) e.1.is in
     at_serial c.is_halted-halted.result (state_at y.seen).halted n (state_at y.seen).serial

@@ -1,6 +1,6 @@
 use Rattle.std.proofs.Common.{◌≡◌, None, []}
-use Rattle.cd_hall_cases.specs.Passes.{Has}
+use Rattle.cd_pair.specs.Passes.{Has}
 use Rattle.cd_hall_cases.proofs.threads.ask.Given as goal
 
 abbrev pub invariant-loop : goal.invariant-loop
-invariant-loop g l = (l.hall ≡ l.fn.hall) × Has l.hall l.pass 1 None None []
+invariant-loop g l = (l.on ≡ l.fn.on) × Has l.on.hall.now l.pass 1 None None []

@@ -5,11 +5,11 @@ use Rattle.cd_hall_cases.proofs.Crossing as crossing
 use Rattle.cd_hall_cases.proofs.threads.serve_each.Goals as goal
 
 pub for_each_mut-requires-send-T : goal.for_each_mut-requires-send-T
-for_each_mut-requires-send-T g c κs within = param_send 1 _ (arg_send _ no _ crossing.fixed_pass_send)
+for_each_mut-requires-send-T g c κs within = param_send 1 _ (arg_send _ no _ (crossing.fixed_pass_send _))
 
 pub for_each_mut-requires-sync-F : goal.for_each_mut-requires-sync-F
 for_each_mut-requires-sync-F g c κs within =
-    let h = crossing.fixed_hall_sync _ in
+    let h = crossing.fixed_hall_sync _ _ in
     let r = c.type_bounds.sync-R in
     -- what the closure holds: a `&` to the runtime, one to the allocator, and one to the hall
     record {

@@ -1,0 +1,2 @@
+pub mod Halted
+mod Truths
