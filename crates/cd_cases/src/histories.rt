@@ -21,7 +21,7 @@ use cd_legal::{Change, Entry, Plan, PlanApp, PlanModule, ReplayFault, replay};
 use cd_outside::Key;
 use cd_rows::{Outcome, RowFault, bytes_at, find, has, only, says};
 use cd_text::{List, Octets, Text, parts_of};
-use cd_tree::{Path, SharedText, Tree};
+use cd_tree::{SharedText, Spot, Tree};
 use std::alloc::Global;
 
 pub fn history_outcome(alloc: Global, row: &Tree) -> Result<Outcome, RowFault> {
@@ -49,7 +49,8 @@ fn modules_of(alloc: Global, texts: Option<&Tree>) -> Result<List<PlanModule>, R
     if let Some(Tree::Items(texts)) = texts {
         for text in texts.as_slice() {
             let (name, keys) = part_of(alloc, text)?;
-            let at = Path::root(alloc);
+            let name = SharedText::new(alloc, name)?;
+            let at = Spot::root(alloc);
             modules.push(PlanModule { name, at, keys })?;
         }
     }

@@ -8,7 +8,7 @@ use cd_legal::{Plan, PlanApp, PlanModule};
 use cd_outside::{Address, Key};
 use cd_pair::Table;
 use cd_text::{List, NoMemory, Text};
-use cd_tree::Path;
+use cd_tree::{SharedText, Spot};
 use std::alloc::Global;
 
 /// The first configuration is the plain one, and the other the wide one.
@@ -107,8 +107,8 @@ fn listeners(alloc: Global) -> Result<PlanApp, NoMemory>
 fn module(alloc: Global, name: &str, keys: List<Key>) -> Result<PlanModule, NoMemory>
     ensures { IfOk result (λ made. made ≡ record { name = name.now; at = record { parts = [] }; keys = keys }) }
 {
-    let name = Text::from_str(alloc, name)?;
-    let at = Path::root(alloc);
+    let name = SharedText::from_str(alloc, name)?;
+    let at = Spot::root(alloc);
     Ok(PlanModule { name, at, keys })
 }
 

@@ -3,7 +3,7 @@ ghost use Rattle.std.specs.Prelude.{◌≡◌, IfOk};
 use crate::keys::copy_keys;
 use cd_outside::Key;
 use cd_text::{List, NoMemory, Text};
-use cd_tree::Path;
+use cd_tree::{SharedText, Spot};
 use std::alloc::Global;
 
 /// What a draft consists of: its modules, of which instances are made, and its apps, which are started, each in this order.
@@ -17,9 +17,9 @@ pub struct Plan {
 #[derive(Drop)]
 pub struct PlanModule {
     /// The dotted id of the module, such as `http.handlers.static_response`.
-    pub name: Text,
+    pub name: SharedText,
     /// Where it stands in the tree.
-    pub at: Path,
+    pub at: Spot,
     /// The keys that an instance takes, in this order.
     pub keys: List<Key>,
 }
@@ -51,11 +51,11 @@ impl Plan {
 }
 
 impl PlanModule {
-    /// A copy.
+    /// A copy. It shares the name, and the texts in the place.
     pub fn copy(&self, alloc: Global) -> Result<PlanModule, NoMemory>
         ensures { IfOk result (λ made. made ≡ self.now) }
     {
-        let name = self.name.copy(alloc)?;
+        let name = self.name.share()?;
         let at = self.at.copy(alloc)?;
         let keys = copy_keys(alloc, self.keys.as_slice())?;
         Ok(PlanModule { name, at, keys })

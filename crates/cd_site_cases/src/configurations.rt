@@ -37,7 +37,7 @@ fn planned(alloc: Global, plan: &Plan) -> Result<Outcome, NoMemory> {
 }
 
 fn put_module(alloc: Global, module: &PlanModule, out: &mut Octets) -> Result<(), NoMemory> {
-    let at = module.at.to_text(alloc)?;
+    let at = module.at.to_path(alloc)?.to_text(alloc)?;
     out.append(module.name.as_str().as_bytes())?;
     out.push(b' ')?;
     out.append(at.as_str().as_bytes())?;

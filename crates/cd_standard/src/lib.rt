@@ -20,6 +20,7 @@ mod compiled;
 mod configuration;
 mod counting;
 mod echo;
+mod found;
 mod http;
 mod judging;
 mod listening;
@@ -27,6 +28,7 @@ mod loading;
 mod planning;
 mod standard;
 mod walking;
+mod words;
 
 pub use app::App;
 pub use checks::Check;

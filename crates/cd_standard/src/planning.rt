@@ -7,11 +7,12 @@ ghost use Rattle.cd_standard.specs.Plans.{app_name, app_modules, inside_app, mod
 
 use crate::app::App;
 use crate::configuration::Configuration;
-use crate::walking::{add_module, add_servers, module_id};
+use crate::found::{Found, module_id};
+use crate::walking::{add_module, add_servers};
 use cd_legal::PlanModule;
 use cd_log::{Log, Logs, Writer};
-use cd_text::{List, NoMemory, Text};
-use cd_tree::Place;
+use cd_text::{List, NoMemory};
+use cd_tree::{Place, SharedText};
 use std::alloc::Global;
 
 impl App {
@@ -33,12 +34,12 @@ pub fn modules_of(
 ) -> Result<List<PlanModule>, NoMemory>
     ensures { IfOk result (λ made. made ≡ modules_of configuration.now) }
 {
-    let mut out = List::new(alloc);
+    let mut out = Found::new(alloc)?;
     let top = Place::top();
     add_all_writers(alloc, &configuration.logs, &top.member("logging"), &mut out)?;
     let apps = configuration.apps.as_slice();
     add_apps(alloc, apps, &top.member("apps"), &mut out)?;
-    Ok(out)
+    Ok(out.into_list())
 }
 
 // ---- writers
@@ -47,19 +48,15 @@ fn add_all_writers(
     alloc: Global,
     logs: &Logs,
     at: &Place<'_>,
-    out: &mut List<PlanModule>,
+    out: &mut Found,
 ) -> Result<(), NoMemory>
     ensures { OnOk result (out.new ≡ out.old ++ map (writer_module (at.now ▸ codes "logs")) logs.now.logs) }
 {
-    add_writers(alloc, logs.logs.as_slice(), &at.member("logs"), out)
+    let base = at.member("logs").to_base(alloc)?;
+    add_writers(alloc, logs.logs.as_slice(), &base.place(), out)
 }
 
-fn add_writers(
-    alloc: Global,
-    logs: &[Log],
-    at: &Place<'_>,
-    out: &mut List<PlanModule>,
-) -> Result<(), NoMemory>
+fn add_writers(alloc: Global, logs: &[Log], at: &Place<'_>, out: &mut Found) -> Result<(), NoMemory>
     ensures { OnOk result (out.new ≡ out.old ++ map (writer_module at.now) logs.now) }
 {
     for log in logs {
@@ -87,19 +84,14 @@ fn planned_writer(alloc: Global, writer: &Writer, at: &Place<'_>) -> Result<Plan
     let name = module_id(alloc, "caddy.logging.writers.", writer.output())?;
     Ok(PlanModule {
         name,
-        at: at.to_path(alloc)?,
+        at: at.to_spot(alloc)?,
         keys,
     })
 }
 
 // ---- apps
 
-fn add_apps(
-    alloc: Global,
-    apps: &[App],
-    at: &Place<'_>,
-    out: &mut List<PlanModule>,
-) -> Result<(), NoMemory>
+fn add_apps(alloc: Global, apps: &[App], at: &Place<'_>, out: &mut Found) -> Result<(), NoMemory>
     ensures { OnOk result (out.new ≡ out.old ++ flat_map (app_modules at.now) apps.now) }
 {
     for app in apps {
@@ -108,34 +100,24 @@ fn add_apps(
     Ok(())
 }
 
-fn add_app(
-    alloc: Global,
-    app: &App,
-    at: &Place<'_>,
-    out: &mut List<PlanModule>,
-) -> Result<(), NoMemory>
+fn add_app(alloc: Global, app: &App, at: &Place<'_>, out: &mut Found) -> Result<(), NoMemory>
     ensures { OnOk result (out.new ≡ out.old ++ app_modules at.now app.now) }
 {
-    let name = app.name();
-    let here = at.member(name);
-    add_module(alloc, Text::from_str(alloc, name)?, &here, out)?;
+    let name = SharedText::from_str(alloc, app.name())?;
+    let here = at.named(&name);
+    add_module(alloc, name.share()?, &here, out)?;
     add_inside(alloc, app, &here, out)
 }
 
 // What is inside an app.
-fn add_inside(
-    alloc: Global,
-    app: &App,
-    at: &Place<'_>,
-    out: &mut List<PlanModule>,
-) -> Result<(), NoMemory>
+fn add_inside(alloc: Global, app: &App, at: &Place<'_>, out: &mut Found) -> Result<(), NoMemory>
     ensures { OnOk result (out.new ≡ out.old ++ inside_app app.now at.now) }
 {
     match app {
         App::Echo(_) => Ok(()),
         App::Http(http) => {
-            let servers = http.servers.as_slice();
-            add_servers(alloc, servers, &at.member("servers"), out)
+            let base = at.member("servers").to_base(alloc)?;
+            add_servers(alloc, http.servers.as_slice(), &base.place(), out)
         }
     }
 }

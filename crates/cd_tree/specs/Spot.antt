@@ -3,12 +3,11 @@
 use Rattle.std.specs.Prelude.{ℕ, List, [], ◌++◌, map, decimal, Option, None, Some}
 use Rattle.cd_tree.specs.declared.path.Path.{Path}
 use Rattle.cd_tree.specs.declared.spot_parts.SpotPart.{SpotPart}
-use Rattle.cd_tree.specs.declared.spot_parts.SpotPart.TheVariants.{Word, Name, Element}
+use Rattle.cd_tree.specs.declared.spot_parts.SpotPart.TheVariants.{Name, Element}
 use Rattle.cd_tree.specs.declared.spot_parts.SpotParts.{SpotParts}
 
 -- a name as it is, and the place of an element in decimal
 abbrev pub part_text : SpotPart → List ℕ
-part_text (Word word) = word.now
 part_text (Name name) = name
 part_text (Element place) = decimal place
 

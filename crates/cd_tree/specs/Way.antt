@@ -12,7 +12,6 @@ abbrev pub path_step : Way-F Path → Path
 path_step Way-F.Top = record { parts = [] }
 path_step (Way-F.Base parts) = base_path parts.now
 path_step (Way-F.Member above name) = above.now ▸ name.now
-path_step (Way-F.Word above word) = above.now ▸ word.now
 path_step (Way-F.Named above name) = above.now ▸ name.now
 path_step (Way-F.Element above place) = above.now ▸ decimal place
 

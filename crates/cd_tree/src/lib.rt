@@ -18,7 +18,7 @@
 //!
 //! `Fields` lends the members of an object by their names. What is lent from a sound object is sound. A reader is given the
 //! `Place` of its value, which borrows each part from the readers above it. Only a fault makes a `Path` of its own from it.
-//! What is kept is a `Spot`, and the spots below a `Base` share its parts.
+//! What is kept is a `Spot`, which shares names that have several owners. The spots below a `Base` share its parts.
 //!
 //! That a hand-made tree is sound is left to whoever makes it, and where in a configuration a tree is to whoever passes its
 //! place.

@@ -56,16 +56,7 @@ impl<'a> Place<'a> {
         }
     }
 
-    /// The same of a name that is a word of the program, which a spot keeps without a copy.
-    pub fn word<'b>(&'b self, word: &'static str) -> Place<'b>
-        ensures { result ≡ self.now ▸ word.now }
-    {
-        Place {
-            way: Way::word(&self.way, word),
-        }
-    }
-
-    /// The same of a name that has several owners, of which a spot becomes one more.
+    /// The same of a name that has several owners. A spot becomes one more, and copies nothing.
     pub fn named<'b>(&'b self, name: &'b SharedText) -> Place<'b>
         ensures { result ≡ self.now ▸ name.now }
     {

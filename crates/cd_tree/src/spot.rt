@@ -3,13 +3,13 @@ ghost use Rattle.cd_tree.specs.Spot.{base_path, base_texts, spot_path, part_text
 
 use crate::path::Path;
 use crate::shared::Shared;
-use crate::spot_parts::{SpotPart, SpotParts};
+use crate::spot_parts::{SpotPart, SpotParts, no_parts};
 use cd_text::{List, NoMemory, Text, decimal as decimal_text};
 use std::alloc::Global;
 use std::marker::Model;
 
 /// Where a value is in a tree, to be kept. It says the same as a `Path`, and takes less: spots below a `Base` share its parts,
-/// and of the parts after these no text is copied. Contracts see it as the path.
+/// and a name that has several owners is not copied. Contracts see it as the path.
 #[derive(Drop)]
 pub struct Spot {
     parts: SpotParts,
@@ -75,15 +75,19 @@ fn copy_parts(alloc: Global, parts: &SpotParts) -> Result<SpotParts, NoMemory>
     ensures { IfOk result (λ made. spot_path made ≡ spot_path parts.now) }
 {
     let base = share_base(&parts.base)?;
-    let rest = copy_each(alloc, parts.rest.as_slice())?;
+    let rest = copy_each(alloc, parts.rest.as_slice(), 0)?;
     Ok(SpotParts { base, rest })
 }
 
-/// Copies of parts, which name what these do.
-pub(crate) fn copy_each(alloc: Global, parts: &[SpotPart]) -> Result<List<SpotPart>, NoMemory>
+/// Copies of parts, which name what these do, with room for so many more.
+pub(crate) fn copy_each(
+    alloc: Global,
+    parts: &[SpotPart],
+    room: usize,
+) -> Result<List<SpotPart>, NoMemory>
     ensures { IfOk result (λ made. map part_text made ≡ map part_text parts.now) }
 {
-    let mut made = List::new(alloc);
+    let mut made = no_parts(alloc, parts.len().saturating_add(room))?;
     for part in parts {
         made.push(copy_part(part)?)?;
     }
@@ -94,7 +98,6 @@ fn copy_part(part: &SpotPart) -> Result<SpotPart, NoMemory>
     ensures { IfOk result (λ made. part_text made ≡ part_text part.now) }
 {
     match part {
-        SpotPart::Word(word) => Ok(SpotPart::Word(word)),
         SpotPart::Name(name) => Ok(SpotPart::Name(name.share()?)),
         SpotPart::Element(place) => Ok(SpotPart::Element(*place)),
     }
@@ -146,7 +149,6 @@ fn text_of_part(alloc: Global, part: &SpotPart) -> Result<Text, NoMemory>
     ensures { IfOk result (λ text. text ≡ part_text part.now) }
 {
     match part {
-        SpotPart::Word(word) => Text::from_str(alloc, word),
         SpotPart::Name(name) => name.copy(alloc),
         SpotPart::Element(place) => decimal_text(alloc, *place as u64),
     }

@@ -7,7 +7,7 @@ use crate::path::Path;
 use crate::shared::Shared;
 use crate::shared_text::SharedText;
 use crate::spot::{copy_each, path_of_base};
-use crate::spot_parts::{SpotPart, SpotParts};
+use crate::spot_parts::{SpotPart, SpotParts, no_parts};
 use cd_text::{List, NoMemory, Text, decimal as decimal_text};
 use std::alloc::Global;
 
@@ -17,7 +17,6 @@ pub(crate) enum Way<'a> {
     Top,
     Base(&'a Shared<SpotPart>),
     Member(&'a Way<'a>, &'a str),
-    Word(&'a Way<'a>, &'static str),
     Named(&'a Way<'a>, &'a SharedText),
     Element(&'a Way<'a>, usize),
 }
@@ -35,13 +34,6 @@ impl<'a> Way<'a> {
         ensures { path_of result ≡ path_of above.now ▸ name.now }
     {
         Way::Member(above, name)
-    }
-
-    /// The way to a member whose name is a word of the program.
-    pub(crate) fn word(above: &'a Way<'a>, word: &'static str) -> Way<'a>
-        ensures { path_of result ≡ path_of above.now ▸ word.now }
-    {
-        Way::Word(above, word)
     }
 
     /// The way to a member whose name has several owners.
@@ -71,11 +63,6 @@ pub(crate) fn to_path(alloc: Global, way: &Way<'_>) -> Result<Path, NoMemory>
             path.parts.push(Text::from_str(alloc, name)?)?;
             Ok(path)
         }
-        Way::Word(above, word) => {
-            let mut path = to_path(alloc, above)?;
-            path.parts.push(Text::from_str(alloc, word)?)?;
-            Ok(path)
-        }
         Way::Named(above, name) => {
             let mut path = to_path(alloc, above)?;
             path.parts.push(name.copy(alloc)?)?;
@@ -101,7 +88,6 @@ pub(crate) fn to_parts(alloc: Global, way: &Way<'_>, room: usize) -> Result<Spot
             let part = SpotPart::Name(SharedText::from_str(alloc, name)?);
             with_part(to_parts(alloc, above, next)?, part)
         }
-        Way::Word(above, word) => { with_part(to_parts(alloc, above, next)?, SpotPart::Word(word)) }
         Way::Named(above, name) => {
             let part = SpotPart::Name(name.share()?);
             with_part(to_parts(alloc, above, next)?, part)
@@ -132,7 +118,7 @@ fn joined(
 ) -> Result<List<SpotPart>, NoMemory>
     ensures { IfOk result (λ all. map part_text all ≡ map part_text base.now ++ map part_text rest) }
 {
-    let mut all = copy_each(alloc, base)?;
+    let mut all = copy_each(alloc, base, rest.len())?;
     all.append(rest)?;
     Ok(all)
 }
@@ -141,12 +127,8 @@ fn joined(
 fn based(alloc: Global, base: Option<Shared<SpotPart>>, room: usize) -> Result<SpotParts, NoMemory>
     ensures { IfOk result (λ parts. spot_path parts ≡ record { parts = base_texts base }) }
 {
-    let mut rest = Vec::new(alloc);
-    rest.reserve(room)?;
-    Ok(SpotParts {
-        base,
-        rest: List::from_vec(rest),
-    })
+    let rest = no_parts(alloc, room)?;
+    Ok(SpotParts { base, rest })
 }
 
 // One part more.
