@@ -1,5 +1,5 @@
 -- The sites of a file have ports up to 65535, and set no variable of a name that `vars` has for itself.
-use Rattle.std.proofs.Common.{◌≡◌, ℕ, Bool, true, false, not, ◌&&◌, ◌||◌, List, [], ◌∷◌, map, length, Option, Some, None, refl, sym, ap, ◌∙◌, subst, drop, option_map}
+use Rattle.std.proofs.Common.{◌≡◌, ℕ, Bool, true, false, not, ◌&&◌, ◌||◌, List, [], ◌∷◌, map, length, Option, Some, None, refl, sym, ap, ◌∙◌, subst, drop, option_map, IfSome}
 use Rattle.std.specs.Prelude.{◌==◌, codes, nat_le, nat_eq, if◌then◌else◌, ⊤}
 use Rattle.std.specs.List.{list_all, list_any, starts_with, before_first, after_first}
 use Rattle.std.specs.Str.{bytes_eq}
@@ -7,14 +7,14 @@ use Rattle.std.specs.Char.{to_ascii_lowercase}
 use Rattle.std.proofs.lemmas.Bool.{and_parts, and_from}
 use Rattle.cd_caddyfile.specs.Addresses.{begins_with, is_host, is_decimal, number, port_of, at_port, port_alone, host_alone, is_colon, host_then_port, host_and_port, address_in, address_of}
 use Rattle.cd_caddyfile.specs.Blocks.{Lines, end, line, block}
-use Rattle.cd_caddyfile.specs.Directives.{directive_named, code_of, redir_code, vars_args, header_args, redir_args, rewrite_args, respond_one, respond_args, own_args, action_of}
-use Rattle.cd_caddyfile.specs.FileSites.{chosen_by, rank, put, put_handle, put_action, put_directive, block_of, put_site, sites_in}
-use Rattle.cd_caddyfile.specs.Shorthands.{spelled}
+use Rattle.cd_caddyfile.specs.Directives.{code_of, redir_code, respond_one, action_of}
+use Rattle.cd_caddyfile.specs.FileSites.{block_of, put_site, sites_in}
 use Rattle.cd_caddyfile.specs.Sites.{Tests, Action, vars, set_field, add_field, delete_field, redir, rewrite, respond, Block, done, act, handle, Site}
 use Rattle.cd_caddyfile.specs.declared.address.Address.{Address}
 use Rattle.cd_caddyfile.specs.declared.directive.Directive.{Directive}
 use Rattle.cd_caddyfile.specs.declared.directive.Directive.TheVariants.{Vars, Header, Redir, Rewrite, Handle, Respond}
 use Rattle.cd_site_reading.specs.Variables.{is_plain, are_plain}
+use Rattle.cd_adapt.proofs.FileParts.{HoldIn, hold_in_block_of}
 use Rattle.cd_site_law.proofs.Parts.{is_small}
 
 -- ---- directives
@@ -67,57 +67,27 @@ action_plain Respond (body ∷ status ∷ other ∷ others) a h = cc
 
 -- ---- blocks
 
-and_swap : (a b c : Bool) → (a && (b && c)) ≡ (b && (a && c))
-and_swap true true c = refl
-and_swap true false c = refl
-and_swap false true c = refl
-and_swap false false c = refl
+abbrev IsPlain : Action → Type 0
+IsPlain a = is_plain a ≡ true
 
-put_plain : (m : Option Tests) (a : Action) (b : Block) → are_plain (put m a b) ≡ (is_plain a && are_plain b)
-unfolding put are_plain
-put_plain m a done = refl
-put_plain m a (act m' a' b) = by (nat_le (rank a) (rank a')) (put_plain m a b)
+abbrev Any : Option Tests → Type 0
+Any m = ⊤
+
+all_plain : (name : Directive) (args : List (List ℕ)) → IfSome (action_of name args) IsPlain
+all_plain name args = all (action_of name args) (λ a is. action_plain name args a is)
   where
-    by : (t : Bool) → are_plain (put m a b) ≡ (is_plain a && are_plain b) → are_plain (if t then act m a (act m' a' b) else act m' a' (put m a b)) ≡ (is_plain a && (is_plain a' && are_plain b))
-    by true is = refl
-    by false is = ap (λ t. is_plain a' && t) is ∙ and_swap (is_plain a') (is_plain a) (are_plain b)
-put_plain m a (handle m' inside b) = by (nat_le (rank a) 4) (put_plain m a b)
-  where
-    by : (t : Bool) → are_plain (put m a b) ≡ (is_plain a && are_plain b) → are_plain (if t then act m a (handle m' inside b) else handle m' inside (put m a b)) ≡ (is_plain a && (are_plain inside && are_plain b))
-    by true is = refl
-    by false is = ap (λ t. are_plain inside && t) is ∙ and_swap (are_plain inside) (is_plain a) (are_plain b)
+    all : (o : Option Action) → ((a : Action) → o ≡ Some a → IsPlain a) → IfSome o IsPlain
+    all None one = tt
+    all (Some a) one = one a refl
 
-put_handle_plain : (m : Option Tests) (i b : Block) → are_plain (put_handle m i b) ≡ (are_plain i && are_plain b)
-unfolding put_handle are_plain
-put_handle_plain m i done = refl
-put_handle_plain m i (act m' a' b) = by (nat_le 4 (rank a')) (put_handle_plain m i b)
-  where
-    by : (t : Bool) → are_plain (put_handle m i b) ≡ (are_plain i && are_plain b) → are_plain (if t then handle m i (act m' a' b) else act m' a' (put_handle m i b)) ≡ (are_plain i && (is_plain a' && are_plain b))
-    by true is = refl
-    by false is = ap (λ t. is_plain a' && t) is ∙ and_swap (is_plain a') (are_plain i) (are_plain b)
-put_handle_plain m i (handle m' i' b) = refl
-
-action_kept : (m : Option Tests) (o : Option Action) (b : Block) → ((a : Action) → o ≡ Some a → is_plain a ≡ true) → are_plain b ≡ true → are_plain (put_action m o b) ≡ true
-action_kept m None b one others = others
-action_kept m (Some a) b one others = put_plain m a b ∙ and_from _ _ (one a refl) others
-
-directive_kept : (named : List ℕ → Tests) (o : Option Directive) (args : List (List ℕ)) (b : Block) → are_plain b ≡ true → are_plain (put_directive named o args b) ≡ true
-directive_kept named None args b others = others
-directive_kept named (Some name) args b others =
-    action_kept (chosen_by named name args) (action_of name (own_args name args)) b (λ a is. action_plain name (own_args name args) a is) others
-
-handle_kept : (t : Bool) (m : Option Tests) (i b : Block) → are_plain i ≡ true → are_plain b ≡ true → are_plain (if t then put_handle m i b else b) ≡ true
-handle_kept true m i b one others = put_handle_plain m i b ∙ and_from _ _ one others
-handle_kept false m i b one others = others
+plain-from_parts : (b : Block) → HoldIn Any IsPlain b → are_plain b ≡ true
+unfolding HoldIn are_plain
+plain-from_parts done all = refl
+plain-from_parts (act m a b) all = and_from _ _ all.1.0 (plain-from_parts b all.1.1)
+plain-from_parts (handle m inside b) all = and_from _ _ (plain-from_parts inside all.1.0) (plain-from_parts b all.1.1)
 
 block_plain : (named : List ℕ → Tests) (ls : Lines) → are_plain (block_of named ls) ≡ true
-unfolding block_of are_plain
-block_plain named end = refl
-block_plain named (line n [] after) = block_plain named after
-block_plain named (line n (w ∷ ws) after) = directive_kept named (directive_named (spelled w)) (map spelled ws) (block_of named after) (block_plain named after)
-block_plain named (block n [] is_closed inside after) = block_plain named after
-block_plain named (block n (w ∷ ws) is_closed inside after) =
-    handle_kept (bytes_eq (spelled w) (codes "handle")) (chosen_by named Handle (map spelled ws)) (block_of named inside) (block_of named after) (block_plain named inside) (block_plain named after)
+block_plain named ls = plain-from_parts (block_of named ls) (hold_in_block_of Any IsPlain named (λ name args. tt) all_plain ls)
 
 -- ---- ports
 
