@@ -1,3 +1,4 @@
 pub mod Shelving
 pub mod Standings
 pub mod Laws
+mod RemovalExamples
