@@ -30,11 +30,12 @@ is_json_type value = ends_with nat_eq (type_in value) (codes "/json")
 abbrev pub is_caddyfile_type : List ℕ → Bool
 is_caddyfile_type value = bytes_eq (type_in value) (codes "text/caddyfile")
 
--- the first value decides, and no value is fine
+-- the first value names a type of JSON, or there is none
 abbrev pub are_json : List (List ℕ) → Bool
 are_json [] = true
 are_json (value ∷ more) = is_json_type value
 
+-- the first value names the type of a Caddyfile
 abbrev pub are_caddyfile : List (List ℕ) → Bool
 are_caddyfile [] = false
 are_caddyfile (value ∷ more) = is_caddyfile_type value
