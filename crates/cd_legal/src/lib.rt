@@ -48,7 +48,7 @@ pub use laws::{
 };
 pub use limits::{
     LAST_SERIAL, MAX_BEGINS, MAX_DRAFTS, MAX_LANES, MAX_MODULES, MAX_PASSES, MAX_SEATS,
-    MAX_UNRETIRED, limits_are_these,
+    MAX_UNRETIRED, limits_in_numbers,
 };
 pub use part::Part;
 pub use plan::{Plan, PlanApp, PlanModule};

@@ -25,8 +25,8 @@ pub const MAX_PASSES: u32 = 65_536;
 /// How many modules a plan may have. Its apps are one more at most.
 pub const MAX_MODULES: usize = 65_536;
 
-/// The numbers of the limits.
-pub fn limits_are_these()
+/// The limits in numbers. A call does nothing.
+pub fn limits_in_numbers()
     ensures drafts { MAX_DRAFTS ≡ 2 ^ 64 - 1 }
     ensures unretired { MAX_UNRETIRED ≡ 1024 }
     ensures serials { LAST_SERIAL ≡ 2 ^ 24 - 2 }
