@@ -2,3 +2,4 @@ pub mod MeasureLaws
 mod HandlerLemmas
 mod SetSteps
 pub mod TextTests
+pub mod Examples
