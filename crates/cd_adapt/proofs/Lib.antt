@@ -11,3 +11,4 @@ pub mod FileParts
 pub mod StatusParts
 pub mod ShapeParts
 pub mod Sounds
+mod Examples
