@@ -1,5 +1,5 @@
 -- Examples of what a chain is made of, and what it is not made of, by the rule.
-use Rattle.std.proofs.Common.{◌≡◌, true, false, Bool, List, [], ◌∷◌, Some, None, Ok, sym, ap, ◌∙◌, refl, true≢false}
+use Rattle.std.proofs.Common.{◌≡◌, ◌≤◌, true, false, Bool, ℕ, zero, suc, List, [], ◌∷◌, get_or, Some, None, Ok, sym, ap, ◌∙◌, refl, true≢false, arith}
 use Rattle.cd_fill.specs.declared.failure.Failure.{Failure}
 use Rattle.cd_fill.specs.declared.scene.Scene.{Scene}
 use Rattle.cd_handlers.specs.Effect.{deferred, effect}
@@ -16,9 +16,10 @@ use Rattle.cd_chain.specs.declared.place.Place.{Place}
 use Rattle.cd_chain.specs.declared.place.Place.TheVariants as place
 use Rattle.cd_chain.specs.Chains.{Stands}
 use Rattle.cd_chain.specs.Indexes.{AreSound}
+use Rattle.cd_chain.specs.Laying.{Laid, MayLay}
 use Rattle.cd_chain.specs.Places.{at, ended, meanings, one_of, place_does}
 use Rattle.cd_chain.proofs.Laid.{laid_end, laid_new}
-use Rattle.cd_chain.proofs.Layouts.{none_left}
+use Rattle.cd_chain.proofs.Layouts.{grows_same, none_left}
 
 no_indexes : (places : List Place) → AreSound places []
 no_indexes places = λ k index there. cc
@@ -58,3 +59,25 @@ end_answers x = refl
 no_error : (settings : StaticError) (x : Scene) (failure : Failure) → failure_filled settings x ≡ Ok failure → Stands (record { places = alone settings; indexes = []; routes = 1; errors = None; sound = no_indexes (alone settings) }) [] None [] → ⊥
 no_error settings x failure filled stands =
     true≢false (sym (error_fails settings x failure filled) ∙ ap (λ (f : Rest). has_failed (f x)) (stands.main ∙ sym (none_left (run_route (named_routes [])) [] nothing_left refl)) ∙ end_answers x)
+
+-- ---- laying out
+
+-- a place may be laid out after the first
+may_lay : (settings : StaticError) → MayLay (alone settings) [] [] 1
+may_lay settings = record { rest = omega arith; entries = entries; sound = no_indexes (alone settings) }
+  where
+    entries : (n : ℕ) → get_or [] n 1 ≤ 1
+    entries zero = omega arith
+    entries (suc n) = omega arith
+
+-- before the first no named route can be entered
+may_not_lay : MayLay [] [] [] 0 → ⊥
+may_not_lay may = let h : 1 ≤ 0 = may.entries 0 in omega (arith, h)
+
+-- where no place is added, what is done is what is at `rest`
+laid_none : (settings : StaticError) → Laid (λ (r : Rest). r) (alone settings) (alone settings) [] 1 1
+laid_none settings = record { meaning = λ back. refl; within = omega arith; grows = grows_same (alone settings); sound = no_indexes (alone settings) }
+
+-- a number of no place
+not_laid : (does : Middleware) (settings : StaticError) → Laid does (alone settings) (alone settings) [] 1 2 → ⊥
+not_laid does settings l = let h : 2 ≤ 1 = l.within in omega (arith, h)
