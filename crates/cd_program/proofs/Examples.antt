@@ -1,15 +1,19 @@
 -- Each definition where it holds, and near misses.
-use Rattle.std.proofs.Common.{◌≡◌, ◌<◌, ◌∙◌, ℕ, ◌+◌, ◌++◌, true, false, List, [], ◌∷◌, length, Option, Some, None, refl, ap, sym, inl, inr, ⊎_elim, arith}
+use Rattle.std.proofs.Common.{◌≡◌, ◌<◌, ◌≤◌, ◌∙◌, ℕ, ◌+◌, ◌++◌, true, false, List, [], ◌∷◌, length, Option, Some, None, Ok, refl, ap, sym, append-nil, inl, inr, ⊎_elim, arith}
 use Rattle.std.specs.Prelude.{codes, get_or}
+use Rattle.cd_tree.specs.Tree.{text}
 use Rattle.cd_tree.specs.declared.limits.TheConstants.{MAX_TEXT_BYTES}
+use Rattle.cd_tree.specs.declared.tree.Tree.{Tree}
+use Rattle.cd_caddyfile.specs.Adapting.{adapted}
 use Rattle.cd_serve.specs.Meanings.{Meaning}
 use Rattle.cd_host.specs.Program.{Start}
 use Rattle.cd_host.specs.Runs.{Observed}
 use Rattle.cd_program.specs.declared.config.TheConstants.{CONFIG_READ_BYTES}
 use Rattle.cd_program.specs.declared.initial.Initial.{Initial}
 use Rattle.cd_program.specs.declared.status.Status.TheVariants as status
+use Rattle.cd_program.specs.Adapting.{Adapts}
 use Rattle.cd_program.specs.Config.{Gave}
-use Rattle.cd_program.specs.Output.{Wrote, FellShort}
+use Rattle.cd_program.specs.Output.{Wrote, FellShort, tree_line}
 use Rattle.cd_program.specs.Seen.{Seen}
 use Rattle.cd_output.specs.Devices.{Device, HasFailed}
 use Rattle.cd_program.specs.Storm.{IsStorm, Storms}
@@ -66,6 +70,26 @@ declined output e = here e.status e.is e.so
     here : (st : _) → 5 ≡ code_of st → Declines output st → ⊥
     here status.Usage is so = omega (arith, is)
     here st is so = so
+
+-- ---- what `adapt` does
+
+abbrev told : List ℕ → List ℕ → Device (List ℕ)
+told before now = record { told_before = Some before; told_now = Some now; failed_before = 0; failed_now = 0 }
+
+adapts : (bytes : List ℕ) (tree : Tree) → length bytes ≤ MAX_TEXT_BYTES → adapted bytes ≡ Ok tree → Adapts (told bytes []) (told [] (tree_line tree)) status.Done
+adapts bytes tree few is = record {
+  tree = tree;
+  comes = record { bytes = bytes; gave = record { given = ap Some (sym (append-nil bytes)); all = inr refl; few = omega (arith, few) }; is = is };
+  wrote = record { text = tree_line tree; held = refl; front = ([], append-nil (tree_line tree)); all = λ complete. refl };
+}
+
+-- nothing was written
+not_adapts : (source : Device (List ℕ)) → Adapts source (told [] []) status.Done → ⊥
+not_adapts source a = some (text a.tree) (Some-injective a.wrote.held ∙ a.wrote.all tt)
+  where
+    some : (bytes : List ℕ) → [] ≡ bytes ++ codes "\n" → ⊥
+    some [] e = let h : ◌≡◌ {A = List ℕ} [] (10 ∷ []) = e in cc
+    some (byte ∷ bytes) e = cc
 
 -- ---- a run
 
