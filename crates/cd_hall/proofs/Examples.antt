@@ -1,11 +1,18 @@
 -- Examples of the definitions: of each one where it is true and one where it is false.
-use Rattle.std.specs.Prelude.{◌≡◌, true, false, [], ◌∷◌}
-use Rattle.std.proofs.Common.{inl, refl}
+use Rattle.std.specs.Prelude.{◌≡◌, true, false, List, [], ◌∷◌}
+use Rattle.std.proofs.Common.{inl, refl, sym, ap, subst, ◌∙◌, true≢false}
 use Rattle.cd_legal.specs.declared.entry.Entry.TheVariants.{Finish, Halt}
+use Rattle.cd_legal.specs.declared.entry.Signed.{Signed}
 use Rattle.cd_legal.specs.declared.state.State.{State}
 use Rattle.cd_legal.specs.Entry.{signed}
+use Rattle.cd_legal.specs.Laws.{core_at}
 use Rattle.cd_legal.specs.State.{opening_state}
+use Rattle.cd_gate.specs.declared.gate.Gate.{Gate}
+use Rattle.cd_gate.specs.declared.pass.Pass.{Pass}
+use Rattle.cd_gate.specs.declared.pass.Turn.{Turn}
+use Rattle.cd_gate.specs.declared.view.View.{View}
 use Rattle.cd_gate.specs.Knowing.{Knows}
+use Rattle.cd_gate.specs.Passes.{view, HasTurnOf, opening_of}
 use Rattle.cd_gate.specs.Steps.{first_view, with_turn}
 use Rattle.cd_gate.specs.Tables.{Found}
 use Rattle.cd_hall.specs.Dues.{is_last_at, is_before_halt, DueThen}
@@ -13,6 +20,7 @@ use Rattle.cd_hall.specs.GoesOn.{GoesOn, Settles}
 use Rattle.cd_hall.specs.Requests.{HasLooked}
 use Rattle.cd_hall.specs.Since.{Since}
 use Rattle.cd_hall.specs.Turned.{Turned}
+use Rattle.cd_hall.specs.Turns.{InTurn}
 use Rattle.cd_hall.proofs.Goes.{goes_none}
 use Rattle.cd_hall.proofs.Since.{entered}
 
@@ -75,3 +83,16 @@ module _ (b : State) where
 
   not_looked : HasLooked (first_view b) (record (with_turn (first_view b) []) { checked = true }) → ⊥
   not_looked l = absurd (let h : true ≡ false = l.checked in cc)
+
+  -- a pass that has seen no entry has in hand a board that stands for none
+  module _ (stands : State → State → List Signed → Type 0) (g : Gate State) (t : Turn State) (p : Pass State) where
+    in_turn : HasTurnOf g p → view p ≡ with_turn (first_view b) [] → stands (opening_of g) t.value [] → InTurn stands g t p
+    in_turn turn is board = record {
+      turn = turn;
+      knows = subst Knows (sym is) knows;
+      board = subst (λ (v : View State). stands (opening_of g) t.value (core_at v.seen)) (sym is) board;
+    }
+
+    -- it has no turn
+    not_in_turn : view p ≡ first_view b → InTurn stands g t p → ⊥
+    not_in_turn is i = true≢false (sym i.turn.1 ∙ ap (λ (v : View State). v.turn) is)
