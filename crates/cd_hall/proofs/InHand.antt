@@ -1,6 +1,6 @@
 -- What the board in hand says of the history that a pass has seen, and what is made of it in a turn that supersedes or retires a serial.
-use Rattle.std.proofs.Common.{◌≡◌, ◌≢◌, ◌≤◌, ◌<◌, ℕ, ◌+◌, ◌-◌, ◌^◌, ◌==◌, Bool, true, false, not, nat_lt, nat_le, cond, List, [], ◌∷◌, ◌++◌, length, slice_get, Option, Some, None, Result, refl, sym, ap, subst, ◌∙◌, arith, eq-eqb, ne_eqb}
-use Rattle.std.specs.Prelude.{◌&&◌, is_some, is_none}
+use Rattle.std.proofs.Common.{◌≡◌, ◌≢◌, ◌≤◌, ◌<◌, ℕ, ◌+◌, ◌^◌, ◌==◌, Bool, true, false, not, nat_lt, cond, List, [], ◌∷◌, ◌++◌, length, slice_get, Option, Some, None, Result, refl, sym, ap, subst, ◌∙◌, arith, eq-eqb, ne_eqb}
+use Rattle.std.specs.Prelude.{is_some, is_none}
 use Rattle.std.proofs.lemmas.Bool.Decides.{nat_tests}
 use Rattle.cd_outside.specs.declared.fixtures.FixtureCall.{FixtureCall}
 use Rattle.cd_outside.specs.declared.key.Key.{Key}
@@ -12,7 +12,7 @@ use Rattle.cd_legal.specs.declared.entry.Change.{Change}
 use Rattle.cd_legal.specs.declared.entry.Entry.{Entry}
 use Rattle.cd_legal.specs.declared.entry.Entry.TheVariants.{Publish, Retire, Halt}
 use Rattle.cd_legal.specs.declared.entry.Signed.{Signed}
-use Rattle.cd_legal.specs.declared.limits.TheConstants.{LAST_SERIAL, MAX_UNRETIRED}
+use Rattle.cd_legal.specs.declared.limits.TheConstants.{LAST_SERIAL}
 use Rattle.cd_legal.specs.declared.state.State.{State}
 use Rattle.cd_legal.specs.declared.state.Drafted.{Drafted}
 use Rattle.cd_legal.specs.Entry.{entries}
@@ -43,6 +43,7 @@ use Rattle.cd_life.proofs.Laws.{conf_is, current_unretired}
 use Rattle.cd_hall.specs.Drafts.{Held, IsLiveAs, IsWholeDraft}
 use Rattle.cd_hall.specs.GoesOn.{GoesOn}
 use Rattle.cd_hall.specs.Publishing.{Refusal, refusal}
+use Rattle.cd_hall.specs.Room.{oldest_before, is_full, unretired_before}
 use Rattle.cd_hall.specs.Turns.{InTurn}
 use Rattle.cd_hall.proofs.Bare.{serial_core, halted_core, retired_core, conf_core, stopped_core, retires_core}
 use Rattle.cd_hall.proofs.Goes.{goes_both, goes_as}
@@ -211,7 +212,7 @@ has_room m serial is room more = omega (arith, is, room, more)
 -- where none is later
 abbrev pub rest_of : State → Option Refusal
 rest_of s =
-    cond (nat_le MAX_UNRETIRED (s.serial + 1) && not (has_number (s.serial + 1 - MAX_UNRETIRED) s.retired)) (Some (Refusal.full (s.serial + 1 - MAX_UNRETIRED)))
+    cond (is_full s s.serial) (Some (Refusal.full (oldest_before s.serial)))
     (cond (s.serial == LAST_SERIAL) (Some Refusal.exhausted) None)
 
 none_later : (s : State) (n m : ℕ) → m ≡ s.serial → m ≤ n → refusal s n ≡ rest_of s
@@ -220,18 +221,14 @@ none_later s n m is high = ap (λ (b : Bool). cond b (Some (Refusal.superseded s
     not_less : (n m : ℕ) → m ≤ n → nat_lt n m ≡ false
     not_less n m high = grind (arith, nat_tests)
 
--- what the board tells of the oldest serial
-abbrev pub oldest_of : State → ℕ → Option ℕ
-oldest_of s m = cond (nat_le MAX_UNRETIRED (m + 1) && not (has_number (m + 1 - MAX_UNRETIRED) s.retired)) (Some (m + 1 - MAX_UNRETIRED)) None
-
 full_none : (b : Bool) (j : ℕ) (rest : Option Refusal) → None ≡ cond b (Some j) None → cond b (Some (Refusal.full j)) rest ≡ rest
 full_none true j rest is = absurd (let h : None ≡ Some j = is in cc)
 full_none false j rest is = refl
 
-none_oldest : (s : State) (n m : ℕ) → m ≡ s.serial → m ≤ n → None ≡ oldest_of s m → refusal s n ≡ cond (s.serial == LAST_SERIAL) (Some Refusal.exhausted) None
+none_oldest : (s : State) (n m : ℕ) → m ≡ s.serial → m ≤ n → None ≡ unretired_before s m → refusal s n ≡ cond (s.serial == LAST_SERIAL) (Some Refusal.exhausted) None
 none_oldest s n m is high told =
     none_later s n m is high
-    ∙ full_none (nat_le MAX_UNRETIRED (s.serial + 1) && not (has_number (s.serial + 1 - MAX_UNRETIRED) s.retired)) (s.serial + 1 - MAX_UNRETIRED) (cond (s.serial == LAST_SERIAL) (Some Refusal.exhausted) None) (told ∙ ap (oldest_of s) is)
+    ∙ full_none (is_full s s.serial) (oldest_before s.serial) (cond (s.serial == LAST_SERIAL) (Some Refusal.exhausted) None) (told ∙ ap (unretired_before s) is)
 
-pub by_none : (s : State) (n m : ℕ) → m ≡ s.serial → m ≤ n → None ≡ oldest_of s m → m ≢ LAST_SERIAL → refusal s n ≡ None
+pub by_none : (s : State) (n m : ℕ) → m ≡ s.serial → m ≤ n → None ≡ unretired_before s m → m ≢ LAST_SERIAL → refusal s n ≡ None
 by_none s n m is high told more = none_oldest s n m is high told ∙ ap (λ (b : Bool). cond b (Some Refusal.exhausted) None) (ne_eqb s.serial LAST_SERIAL (λ e. more (is ∙ e)))

@@ -28,16 +28,17 @@ use Rattle.cd_legal.proofs.Serials.{retired-below}
 use Rattle.cd_gate.proofs.Numbers.{tells}
 use Rattle.cd_hall.specs.Calls.{StaysCalm}
 use Rattle.cd_hall.specs.GoesOn.{GoesOn, Settles, IsHalt}
+use Rattle.cd_hall.specs.Room.{unretired_before}
 use Rattle.cd_hall.specs.Turns.{InTurn}
 use Rattle.cd_hall.proofs.Bare.{serial_core, retired_core, stops_core, serial_alike, stops_alike}
 use Rattle.cd_hall.proofs.Endings.{is_ending, rest_along, stops_end}
 use Rattle.cd_hall.proofs.Goes.{goes_as}
-use Rattle.cd_hall.proofs.InHand.{StopsOf, halt_low, halt_goes, publish_low, publish_goes, oldest_of}
+use Rattle.cd_hall.proofs.InHand.{StopsOf, halt_low, halt_goes, publish_low, publish_goes}
 use Rattle.cd_hall.proofs.Leftovers.{stopped_of_ends}
 use Rattle.cd_hall.proofs.Noted.{agrees, unended_at, left_at, state_goes, published_left, halted_left, endings_duties, rises, stopped_then, still_owes, lent, settles_with, retires_later, due_later}
 
 -- the serial that last used the balance of the coming one is retired, where the board found none that is not
-pub oldest_retired : (s : State) (n m k : ℕ) → n ≡ m → None ≡ oldest_of s m → k + MAX_UNRETIRED ≡ n + 1 → has_number k s.retired ≡ true
+pub oldest_retired : (s : State) (n m k : ℕ) → n ≡ m → None ≡ unretired_before s m → k + MAX_UNRETIRED ≡ n + 1 → has_number k s.retired ≡ true
 oldest_retired s n m k same told last = ⊎_elim (λ q. ap (λ (j : ℕ). has_number j s.retired) (back n m k same last) ∙ q) (λ q. absurd (never q)) (tells (has_number (m + 1 - MAX_UNRETIRED) s.retired))
   where
     back : (n m k : ℕ) → n ≡ m → k + MAX_UNRETIRED ≡ n + 1 → k ≡ m + 1 - MAX_UNRETIRED

@@ -12,5 +12,6 @@ pub mod Drafts
 pub mod AtHand
 pub mod Calls
 pub mod Ends
+pub mod Room
 pub mod Publishing
 pub mod Follows

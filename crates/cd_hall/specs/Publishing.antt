@@ -1,11 +1,11 @@
 -- When a configuration may follow that of a ticket.
-use Rattle.std.specs.Prelude.{ℕ, ◌+◌, ◌-◌, ◌==◌, ◌&&◌, not, cond, nat_lt, nat_le, Option, Some, None}
-use Rattle.cd_legal.specs.declared.limits.TheConstants.{LAST_SERIAL, MAX_UNRETIRED}
+use Rattle.std.specs.Prelude.{ℕ, ◌==◌, cond, nat_lt, Option, Some, None}
+use Rattle.cd_legal.specs.declared.limits.TheConstants.{LAST_SERIAL}
 use Rattle.cd_legal.specs.declared.state.State.{State}
-use Rattle.cd_legal.specs.State.{has_number}
 use Rattle.cd_life.specs.declared.board.Draft.{Draft}
 use Rattle.cd_hall.specs.declared.kept.Kept.{Kept}
 use Rattle.cd_hall.specs.declared.kept.Kept.TheVariants.{Superseded, Full, Exhausted}
+use Rattle.cd_hall.specs.Room.{oldest_before, is_full}
 
 -- why nothing may follow: a later configuration is there, of this serial; one that is long superseded is not retired; or no
 -- serial is left
@@ -18,7 +18,7 @@ pub data Refusal : Type 0 where
 abbrev pub refusal : State → ℕ → Option Refusal
 refusal s serial =
     cond (nat_lt serial s.serial) (Some (Refusal.superseded s.serial))
-    (cond (nat_le MAX_UNRETIRED (s.serial + 1) && not (has_number (s.serial + 1 - MAX_UNRETIRED) s.retired)) (Some (Refusal.full (s.serial + 1 - MAX_UNRETIRED)))
+    (cond (is_full s s.serial) (Some (Refusal.full (oldest_before s.serial)))
     (cond (s.serial == LAST_SERIAL) (Some Refusal.exhausted) None))
 
 -- why a draft was not published

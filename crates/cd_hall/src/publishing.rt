@@ -1,13 +1,13 @@
 //! Drafts are published.
-ghost use Rattle.std.specs.Prelude.{◌≡◌, ◌≤◌, ◌<◌, ◌+◌, ◌-◌, ◌∷◌, ◌&&◌, [], List, Some, None, IfOk, IfErr, cond, not, nat_le, true, false};
+ghost use Rattle.std.specs.Prelude.{◌≡◌, ◌≤◌, ◌<◌, ◌+◌, ◌∷◌, [], List, Some, None, IfOk, IfErr, true, false};
 ghost use Rattle.cd_legal.specs.declared.entry.Entry.TheVariants.{Publish};
 ghost use Rattle.cd_legal.specs.declared.entry.Signed.{Signed};
-ghost use Rattle.cd_legal.specs.declared.limits.TheConstants.{LAST_SERIAL, MAX_UNRETIRED};
+ghost use Rattle.cd_legal.specs.declared.limits.TheConstants.{LAST_SERIAL};
 ghost use Rattle.cd_legal.specs.Laws.{core_at};
 ghost use Rattle.cd_legal.specs.Legal.{state_at};
 ghost use Rattle.cd_legal.specs.Runs.{stopped_of};
 ghost use Rattle.cd_legal.specs.Signing.{IsHistory};
-ghost use Rattle.cd_legal.specs.State.{conf_of, has_number};
+ghost use Rattle.cd_legal.specs.State.{conf_of};
 ghost use Rattle.cd_legal.specs.Whole.{nothing_left};
 ghost use Rattle.cd_gate.specs.declared.table.TheConstants.{SERIAL_STEP};
 ghost use Rattle.cd_gate.specs.Passes.{view, HasTurnOf, opening_of};
@@ -20,6 +20,7 @@ ghost use Rattle.cd_hall.specs.Drafts.{IsDraftOf, IsWholeDraft, held};
 ghost use Rattle.cd_hall.specs.Follows.{MayFollow};
 ghost use Rattle.cd_hall.specs.GoesOn.{GoesOn, Settles};
 ghost use Rattle.cd_hall.specs.Publishing.{refusal, refusal_in, draft_in};
+ghost use Rattle.cd_hall.specs.Room.{unretired_before};
 ghost use Rattle.cd_hall.specs.Spread.{Spread};
 ghost use Rattle.cd_hall.specs.Tickets.{IsTicketOf};
 ghost use Rattle.cd_hall.specs.Turned.{Makes};
@@ -127,7 +128,7 @@ pub(crate) fn publish_in_turn<M: ModuleSet, F: Fixtures>(
 
 // The serial that is to be retired before another one follows, where it is not.
 fn unretired_before<M: ModuleSet, F: Fixtures>(board: &Board<M, F>, current: u32) -> Option<u32>
-    ensures { (opening : _) (log : List Signed) → Stood F.calls F.faults M.plan M.change opening board.now log → result ≡ cond (nat_le MAX_UNRETIRED (current + 1) && not (has_number (current + 1 - MAX_UNRETIRED) (state_at log).retired)) (Some (current + 1 - MAX_UNRETIRED)) None }
+    ensures { (opening : _) (log : List Signed) → Stood F.calls F.faults M.plan M.change opening board.now log → result ≡ unretired_before (state_at log) current }
 {
     if current < MAX_UNRETIRED - 1 {
         return None;

@@ -1,12 +1,12 @@
 -- What an attempt comes to, from the calls that it makes.
-use Rattle.std.proofs.Common.{◌≡◌, ◌≤◌, inl, inr, ℕ, zero, suc, ◌+◌, ◌-◌, ◌==◌, Bool, true, false, cond, if◌then◌else◌, List, [], ◌∷◌, ◌++◌, length, Option, Some, None, Result, Ok, refl, sym, ap, subst, ◌∙◌, arith}
-use Rattle.std.specs.Prelude.{◌&&◌, not, nat_lt, nat_le}
+use Rattle.std.proofs.Common.{◌≡◌, ◌≤◌, inl, inr, ℕ, zero, suc, ◌+◌, ◌==◌, Bool, true, false, cond, if◌then◌else◌, List, [], ◌∷◌, ◌++◌, length, Option, Some, None, Result, Ok, refl, sym, ap, subst, ◌∙◌, arith}
+use Rattle.std.specs.Prelude.{nat_lt}
 use Rattle.std.proofs.lemmas.Bool.{ltb-true, ltb-false}
 use mathlib.Core.List.{IsPrefix}
 use Rattle.cd_outside.specs.declared.key.Key.{Key}
 use Rattle.cd_tree.specs.declared.tree.Tree.{Tree}
 use Rattle.cd_wire.specs.declared.request.Request.{Request}
-use Rattle.cd_legal.specs.declared.limits.TheConstants.{MAX_DRAFTS, LAST_SERIAL, MAX_UNRETIRED}
+use Rattle.cd_legal.specs.declared.limits.TheConstants.{MAX_DRAFTS, LAST_SERIAL}
 use Rattle.cd_legal.specs.declared.entry.Change.{Change}
 use Rattle.cd_legal.specs.declared.entry.Change.TheVariants as change
 use Rattle.cd_legal.specs.declared.entry.Entry.{Entry}
@@ -14,7 +14,7 @@ use Rattle.cd_legal.specs.declared.entry.Entry.TheVariants.{Draft, Publish, Aban
 use Rattle.cd_legal.specs.declared.entry.Signed.{Signed}
 use Rattle.cd_legal.specs.declared.plan.Plan.{Plan}
 use Rattle.cd_legal.specs.declared.state.State.{State}
-use Rattle.cd_legal.specs.State.{Conf, has_number, draft_of}
+use Rattle.cd_legal.specs.State.{Conf, draft_of}
 use Rattle.cd_legal.specs.Legal.{state_at}
 use Rattle.cd_legal.specs.Owing.{Owes}
 use Rattle.cd_legal.specs.Placed.{Placed, through}
@@ -30,6 +30,7 @@ use Rattle.cd_desk.specs.declared.drafts.DraftFault.TheVariants as undrafted
 use Rattle.cd_hall.specs.declared.hall.Ticket.{Ticket}
 use Rattle.cd_hall.specs.Drafts.{Held, new_held, IsWholeDraft}
 use Rattle.cd_hall.specs.Publishing.{Refusal, refusal}
+use Rattle.cd_hall.specs.Room.{oldest_before, is_full}
 use Rattle.cd_hall.specs.Tickets.{IsTicketOf}
 use Rattle.cd_hall.specs.Spread.{Spread}
 use Rattle.cd_hall.specs.Turned.{Turned}
@@ -129,7 +130,7 @@ says late room false false true r is = subst (λ (z : Refusal). Says false (Some
 says late room false false false r is = absurd (let h : Some r ≡ None = is in cc)
 
 pub refusal-says : (s : State) (serial : ℕ) (r : Refusal) → Some r ≡ refusal s serial → Says (nat_lt serial s.serial) (no_room s) r
-refusal-says s serial r is = says s.serial (s.serial + 1 - MAX_UNRETIRED) (nat_lt serial s.serial) (nat_le MAX_UNRETIRED (s.serial + 1) && not (has_number (s.serial + 1 - MAX_UNRETIRED) s.retired)) (s.serial == LAST_SERIAL) r is
+refusal-says s serial r is = says s.serial (oldest_before s.serial) (nat_lt serial s.serial) (is_full s s.serial) (s.serial == LAST_SERIAL) r is
 
 -- ---- attempts
 

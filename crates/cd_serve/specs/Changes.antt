@@ -1,31 +1,31 @@
 -- Part of the main theorem.
 -- What a pass does between Begin and Finish where a request changes the configuration: a draft that is published, or given up,
 -- or the halt.
-use Rattle.std.specs.Prelude.{◌≡◌, ℕ, ◌+◌, ◌-◌, ◌<◌, ◌==◌, ◌&&◌, not, nat_le, if◌then◌else◌, List, ◌∷◌, ◌++◌, length, Option, Some, None, Ok}
+use Rattle.std.specs.Prelude.{◌≡◌, ℕ, ◌+◌, ◌<◌, ◌==◌, if◌then◌else◌, List, ◌∷◌, ◌++◌, length, Option, Some, None, Ok}
 use mathlib.Core.List.{IsPrefix}
 use Rattle.cd_outside.specs.declared.key.Key.{Key}
 use Rattle.cd_tree.specs.declared.tree.Tree.{Tree}
 use Rattle.cd_wire.specs.declared.request.Request.{Request}
-use Rattle.cd_legal.specs.declared.limits.TheConstants.{LAST_SERIAL, MAX_UNRETIRED}
+use Rattle.cd_legal.specs.declared.limits.TheConstants.{LAST_SERIAL}
 use Rattle.cd_legal.specs.declared.plan.Plan.{Plan}
 use Rattle.cd_legal.specs.declared.entry.Change.TheVariants as change
 use Rattle.cd_legal.specs.declared.entry.Entry.TheVariants.{Draft, Publish, Abandon, Halt}
 use Rattle.cd_legal.specs.declared.entry.Signed.{Signed}
 use Rattle.cd_legal.specs.declared.state.State.{State}
-use Rattle.cd_legal.specs.State.{has_number}
 use Rattle.cd_legal.specs.Legal.{state_at}
 use Rattle.cd_legal.specs.Placed.{Placed, placed_entries, through, met}
 use Rattle.cd_legal.specs.Runs.{Failure, opened, opened_until, ended_all, undone_after, stopped_of}
+use Rattle.cd_hall.specs.Room.{oldest_before, is_full}
 use Rattle.cd_serve.specs.declared.fault.ChangeFault.{ChangeFault}
 use Rattle.cd_serve.specs.declared.fault.ChangeFault.TheVariants.{StillInUse, NoSerialLeft}
 use Rattle.cd_serve.specs.Meanings.{Meaning}
 use Rattle.cd_serve.specs.Retirements.{Retirement, IsRetirement}
 
--- why no configuration may follow the current one: the one so many serials before the next is not retired, or no serial is left
+-- why no configuration may follow the current one: one that is to be retired first is not, or no serial is left
 abbrev pub no_room : State → Option ChangeFault
 no_room s =
-    if nat_le MAX_UNRETIRED (s.serial + 1) && not (has_number (s.serial + 1 - MAX_UNRETIRED) s.retired)
-    then Some (StillInUse (s.serial + 1 - MAX_UNRETIRED))
+    if is_full s s.serial
+    then Some (StillInUse (oldest_before s.serial))
     else if s.serial == LAST_SERIAL then Some NoSerialLeft else None
 
 -- a draft of this tree
