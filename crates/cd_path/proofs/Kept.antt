@@ -1,5 +1,5 @@
 -- An edit leaves what stands at a path that is apart from its place.
-use Rattle.std.proofs.Common.{◌≡◌, ◌≢◌, ℕ, suc, ◌<◌, ◌==◌, nat_lt, not, List, [], ◌∷◌, ◌++◌, length, get_or, take, drop, set, slice_get, Option, Some, None, Result, Ok, Err, IfOk, Bool, true, false, cond, ◌&&◌, ◌⊎◌, inl, inr, is_none, unwrap_or, refl, sym, ap, ◌∙◌, subst, arith}
+use Rattle.std.proofs.Common.{◌≡◌, ◌≢◌, ℕ, suc, ◌<◌, ◌==◌, nat_lt, not, List, [], ◌∷◌, ◌++◌, length, get_or, take, drop, set, slice_get, Option, Some, None, Result, Ok, Err, IfOk, Bool, true, false, cond, ◌&&◌, ◌⊎◌, inl, inr, unwrap_or, refl, sym, ap, ◌∙◌, subst, arith}
 use Rattle.std.proofs.lemmas.Bool.Decides.{nat_tests}
 use Rattle.std.proofs.lemmas.Option.{slice_get-get_or, unwrap_or-slice_get}
 use Rattle.std.proofs.lemmas.Slice.Eq.{bytes_eq-Decides}
@@ -16,12 +16,12 @@ use Rattle.cd_tree.specs.declared.tree.Tree.{Tree, Null, Items, Object, out-Tree
 use Rattle.cd_tree.specs.declared.tree.Tree.TheOpen.{Tree-F}
 use Rattle.cd_tree.specs.declared.tree.Tree.TheVariants.{outs-Null}
 use Rattle.cd_path.specs.Apart.{is_same, names_same, is_behind, names_behind, apart, LeavesOthers}
-use Rattle.cd_path.specs.Editing.{bound, position_edit, key_edit, last_edit, all_posted, ellipsis_edit, entered, way_edit, change, edit, is_post, is_delete, within_limits}
+use Rattle.cd_path.specs.Editing.{bound, position_edit, key_edit, last_edit, all_posted, ellipsis_edit, entered, way_edit, change, within_limits}
 use Rattle.cd_path.specs.Looking.{member_at, child_layer, child, or_null, walk, ellipsis, ends_in_ellipsis}
 use Rattle.cd_path.specs.Members.{with_member}
 use Rattle.cd_path.specs.Position.{position, place}
 use Rattle.cd_path.specs.declared.fault.EditFault.{EditFault}
-use Rattle.cd_path.specs.declared.fault.EditFault.TheVariants.{NotTraversable, EllipsisVerb, BodyMissing, ResultTooDeep, ResultTooLong, NoMemory}
+use Rattle.cd_path.specs.declared.fault.EditFault.TheVariants.{NotTraversable, EllipsisVerb, ResultTooDeep, ResultTooLong, NoMemory}
 use Rattle.cd_path.specs.declared.verb.Verb.{Verb}
 use Rattle.cd_path.specs.declared.verb.Verb.TheVariants.{Post, Put, Patch, Delete}
 use Rattle.cd_path.proofs.Outcomes.{next_ok, any_ok, is_itself, from_ok, all_ok, either_ok, unless_ok, place_tells, given}
@@ -237,12 +237,12 @@ limits_ok made P h = unless_ok P (nat_lt MAX_DEPTH (depth made)) ResultTooDeep _
 abbrev Other : List (List ℕ) → Tree → Type 0
 Other parts t = (other : List (List ℕ)) × (apart parts other t ≡ true)
 
-edit-keeps : (t : Tree) (verb : Verb) (path : Path) (body : Option Tree) → IfOk (edit t verb path body) (LeavesOthers path t)
-edit-keeps t verb path body =
-    unless_ok (LeavesOthers path t) (ends_in_ellipsis path.parts && not (is_post verb)) EllipsisVerb _ (unless_ok (LeavesOthers path t) (is_none body && not (is_delete verb)) BodyMissing _
-    (next_ok (λ made. (o : Other path.parts t) → Keeps o.0 t made) (LeavesOthers path t) (change verb (or_null body) path.parts t) within_limits
-    (all_ok (λ (o : Other path.parts t) made. Keeps o.0 t made) _ (λ o. change-keeps verb (or_null body) path.parts o.0 t o.1))
-    (λ made k. limits_ok made (LeavesOthers path t) (λ other found a w. look_kept (ends_in_ellipsis other.parts) other.parts t made found (k (other.parts, a)) w))))
+change-leaves : (t : Tree) (verb : Verb) (path : Path) (body : Tree) → IfOk (change verb body path.parts t ▷ within_limits) (LeavesOthers path t)
+change-leaves t verb path body =
+    next_ok (λ made. (o : Other path.parts t) → Keeps o.0 t made) (LeavesOthers path t) (change verb body path.parts t) within_limits
+    (all_ok (λ (o : Other path.parts t) made. Keeps o.0 t made) _ (λ o. change-keeps verb body path.parts o.0 t o.1))
+    (λ made k. limits_ok made (LeavesOthers path t) (λ other found a w. look_kept (ends_in_ellipsis other.parts) other.parts t made found (k (other.parts, a)) w))
 
-pub edit_leaves : (r : Result Tree EditFault) (t : Tree) (verb : Verb) (path : Path) (body : Option Tree) → Gives NoMemory r (edit t verb path body) → IfOk r (LeavesOthers path t)
-edit_leaves r t verb path body g = given (LeavesOthers path t) r (edit t verb path body) g (edit-keeps t verb path body)
+pub change_leaves : (r : Result Tree EditFault) (t : Tree) (verb : Verb) (path : Path) (parts : List (List ℕ)) (body : Tree) → parts ≡ path.parts → Gives NoMemory r (change verb body parts t ▷ within_limits) → IfOk r (LeavesOthers path t)
+change_leaves r t verb path parts body is g =
+    given (LeavesOthers path t) r (change verb body path.parts t ▷ within_limits) (subst (λ ps. Gives NoMemory r (change verb body ps t ▷ within_limits)) is g) (change-leaves t verb path body)

@@ -43,105 +43,86 @@ pub fn edit(
     ensures sound { IfOk result IsSound }
     ensures others { IfOk result (LeavesOthers path.now tree.now) }
 {
-    edit_soundly(alloc, tree, verb, path, body)
-}
-
-/// The same without the law on other paths.
-fn edit_soundly(
-    alloc: Global,
-    tree: &Tree,
-    verb: Verb,
-    path: &Path,
-    body: Option<&Tree>,
-) -> Result<Tree, EditFault>
-    requires tree_sound { IsSound tree.now }
-    requires body_sound { ForSome (option_copied body) IsSound }
-    ensures exact { Gives EditFault.NoMemory result
-        (edit_of tree.now verb path.now (option_copied body.entry)) }
-    ensures sound { IfOk result IsSound }
-{
     let parts = path.parts.as_slice();
     if has_last_ellipsis(parts) && verb != Verb::Post {
         return Err(EditFault::EllipsisVerb);
     }
     match body {
-        Some(body) => change_within(alloc, verb, body, parts, tree),
-        None if verb == Verb::Delete => change_within(alloc, verb, &Tree::Null, parts, tree),
+        Some(body) => Task { alloc, verb, body }.limited(parts, tree),
+        None if verb == Verb::Delete => {
+            let body = &Tree::Null;
+            Task { alloc, verb, body }.limited(parts, tree)
+        }
         None => Err(EditFault::BodyMissing),
     }
 }
 
-/// The tree with the edit at the parts made, unless it is too deep or too long.
-fn change_within(
+/// What an edit does at its path: the verb, with its body.
+#[derive(Drop)]
+struct Task<'a> {
     alloc: Global,
     verb: Verb,
-    body: &Tree,
-    parts: &[Text],
-    tree: &Tree,
-) -> Result<Tree, EditFault>
-    requires tree_ordered { IsTrue (is_ordered tree.now) }
-    requires body_ordered { IsTrue (is_ordered body.now) }
-    ensures exact { Gives EditFault.NoMemory result
-        (change_of verb body.now parts.now tree.now ▷ within_limits) }
-    ensures sound { IfOk result IsSound }
-{
-    if verb == Verb::Put && puts_too_deep(alloc, tree, parts)? {
-        return Err(EditFault::ResultTooDeep);
+    body: &'a Tree,
+}
+
+impl<'a> Task<'a> {
+    /// The tree with the edit at the parts made, unless it is too deep or too long.
+    fn limited(&self, parts: &[Text], tree: &Tree) -> Result<Tree, EditFault>
+        requires tree_ordered { IsTrue (is_ordered tree.now) }
+        requires body_ordered { IsTrue (is_ordered self.now.body.now) }
+        ensures exact { Gives EditFault.NoMemory result
+            (change_of self.now.verb self.now.body.now parts.now tree.now ▷ within_limits) }
+        ensures sound { IfOk result IsSound }
+    {
+        if self.verb == Verb::Put && puts_too_deep(self.alloc, tree, parts)? {
+            return Err(EditFault::ResultTooDeep);
+        }
+        let made = self.ordered(parts, tree)?;
+        limited(made)
     }
-    let made = change_ordered(alloc, verb, body, parts, tree)?;
-    limited(made)
-}
 
-/// The edit of a tree in which keys rise and numbers are in range, as they are in the result.
-fn change_ordered(
-    alloc: Global,
-    verb: Verb,
-    body: &Tree,
-    parts: &[Text],
-    tree: &Tree,
-) -> Result<Tree, EditFault>
-    requires tree_ordered { IsTrue (is_ordered tree.now) }
-    requires body_ordered { IsTrue (is_ordered body.now) }
-    ensures exact { Gives EditFault.NoMemory result (change_of verb body.now parts.now tree.now) }
-    ensures ordered { IfOk result (λ made. IsTrue (is_ordered made)) }
-{
-    change(alloc, verb, body, parts, tree)
-}
+    /// The edit of a tree in which keys rise and numbers are in range, as they are in the result.
+    fn ordered(&self, parts: &[Text], tree: &Tree) -> Result<Tree, EditFault>
+        requires tree_ordered { IsTrue (is_ordered tree.now) }
+        requires body_ordered { IsTrue (is_ordered self.now.body.now) }
+        ensures exact { Gives EditFault.NoMemory result
+            (change_of self.now.verb self.now.body.now parts.now tree.now) }
+        ensures ordered { IfOk result (λ made. IsTrue (is_ordered made)) }
+    {
+        self.change(parts, tree)
+    }
 
-/// The tree with the edit at the parts made, whatever its size.
-fn change(
-    alloc: Global,
-    verb: Verb,
-    body: &Tree,
-    parts: &[Text],
-    tree: &Tree,
-) -> Result<Tree, EditFault>
-    ensures { Gives EditFault.NoMemory result (change_of verb body.now parts.now tree.now) }
-{
-    let (part, rest) = match parts {
-        [] => return edit_root(alloc, verb, body, tree),
-        [part] if part.equals("...") => return post_all(alloc, body, tree),
-        [part] => return edit_last(alloc, verb, body, part, tree),
-        [part, rest @ ..] => (part, rest),
-    };
-    match tree {
-        Tree::Object(members) => {
-            let (null, empty) = (
-                Tree::Null,
-                Tree::Object(Shared::new(alloc, List::new(alloc))?),
-            );
-            let old = enter(verb, member_of(members, part), &null, &empty);
-            let made = change(alloc, verb, body, rest, old)?;
-            let made = set_member(alloc, members, part, Some(made))?;
-            Ok(Tree::Object(Shared::new(alloc, made)?))
+    /// The tree with the edit at the parts made, whatever its size.
+    fn change(&self, parts: &[Text], tree: &Tree) -> Result<Tree, EditFault>
+        ensures { Gives EditFault.NoMemory result
+            (change_of self.now.verb self.now.body.now parts.now tree.now) }
+    {
+        let (alloc, verb, body) = (self.alloc, self.verb, self.body);
+        let (part, rest) = match parts {
+            [] => return edit_root(alloc, verb, body, tree),
+            [part] if part.equals("...") => return post_all(alloc, body, tree),
+            [part] => return edit_last(alloc, verb, body, part, tree),
+            [part, rest @ ..] => (part, rest),
+        };
+        match tree {
+            Tree::Object(members) => {
+                let (null, empty) = (
+                    Tree::Null,
+                    Tree::Object(Shared::new(alloc, List::new(alloc))?),
+                );
+                let old = enter(verb, member_of(members, part), &null, &empty);
+                let made = self.change(rest, old)?;
+                let made = set_member(alloc, members, part, Some(made))?;
+                Ok(Tree::Object(Shared::new(alloc, made)?))
+            }
+            Tree::Items(items) => {
+                let at = place_of(items.len(), part.as_str())?;
+                let made = self.change(rest, &items.as_slice()[at])?;
+                let made = with_replaced(alloc, items, at, made)?;
+                Ok(Tree::Items(Shared::new(alloc, made)?))
+            }
+            _ => Err(EditFault::NotTraversable),
         }
-        Tree::Items(items) => {
-            let at = place_of(items.len(), part.as_str())?;
-            let made = change(alloc, verb, body, rest, &items.as_slice()[at])?;
-            let made = with_replaced(alloc, items, at, made)?;
-            Ok(Tree::Items(Shared::new(alloc, made)?))
-        }
-        _ => Err(EditFault::NotTraversable),
     }
 }
 
