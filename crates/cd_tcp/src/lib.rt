@@ -2,7 +2,7 @@
 //!
 //! A `Reactor` has the listeners and each connection that no lane has. `TcpFixtures` open and close listening addresses and
 //! log writers there, while lanes wait; a `TcpLane` serves one connection at a time. There is no thread that accepts: one of
-//! the lanes that wait sleeps in the system's poll, takes the first connection that is ready, and lets the next one lead.
+//! the lanes that wait sleeps in the system's poll, takes the first connection that is ready, and lets the one lead that came last.
 //!
 //! The loop reads what comes, and keeps it with the connection (`Inbound`). A lane gets a connection only when a whole request has
 //! come, head and body, or when what has come can't become one, or is more than is kept. It is handed out one request at a time, and
@@ -17,7 +17,7 @@
 //! that a read never answers more bytes than there was room for, how long a client may be slow, how much is kept, and that nothing
 //! panics. What sockets and files do is tested.
 //!
-//! limits.rt has the numbers. Reading order: seeing, inbound, connection, sockets, events, reactor, held, lane.
+//! limits.rt has the numbers. Reading order: seeing, inbound, connection, sockets, events, turns, reactor, held, lane.
 #![tactic(auto)]
 
 mod accepting;
@@ -44,6 +44,7 @@ mod sockets;
 mod stream;
 mod tokens;
 mod tries;
+mod turns;
 
 pub use budgets::is_too_much;
 pub use connection::Connection;

@@ -2,6 +2,7 @@ use crate::clock::now;
 use crate::connection::Connection;
 use crate::sockets::{Sockets, unwatch};
 use crate::tokens::Subject;
+use crate::turns::Turns;
 use crate::{LINGER_SECONDS, MAX_TAKES, Tries};
 use cd_outside::Address;
 use cd_stdio::Writers;
@@ -27,11 +28,12 @@ struct Poller {
 }
 
 /// What lanes and fixtures share. One lane at a time leads: it waits for all, takes the first connection that is ready, and lets
-/// the next one lead.
+/// the lane lead that came last.
 #[derive(Drop)]
 pub struct Reactor {
     registry: Registry,
     waker: Waker,
+    turns: Turns,
     poller: Mutex<Poller>,
     sockets: Mutex<Sockets>,
     // How many lanes wait for a connection.
@@ -83,6 +85,7 @@ impl Reactor {
         Ok(Reactor {
             registry,
             waker,
+            turns: Turns::new(),
             poller: Mutex::new(poller),
             sockets: Mutex::new(sockets),
             free: AtomicU64::new(0),
@@ -209,7 +212,16 @@ impl Reactor {
         Some(Next::Connection(connection))
     }
 
+    // Waits until this lane leads, and leads.
     fn lead<R: Wait + Clock>(&self, rt: &R) -> Next {
+        self.turns.begin(rt);
+        let next = self.first(rt);
+        self.turns.end(rt);
+        next
+    }
+
+    // The first connection that is ready, or why there is none.
+    fn first<R: Wait + Clock>(&self, rt: &R) -> Next {
         let mut poller = self.poller.lock(rt);
         let mut tries = Tries::new();
         for _ in rt.forever() {
