@@ -3,11 +3,11 @@ ghost use Rattle.std.specs.Io.KnownBytes.{Appends};
 ghost use Rattle.cd_outside.specs.Taken.{IsTakenWithin};
 ghost use Rattle.cd_tcp.specs.Got.{IsGotWithin};
 
-use crate::clock::now;
+use crate::clock::{millis_since, now};
 use crate::connection::Connection;
 use crate::{
-    GRACE_MILLIS, Got, Patient, Reactor, SLOW_SECONDS, SLOW_SECONDS_WHEN_FULL, read_once,
-    write_whole,
+    BUSY_MILLIS, GRACE_MILLIS, Got, Patient, Reactor, SLOW_SECONDS, SLOW_SECONDS_WHEN_FULL,
+    read_once, write_whole,
 };
 use cd_outside::Taken;
 use std::sync::Wait;
@@ -36,19 +36,22 @@ pub struct Held<S> {
     quiet: bool,
     // Whether the request that was handed out last was whole.
     whole: bool,
+    // When it was handed out.
+    from: Duration,
     // How long the lane has waited for bytes since the connection was quiet.
     waited: Duration,
 }
 
 impl<S: Patient> Held<S> {
-    /// A connection of which nothing was taken yet.
-    pub fn new(mut connection: Connection<S>) -> Held<S> {
+    /// A connection of which nothing was taken yet, and which the lane got then.
+    pub fn new(mut connection: Connection<S>, from: Duration) -> Held<S> {
         let whole = connection.inbound.open();
         Held {
             connection,
             parting: Parting::Linger,
             quiet: true,
             whole,
+            from,
             waited: Duration::ZERO,
         }
     }
@@ -90,18 +93,20 @@ impl<S: Patient> Held<S> {
         }
     }
 
-    // The next request of a connection that was answered. It goes after those that wait where each lane has a connection.
+    // The next request of a connection that was answered. It goes after those that wait where each lane has a connection. It comes to
+    // another lane where the last one took long: so what was made for that one is freed before this lane makes as much again.
     fn read_quiet<R: Wait + Clock>(&mut self, rt: &R, reactor: &Reactor, into: &mut [u8]) -> Taken
         requires { 0 < length into.old }
         ensures { IsTakenWithin result (length into.new) }
     {
-        if reactor.is_full() {
+        if reactor.is_full() || millis_since(rt, self.from) >= BUSY_MILLIS {
             self.parting = Parting::Park;
             return Taken::End;
         }
         self.connection.inbound.look();
         for _ in 0..MAX_READS {
             if self.connection.inbound.is_due(0) {
+                self.from = now(rt);
                 return self.begin(into);
             }
             if !self.read_next(rt, reactor, into) {

@@ -9,7 +9,7 @@ use std::io;
 use std::io::ErrorKind;
 use std::net::TcpStream;
 use std::sync::Wait;
-use std::time::Clock;
+use std::time::{Clock, Duration};
 
 /// A lane of a reactor: it serves one of its connections at a time. It tells nothing of content.
 pub struct TcpLane<'d, R: Wait + Clock> {
@@ -18,6 +18,8 @@ pub struct TcpLane<'d, R: Wait + Clock> {
     reactor: &'d Reactor,
     /// The connection that is there.
     pub held: Option<Held<TcpStream>>,
+    // When it last had to wait for a connection.
+    since: Duration,
     faults: u64,
     // Why the last accept or log line failed that did.
     cause: Option<io::Error>,
@@ -30,6 +32,7 @@ impl<'d, R: Wait + Clock> Drop for TcpLane<'d, R> {
             alloc: _,
             reactor: _,
             held: _,
+            since: _,
             faults: _,
             cause: _,
         } = self;
@@ -54,6 +57,7 @@ impl<'d, R: Wait + Clock> TcpLane<'d, R> {
             alloc,
             reactor,
             held: None,
+            since: Duration::ZERO,
             faults: 0,
             cause: None,
         }
@@ -65,12 +69,12 @@ impl<'d, R: Wait + Clock> TcpLane<'d, R> {
     }
 
     // The next connection, or why there is none. One for whose address there is no memory is let go.
-    fn wait(&self) -> Waited {
+    fn wait(&self, since: &mut Duration) -> Waited {
         for _ in self.rt.forever() {
-            match self.reactor.next(self.rt) {
+            match self.reactor.next(self.rt, since) {
                 Next::Connection(connection) => {
                     if let Ok(address) = connection.address.copy(self.alloc) {
-                        return Waited::Connection(Held::new(connection), address);
+                        return Waited::Connection(Held::new(connection, *since), address);
                     }
                     self.reactor.count_cut(self.rt);
                 }
@@ -100,7 +104,10 @@ impl<'d, R: Wait + Clock> Lane for TcpLane<'d, R> {
     ghost past = { λ _. None };
 
     fn accept(&mut self) -> Accepted {
-        match self.wait() {
+        let mut since = self.since;
+        let waited = self.wait(&mut since);
+        self.since = since;
+        match waited {
             Waited::Connection(held, address) => {
                 self.held = Some(held);
                 Accepted::Connection(address)

@@ -1,9 +1,12 @@
 //! The numbers of the event loop. Each is a limit of time, of room or of tries.
 ghost use Rattle.std.specs.Prelude.{◌≡◌};
-ghost use Rattle.cd_tcp.specs.declared.limits.TheConstants.{DIAL_SECONDS, FAST_BYTES, GRACE_MILLIS, IDLE_SECONDS, LINGER_SECONDS, MAX_ACCEPTS, MAX_CHUNKED_BYTES, MAX_DIALS, MAX_DRAIN_READS, MAX_HEAD_ROOM, MAX_KEPT_BYTES, MAX_KEPT_BYTES_OF_ALL, MAX_PAUSE_MILLIS, MAX_TAKES, MAX_TRIES, MAX_WAITING, READ_BYTES, SLOW_SECONDS, SLOW_SECONDS_WHEN_FULL, TRY_PAUSE_MILLIS, UPSTREAM_SECONDS, WRITE_MILLIS, WRITE_MILLIS_WHEN_FULL, WRITE_TURN_MILLIS};
+ghost use Rattle.cd_tcp.specs.declared.limits.TheConstants.{BUSY_MILLIS, DIAL_SECONDS, FAST_BYTES, GRACE_MILLIS, IDLE_SECONDS, LINGER_SECONDS, MAX_ACCEPTS, MAX_CHUNKED_BYTES, MAX_DIALS, MAX_DRAIN_READS, MAX_HEAD_ROOM, MAX_KEPT_BYTES, MAX_KEPT_BYTES_OF_ALL, MAX_PAUSE_MILLIS, MAX_TAKES, MAX_TRIES, MAX_WAITING, READ_BYTES, SLOW_SECONDS, SLOW_SECONDS_WHEN_FULL, TRY_PAUSE_MILLIS, UPSTREAM_SECONDS, WRITE_MILLIS, WRITE_MILLIS_WHEN_FULL, WRITE_TURN_MILLIS};
 
 /// How long a lane waits for the next request of a connection, in milliseconds. Then it waits without a lane.
 pub const GRACE_MILLIS: u64 = 20;
+
+/// A request that took so many milliseconds took long: the next one of its connection comes to another lane.
+pub const BUSY_MILLIS: u64 = 5;
 
 /// How long a lane waits for the rest of a request that the loop doesn't keep, in all, in seconds.
 pub const SLOW_SECONDS: u64 = 30;
@@ -77,6 +80,7 @@ pub const UPSTREAM_SECONDS: u64 = 30;
 /// The numbers, which the code cites by name.
 pub fn limits_are()
     ensures grace { GRACE_MILLIS ≡ 20 }
+    ensures busy { BUSY_MILLIS ≡ 5 }
     ensures slow { SLOW_SECONDS ≡ 30 }
     ensures slow_when_full { SLOW_SECONDS_WHEN_FULL ≡ 5 }
     ensures write_turn { WRITE_TURN_MILLIS ≡ 1000 }

@@ -176,8 +176,8 @@ impl Reactor {
         sockets.take_closed()
     }
 
-    /// Waits for the next connection.
-    pub(crate) fn next<R: Wait + Clock>(&self, rt: &R) -> Next {
+    /// Waits for the next connection. `since` becomes the time, where the lane has to wait.
+    pub(crate) fn next<R: Wait + Clock>(&self, rt: &R, since: &mut Duration) -> Next {
         self.look_about(rt);
         if let Some(next) = self.at_once(rt) {
             return next;
@@ -185,6 +185,7 @@ impl Reactor {
         self.free.fetch_add(1, Ordering::SeqCst);
         let next = self.lead(rt);
         self.free.fetch_sub(1, Ordering::SeqCst);
+        *since = now(rt);
         next
     }
 
