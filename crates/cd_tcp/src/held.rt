@@ -23,6 +23,8 @@ pub enum Parting {
     Linger,
     /// It waits without a lane for its next request.
     Park,
+    /// The same, once its lane has its place among those that wait.
+    Yield,
     /// The client has ended it: it is closed.
     Close,
 }
@@ -93,13 +95,18 @@ impl<S: Patient> Held<S> {
         }
     }
 
-    // The next request of a connection that was answered. It goes after those that wait where each lane has a connection. It comes to
-    // another lane where the last one took long: so what was made for that one is freed before this lane makes as much again.
+    // The next request of a connection that was answered. It goes after those that wait where each lane has a connection. Where the last
+    // one took long, the connection goes back to the loop: mostly another lane takes its next request, so what was made for the last one
+    // is freed before this lane makes as much again.
     fn read_quiet<R: Wait + Clock>(&mut self, rt: &R, reactor: &Reactor, into: &mut [u8]) -> Taken
         requires { 0 < length into.old }
         ensures { IsTakenWithin result (length into.new) }
     {
-        if reactor.is_full() || millis_since(rt, self.from) >= BUSY_MILLIS {
+        if millis_since(rt, self.from) >= BUSY_MILLIS {
+            self.parting = Parting::Yield;
+            return Taken::End;
+        }
+        if reactor.is_full() {
             self.parting = Parting::Park;
             return Taken::End;
         }

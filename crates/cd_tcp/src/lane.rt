@@ -1,5 +1,6 @@
 ghost use Rattle.std.specs.Prelude.{◌≡◌, None, is_some};
 
+use crate::connection::Connection;
 use crate::reactor::Next;
 use crate::{Held, Parting, Reactor};
 use cd_outside::{Accepted, Address, Given, Key, Lane, Taken};
@@ -18,6 +19,8 @@ pub struct TcpLane<'d, R: Wait + Clock> {
     reactor: &'d Reactor,
     /// The connection that is there.
     pub held: Option<Held<TcpStream>>,
+    // The connection that goes back to the loop when this lane waits for the next one.
+    back: Option<Connection<TcpStream>>,
     // When it last had to wait for a connection.
     since: Duration,
     faults: u64,
@@ -32,6 +35,7 @@ impl<'d, R: Wait + Clock> Drop for TcpLane<'d, R> {
             alloc: _,
             reactor: _,
             held: _,
+            back: _,
             since: _,
             faults: _,
             cause: _,
@@ -57,6 +61,7 @@ impl<'d, R: Wait + Clock> TcpLane<'d, R> {
             alloc,
             reactor,
             held: None,
+            back: None,
             since: Duration::ZERO,
             faults: 0,
             cause: None,
@@ -69,9 +74,9 @@ impl<'d, R: Wait + Clock> TcpLane<'d, R> {
     }
 
     // The next connection, or why there is none. One for whose address there is no memory is let go.
-    fn wait(&self, since: &mut Duration) -> Waited {
+    fn wait(&self, since: &mut Duration, mut back: Option<Connection<TcpStream>>) -> Waited {
         for _ in self.rt.forever() {
-            match self.reactor.next(self.rt, since) {
+            match self.reactor.next(self.rt, since, back.take()) {
                 Next::Connection(connection) => {
                     if let Ok(address) = connection.address.copy(self.alloc) {
                         return Waited::Connection(Held::new(connection, *since), address);
@@ -104,8 +109,9 @@ impl<'d, R: Wait + Clock> Lane for TcpLane<'d, R> {
     ghost past = { λ _. None };
 
     fn accept(&mut self) -> Accepted {
+        let back = self.back.take();
         let mut since = self.since;
-        let waited = self.wait(&mut since);
+        let waited = self.wait(&mut since, back);
         self.since = since;
         match waited {
             Waited::Connection(held, address) => {
@@ -168,13 +174,17 @@ impl<'d, R: Wait + Clock> Lane for TcpLane<'d, R> {
 
     fn end(&mut self) {
         if let Some(held) = self.held.take() {
-            part(self.rt, self.reactor, held);
+            self.back = part(self.rt, self.reactor, held);
         }
     }
 }
 
-// Closes a connection, or gives it to the reactor.
-fn part<R: Wait + Clock>(rt: &R, reactor: &Reactor, held: Held<TcpStream>) {
+// Closes a connection, or gives it to the reactor, unless that comes later.
+fn part<R: Wait + Clock>(
+    rt: &R,
+    reactor: &Reactor,
+    held: Held<TcpStream>,
+) -> Option<Connection<TcpStream>> {
     let clean = held.is_clean();
     let Held {
         mut connection,
@@ -182,12 +192,16 @@ fn part<R: Wait + Clock>(rt: &R, reactor: &Reactor, held: Held<TcpStream>) {
         ..
     } = held;
     match parting {
-        Parting::Park => {
+        Parting::Park | Parting::Yield => {
             connection.inbound.look();
             connection.inbound.let_memory_go();
+            if parting == Parting::Yield {
+                return Some(connection);
+            }
             reactor.park(rt, connection);
         }
         Parting::Linger if !clean => reactor.linger(rt, connection),
         Parting::Linger | Parting::Close => {}
     }
+    None
 }

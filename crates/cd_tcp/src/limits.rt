@@ -5,7 +5,8 @@ ghost use Rattle.cd_tcp.specs.declared.limits.TheConstants.{BUSY_MILLIS, DIAL_SE
 /// How long a lane waits for the next request of a connection, in milliseconds. Then it waits without a lane.
 pub const GRACE_MILLIS: u64 = 20;
 
-/// A request that took so many milliseconds took long: the next one of its connection comes to another lane.
+/// A request that took so many milliseconds took long: its connection goes back to the loop, and mostly another lane takes the next
+/// one.
 pub const BUSY_MILLIS: u64 = 5;
 
 /// How long a lane waits for the rest of a request that the loop doesn't keep, in all, in seconds.

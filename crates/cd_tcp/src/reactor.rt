@@ -176,14 +176,21 @@ impl Reactor {
         sockets.take_closed()
     }
 
-    /// Waits for the next connection. `since` becomes the time, where the lane has to wait.
-    pub(crate) fn next<R: Wait + Clock>(&self, rt: &R, since: &mut Duration) -> Next {
+    /// Waits for the next connection, and takes back one that this lane had. `since` becomes the time, where the lane has to wait.
+    pub(crate) fn next<R: Wait + Clock>(
+        &self,
+        rt: &R,
+        since: &mut Duration,
+        back: Option<Connection<TcpStream>>,
+    ) -> Next {
         self.look_about(rt);
-        if let Some(next) = self.at_once(rt) {
+        if back.is_none()
+            && let Some(next) = self.at_once(rt)
+        {
             return next;
         }
         self.free.fetch_add(1, Ordering::SeqCst);
-        let next = self.lead(rt);
+        let next = self.lead(rt, back);
         self.free.fetch_sub(1, Ordering::SeqCst);
         *since = now(rt);
         next
@@ -213,12 +220,27 @@ impl Reactor {
         Some(Next::Connection(connection))
     }
 
-    // Waits until this lane leads, and leads.
-    fn lead<R: Wait + Clock>(&self, rt: &R) -> Next {
-        self.turns.begin(rt);
+    // Waits until this lane leads, and leads. It has its place before it gives a connection back: so it is the one that is called when
+    // that is taken, and no other lane is needed.
+    fn lead<R: Wait + Clock>(&self, rt: &R, back: Option<Connection<TcpStream>>) -> Next {
+        let place = self.turns.join(rt);
+        if let Some(connection) = back {
+            self.give_back(rt, connection);
+        }
+        if let Some(place) = place {
+            self.turns.sleep(rt, place);
+        }
         let next = self.first(rt);
         self.turns.end(rt);
         next
+    }
+
+    // Gives a connection back, and wakes the lane that leads where one is ready for it.
+    fn give_back<R: Wait + Clock>(&self, rt: &R, connection: Connection<TcpStream>) {
+        self.park(rt, connection);
+        if self.sockets.lock(rt).has_ready() {
+            let _ = self.waker.wake();
+        }
     }
 
     // The first connection that is ready, or why there is none.

@@ -45,15 +45,25 @@ impl Turns {
         }
     }
 
-    /// Waits until this lane leads.
-    pub fn begin<R: Wait>(&self, rt: &R) {
+    /// Where this lane is to sleep, which may be called from now on, or `None` where it leads at once.
+    pub fn join<R: Wait>(&self, rt: &R) -> Option<usize>
+        ensures { IfSome result (λ it. it < 8) }
+    {
         let mut turn = self.turn.lock(rt);
         if !turn.led {
             turn.led = true;
-            return;
+            return None;
         }
         let place = place(turn.asleep);
         turn.asleep = turn.asleep.saturating_add(1);
+        Some(place)
+    }
+
+    /// Sleeps there until this lane leads.
+    pub fn sleep<R: Wait>(&self, rt: &R, place: usize)
+        requires { place < 8 }
+    {
+        let turn = self.turn.lock(rt);
         let mut turn = self.places[place].wait_while(rt, turn, |it| it.called != Some(place));
         turn.called = None;
     }
