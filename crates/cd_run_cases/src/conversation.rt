@@ -10,8 +10,7 @@ use crate::opening::{MeetingFixtures, WaitingOpening};
 use crate::resting::RestingLane;
 use cd_outside::{MemoryFixtures, MemorySink, MemorySource};
 use cd_program::caddy_main;
-use cd_rig::Handles;
-use cd_rows::{Kinds, Outcome, RowFault, bytes_at, find, has, is_true, needed, number_of, only};
+use cd_rows::{Outcome, RowFault, bytes_at, find, has, is_true, needed, number_of, only};
 use cd_text::{List, Octets, Text};
 use cd_tree::{Tree, print};
 use std::alloc::Global;
@@ -25,24 +24,23 @@ const HELLO: &str =
 // The words of a row that has none.
 const WORDS: [&str; 3] = ["stdio", "--config", "hello.json"];
 
-/// The one kind of row: a conversation with the program, which has these handles of the runtime.
-#[derive(Drop)]
-pub struct Conversations<R> {
-    pub handles: Handles<R>,
-}
-
-impl<R: Threads + Wait + Sync> Kinds for Conversations<R> {
-    fn outcome(&self, alloc: Global, row: &Tree) -> Result<Outcome, RowFault> {
-        only(
-            alloc,
-            row,
-            "asked calls configuration configuration_bytes connections ends fails keeps lanes meet opening pieces rests sizes words",
-        )?;
-        Ok(Outcome {
-            member: "ends",
-            bytes: ended_in_pieces(&self.handles, alloc, row)?,
-        })
-    }
+/// What a conversation with the program comes to.
+pub fn conversation_outcome<R: Threads + Wait + Sync>(
+    rt: &R,
+    alloc: Global,
+    row: &Tree,
+) -> Result<Outcome, RowFault>
+    requires { IsSound row.now }
+{
+    only(
+        alloc,
+        row,
+        "asked calls configuration configuration_bytes connections ends fails keeps lanes meet opening pieces rests sizes words",
+    )?;
+    Ok(Outcome {
+        member: "ends",
+        bytes: ended_in_pieces(rt, alloc, row)?,
+    })
 }
 
 // How the program ends where what is asked comes in pieces of each size that the row names, or, where it names none, whole and

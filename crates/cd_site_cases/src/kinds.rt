@@ -2,6 +2,7 @@
 ghost use Rattle.cd_tree.specs.Tree.{IsSound};
 
 use crate::configurations::configuration_outcome;
+use crate::deciding::decision_outcome;
 use crate::fill::fill_outcome;
 use crate::parts::{
     error_subroutes_outcome, expanded_routes_outcome, listen_outcome, names_outcome,
@@ -70,8 +71,12 @@ fn outcome_of_server(alloc: Global, row: &Tree) -> Result<Outcome, RowFault>
     }
 }
 
-fn outcome_of_part(alloc: Global, row: &Tree) -> Result<Outcome, RowFault> {
-    if has(row, "listen") {
+fn outcome_of_part(alloc: Global, row: &Tree) -> Result<Outcome, RowFault>
+    requires { IsSound row.now }
+{
+    if has(row, "asked") {
+        decision_outcome(alloc, row)
+    } else if has(row, "listen") {
         listen_outcome(alloc, row)
     } else if has(row, "names_in") {
         names_outcome(alloc, row)

@@ -221,7 +221,7 @@ impl Reactor {
     }
 
     // Waits until this lane leads, and leads. It has its place before it gives a connection back: so it is the one that is called when
-    // that is taken, and no other lane is needed.
+    // that is taken, and mostly no other lane is needed.
     fn lead<R: Wait + Clock>(&self, rt: &R, back: Option<Connection<TcpStream>>) -> Next {
         let place = self.turns.join(rt);
         if let Some(connection) = back {

@@ -1,36 +1,31 @@
 //! What is done with a file, step by step.
+ghost use Rattle.cd_tree.specs.Tree.{IsSound};
+
 use crate::faults::disk_failing;
 use crate::file::{append_file, file_in, file_of};
 use crate::running::run_over;
 use crate::saving::save_on;
-use crate::tearing::images_found;
 use cd_autosave::MemoryDisk;
-use cd_rig::Handles;
-use cd_rows::{Kinds, Outcome, RowFault, find, has, only};
+use cd_rows::{Outcome, RowFault, find, has, only};
 use cd_text::Octets;
 use cd_tree::Tree;
 use std::alloc::Global;
 use std::sync::Wait;
 use std::thread::Threads;
 
-/// The kinds of rows: steps with a file, and the crashes of some saves. Steps have these handles of the runtime.
-#[derive(Drop)]
-pub struct Lives<R> {
-    pub handles: Handles<R>,
-}
-
-impl<R: Threads + Wait + Sync> Kinds for Lives<R> {
-    fn outcome(&self, alloc: Global, row: &Tree) -> Result<Outcome, RowFault> {
-        if has(row, "crashes") {
-            only(alloc, row, "crashes found")?;
-            return images_found(alloc, row);
-        }
-        only(alloc, row, "ends file steps")?;
-        Ok(Outcome {
-            member: "ends",
-            bytes: lived(&self.handles, alloc, row)?,
-        })
-    }
+/// What the steps of a row come to, and the file that is left.
+pub fn life_outcome<R: Threads + Wait + Sync>(
+    rt: &R,
+    alloc: Global,
+    row: &Tree,
+) -> Result<Outcome, RowFault>
+    requires { IsSound row.now }
+{
+    only(alloc, row, "ends file steps")?;
+    Ok(Outcome {
+        member: "ends",
+        bytes: lived(rt, alloc, row)?,
+    })
 }
 
 // What all steps come to, and what the file then holds.

@@ -2,7 +2,7 @@ use denote.Exit.{no}
 use denote.Param.Send.{arg_send, arg_sync, param_send, param_sync}
 use Rattle.cd_standard.specs.contracts.compiled.Compiled.{the_row}
 use Rattle.cd_standard.proofs.Crossing.{configuration_send, configuration_sync}
-use Rattle.cd_admin_cases.proofs.deciding.decided.Goals as goal
+use Rattle.cd_site_cases.proofs.deciding.decided.Goals as goal
 
 -- a configuration may go to other threads, and be shared by them
 pub decide-requires-send-M-Compiled : goal.decide-requires-send-M-Compiled

@@ -6,7 +6,7 @@ use crate::saying::said;
 use cd_admin::{Decision, decide};
 use cd_module::LoadFault;
 use cd_module_set::{Loaded, ModuleSet};
-use cd_rows::{Kinds, Outcome, RowFault, bytes_at, gives, has, needed, only, says, tree_of};
+use cd_rows::{Outcome, RowFault, bytes_at, gives, has, needed, only, says, tree_of};
 use cd_standard::Standard;
 use cd_text::Octets;
 use cd_tree::{Tree, print};
@@ -17,20 +17,18 @@ use std::alloc::Global;
 const HELLO: &[u8] =
     br#"{"apps":{"http":{"servers":{"s":{"listen":[":8080"],"routes":[{"handle":[{"handler":"static_response","body":"hi"}]}]}}}}}"#;
 
-/// The one kind of row: a request and the decision on it.
-pub struct Decisions;
-
-impl Kinds for Decisions {
-    fn outcome(&self, alloc: Global, row: &Tree) -> Result<Outcome, RowFault> {
-        only(
-            alloc,
-            row,
-            "configuration configuration_bytes asked host fields body body_bytes answered found refused gives gives_text ends",
-        )?;
-        let request = request_of(alloc, row)?;
-        let loaded = loaded_under(alloc, row)?;
-        decided(alloc, row, &loaded, &request)
-    }
+/// What a request to the admin API comes to.
+pub fn decision_outcome(alloc: Global, row: &Tree) -> Result<Outcome, RowFault>
+    requires { IsSound row.now }
+{
+    only(
+        alloc,
+        row,
+        "configuration configuration_bytes asked host fields body body_bytes answered found refused gives gives_text ends",
+    )?;
+    let request = request_of(alloc, row)?;
+    let loaded = loaded_under(alloc, row)?;
+    decided(alloc, row, &loaded, &request)
 }
 
 fn loaded_under(alloc: Global, row: &Tree) -> Result<Loaded<Standard>, RowFault>
