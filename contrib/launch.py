@@ -29,6 +29,8 @@ def run(program, words):
         resource.setrlimit(resource.RLIMIT_NOFILE, (most, most))
     except (OSError, ValueError):
         pass
+    # As `caddy_run` at the top does
+    os.environ.setdefault("MALLOC_ARENA_MAX", "2")
     os.execv(program, ["caddy_run", *words])
 
 
