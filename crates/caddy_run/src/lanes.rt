@@ -1,6 +1,7 @@
 ghost use Rattle.std.specs.Prelude.{◌≡◌, ◌≤◌, ◌∷◌, [], false, length, is_some, All, IfOk};
 ghost use Rattle.caddy_run.specs.declared.lanes.TheConstants.{LANES, MAX_LANES};
 
+use cd_link::Telling;
 use cd_stdio::{Messages, Reporting, TakesNow};
 use cd_tcp::{Reactor, TcpLane};
 use cd_text::{List, NoMemory};
@@ -30,20 +31,33 @@ pub fn one_lane<L: Drop>(alloc: Global, lane: L) -> Result<List<L>, NoMemory>
     Ok(lanes)
 }
 
-/// The lanes of a reactor, which write the messages that wait.
+/// The lanes of a reactor, which write the messages that wait. They report what their calls have answered, so that contracts speak of
+/// it.
 pub fn tcp_lanes<'d, R: Wait + Clock, W: TakesNow>(
     rt: &'d R,
     alloc: Global,
     reactor: &'d Reactor,
     messages: &'d Messages<W>,
-) -> Result<List<Reporting<'d, R, TcpLane<'d, R>, W>>, NoMemory>
+) -> Result<List<Telling<Reporting<'d, R, TcpLane<'d, R>, W>>>, NoMemory>
     ensures count { IfOk result (λ lanes. length lanes ≡ LANES) }
-    ensures idle { IfOk result (λ lanes. All (λ reporting. is_some reporting.lane.held ≡ false) lanes) }
+    ensures idle { IfOk result (λ lanes. All (λ telling. is_some telling.lane.lane.held ≡ false) lanes) }
 {
     let mut lanes = List::new(alloc);
     while lanes.len() < LANES {
-        let lane = TcpLane::new(rt, alloc, reactor);
-        lanes.push(Reporting::new(rt, alloc, lane, messages))?;
+        lanes.push(tcp_lane(rt, alloc, reactor, messages))?;
     }
     Ok(lanes)
+}
+
+// A lane of a reactor that has no connection.
+fn tcp_lane<'d, R: Wait + Clock, W: TakesNow>(
+    rt: &'d R,
+    alloc: Global,
+    reactor: &'d Reactor,
+    messages: &'d Messages<W>,
+) -> Telling<Reporting<'d, R, TcpLane<'d, R>, W>>
+    ensures { is_some result.lane.lane.held ≡ false }
+{
+    let lane = TcpLane::new(rt, alloc, reactor);
+    Telling::new(alloc, Reporting::new(rt, alloc, lane, messages))
 }

@@ -4,8 +4,8 @@
 //! `cd_disk`. `reverse-proxy` relays what comes to such lanes, by `proxy_main` of `cd_reverse_proxy` (proxying.rt). `stdio` serves standard input and output, by those of
 //! `cd_stdio`; words that serve nothing get the same lane, and it comes back untouched. lanes.rt says how many lanes there are,
 //! words.rt reads the words and finds the file of the configuration, serving.rt calls `caddy_main`, and ending.rt says on standard
-//! error what has failed. No contract speaks of what a stream, a socket or a file holds: what the program does with them is proved
-//! of `caddy_main`, and tests/loopback looks at the program from outside.
+//! error what has failed. Each lane reports what its calls have answered (`Telling` of `cd_link`), so the contract of `caddy_main` speaks
+//! of that. No contract speaks of what a stream, a socket or a file holds: tests/loopback looks at the program from outside.
 #![tactic(auto)]
 
 mod ending;
@@ -15,6 +15,7 @@ mod serving;
 mod words;
 
 use cd_disk::{AUTOSAVE_FILE, AutosaveFile, FileDisk, ReportingDisk};
+use cd_link::Telling;
 use cd_stdio::{AfterMessages, Announced, Console, Messages, StreamLane, Watched};
 use cd_tcp::{Reactor, TcpFixtures};
 use ending::{tell_cause, tell_cut};
@@ -75,10 +76,12 @@ fn main(rt: HostRuntime) -> ExitCode {
         Ok(served.status)
     } else if begins_with(words, "stdio") {
         let lane = StreamLane::new(&rt, alloc, rt.stdin(), rt.stdout(), rt.stderr());
+        let lane = Telling::new(alloc, lane);
         let out = Console::new(rt.stderr());
         over_streams(&rt, alloc, words, &mut config, out, lane)
     } else {
         let lane = StreamLane::new(&rt, alloc, rt.stdin(), rt.stdout(), rt.stderr());
+        let lane = Telling::new(alloc, lane);
         let out = Console::new(rt.stdout());
         let status = over_streams(&rt, alloc, words, &mut config, out, lane);
         tell_cause(alloc, &mut rt.stderr(), words, &config);

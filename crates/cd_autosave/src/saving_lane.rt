@@ -2,8 +2,9 @@ ghost use Rattle.std.specs.Prelude.{◌≡◌, ◌≤◌, ◌+◌, true};
 ghost use Rattle.cd_outside.specs.declared.given.Given.TheVariants as given;
 
 use crate::{Disk, SavingRun, SharedSaver};
-use cd_outside::{Accepted, Given, Key, Lane, Taken};
+use cd_outside::{Accepted, Given, Key, Lane, Received, Taken};
 use cd_text::Text;
+use cd_wire::Intake;
 use std::sync::ledger::Share;
 use std::sync::{Mutex, Wait};
 
@@ -59,6 +60,10 @@ impl<'a, L: Lane, D: Disk, K: SavingRun> Lane for SavingLane<'a, L, D, K> {
 
     fn read(&mut self, into: &mut [u8]) -> Taken {
         self.lane.read(into)
+    }
+
+    fn receive(&mut self, into: &mut Intake, room: &mut [u8]) -> Received {
+        self.lane.receive(into, room)
     }
 
     fn rest(&mut self) {

@@ -1,6 +1,7 @@
-ghost use Rattle.std.specs.Prelude.{◌≡◌, ◌≤◌, ◌+◌, ℕ, length, min};
+ghost use Rattle.std.specs.Prelude.{◌≡◌, ◌≤◌, ◌+◌, ℕ, Some, length, min};
 ghost use Rattle.cd_outside.specs.declared.given.Given.TheVariants as given;
 ghost use Rattle.cd_outside.specs.Counts.{count_end};
+ghost use Rattle.cd_autosave.specs.Saves.{IsSave};
 
 use crate::{Disk, Saver};
 use cd_outside::{Given, MAX_KEPT_BYTES};
@@ -36,10 +37,13 @@ impl<D: Disk, K: SavingRun> SharedSaver<D, K> {
         SharedSaver { saver, met }
     }
 
-    // Saves a text, and adds a fault to the book and the share where that failed.
+    // Saves a text as the saver does, under the number found at opening, or 0, and the serial. Adds a fault to the book and the
+    // share where that failed.
     pub(crate) fn save(&mut self, share: &mut Share<K>, serial: u32, text: &[u8]) -> Given
         requires part { share.old.parts ≡ 1 }
         requires short { length text.now ≤ MAX_KEPT_BYTES }
+        ensures save { IsSave D.seen D.may_leave D.moment D.left_since (record { saved = record { number = self.old.saver.slots.found + serial; text = text.now }; answer = result }) self.old.saver.slots self.new.saver.slots }
+        ensures nothing { (held : ℕ) → self.old.saver.slots.held ≡ Some held → self.old.saver.slots.found + serial ≤ held → (result ≡ given.All) × (self.new.saver.slots ≡ self.old.saver.slots) }
         ensures parts { share.new.parts ≡ 1 }
         ensures all { result ≡ given.All → share.new.amount ≡ share.old.amount }
         ensures failed { result ≡ given.Failed → share.new.amount ≡ share.old.amount + 1 }

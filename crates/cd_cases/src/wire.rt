@@ -11,8 +11,10 @@
 //!     {"fields": BYTES, "found": BYTES}       the names and values of the first request's fields, as `a=b|`
 //!     {"render": {"status": N, "fields": [[NAME, VALUE], ..], "body": BYTES, "close": TRUTH}, "head": TRUTH, "close": TRUTH, "answered": BYTES}
 //!     {"refusal": STATUS, "answered": BYTES}
-use cd_rig::{InPieces, found, found_in_pieces};
-use cd_rows::{Outcome, RowFault, bytes_at, bytes_of, find, is_true, number_of, only};
+use cd_rows::{
+    InPieces, Outcome, RowFault, bytes_at, bytes_of, find, found, found_in_pieces, is_true,
+    number_of, only,
+};
 use cd_text::{List, NoMemory, Octets};
 use cd_tree::{SharedText, Tree};
 use cd_wire::{Answer, Field, Fields, Intake, Lent, Next, Request, refusal, render};

@@ -81,7 +81,7 @@ impl Chain {
         } = layout;
         let compiler = Compiler {
             alloc,
-            names: names.as_slice(),
+            names: &names,
             entries: entries.as_slice(),
         };
         let main = compiler.lay_routes(&mut plan, routes, 0)?;

@@ -1,7 +1,6 @@
 //! Routes are laid out as places, the last one first.
 ghost use Rattle.std.specs.Prelude.{◌≡◌, ◌≤◌, ◌++◌, ◌∷◌, ℕ, [], length, IfOk, OnOk, get_or, if◌then◌else◌};
 ghost use Rattle.cd_handlers.specs.Invoke.{invoked};
-ghost use Rattle.cd_routes.specs.Invoking.{place_of};
 ghost use Rattle.cd_routes.specs.Running.{Rest, in_place, run_route, run_routes, run_step, run_steps};
 ghost use Rattle.cd_chain.specs.Growing.{Grows};
 ghost use Rattle.cd_chain.specs.Indexes.{IsBegun};
@@ -14,8 +13,8 @@ use crate::keys::note;
 use crate::numbering::{put_index, reserve};
 use crate::place::Place;
 use cd_handlers::Handler;
-use cd_routes::{Route, Step, Subroute};
-use cd_text::{List, NoMemory, Text};
+use cd_routes::{NameList, Route, Step, Subroute};
+use cd_text::{List, NoMemory};
 use std::alloc::Global;
 
 /// Lists of so many routes have an index.
@@ -38,18 +37,6 @@ fn after(terminal: bool, rest: usize) -> usize
     if terminal { 0 } else { rest }
 }
 
-// The place of a name among names; their number, where it is none of them.
-fn place_of(names: &[Text], name: &Text) -> usize
-    ensures { result ≡ place_of names.now name.now }
-{
-    for (place, one) in names.iter().enumerate() {
-        if name.equals(one.as_str()) {
-            return place;
-        }
-    }
-    names.len()
-}
-
 // Where the named route of a number is entered.
 fn entry(entries: &[usize], n: usize) -> usize
     ensures { result ≡ get_or entries.now n 1 }
@@ -64,7 +51,7 @@ fn entry(entries: &[usize], n: usize) -> usize
 #[tactic(auto, using(crate::proofs::Layouts::handler_added, crate::proofs::Layouts::grows_by))]
 fn lay_handler(
     places: &mut Vec<Place>,
-    names: &[Text],
+    names: &NameList,
     entries: &[usize],
     handler: Handler,
     rest: usize,
@@ -76,7 +63,7 @@ fn lay_handler(
 {
     match handler.invoked() {
         Some(name) => {
-            let inside = entry(entries, place_of(names, name));
+            let inside = entry(entries, names.place_of(name));
             let begin = add(places, Place::Invoke(inside, rest))?;
             Ok(begin)
         }
@@ -98,7 +85,7 @@ pub(crate) struct Plan {
 #[derive(Drop)]
 pub(crate) struct Compiler<'a> {
     pub alloc: Global,
-    pub names: &'a [Text],
+    pub names: &'a NameList,
     pub entries: &'a [usize],
 }
 

@@ -10,7 +10,7 @@ ghost use Rattle.cd_chain.specs.Laying.{entered, entered_by, named_at, AreLaid, 
 
 use crate::compiling::{Compiler, Plan};
 use crate::place::Place;
-use cd_routes::{NamedRoute, Route, leads_of};
+use cd_routes::{NameList, NamedRoute, Route, leads_of};
 use cd_text::{List, NoMemory, Text};
 use std::alloc::Global;
 use std::mem::replace;
@@ -20,7 +20,7 @@ use std::mem::replace;
 pub(crate) struct Layout {
     pub plan: Plan,
     /// Their names, and where each is entered.
-    pub names: List<Text>,
+    pub names: NameList,
     pub entries: Vec<usize>,
 }
 
@@ -99,7 +99,7 @@ fn put_entry(entries: &mut [usize], n: usize, begin: usize)
 fn lay_one(
     alloc: Global,
     plan: &mut Plan,
-    names: &[Text],
+    names: &NameList,
     slots: &mut [Option<Route>],
     entries: &mut [usize],
     n: usize,
@@ -130,7 +130,7 @@ fn lay_one(
 pub(crate) fn lay_named(
     alloc: Global,
     plan: &mut Plan,
-    names: &[Text],
+    names: &NameList,
     slots: &mut [Option<Route>],
     entries: &mut [usize],
     order: &[usize],
@@ -160,6 +160,7 @@ pub(crate) fn lay_all(alloc: Global, named: List<NamedRoute>) -> Result<Layout, 
     let order = order_of(alloc, named.as_slice())?;
     let parts = parted(alloc, named)?;
     let Parts { names, mut slots } = parts;
+    let names = NameList::new(names);
     let mut entries = first_entries(alloc, names.len())?;
     let places = first_places(alloc)?;
     let indexes = Vec::new(alloc);
@@ -167,7 +168,7 @@ pub(crate) fn lay_all(alloc: Global, named: List<NamedRoute>) -> Result<Layout, 
     lay_named(
         alloc,
         &mut plan,
-        names.as_slice(),
+        &names,
         slots.as_mut_slice(),
         entries.as_mut_slice(),
         order.as_slice(),

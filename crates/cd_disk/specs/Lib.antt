@@ -1,2 +1,4 @@
 pub mod RawFile
 pub mod Untold
+pub mod Gates
+pub mod Attributes

@@ -1,10 +1,12 @@
 ghost use Rattle.std.specs.Prelude.{◌≡◌, None};
-ghost use Rattle.cd_disk.specs.declared.autosave_file.TheConstants.{MAX_FILE_BYTES};
 
-use crate::RawFile;
-use cd_autosave::{HEAD_BYTES, SECOND_START};
-use cd_outside::MAX_KEPT_BYTES;
-use std::fs::{File, Files, OpenOptions, TryLockError};
+use crate::attributes::{Attributes, Kind, fault_of, words_of};
+use crate::gates::may_be_saved;
+use crate::own_user::own_user;
+use crate::trial::warning_of;
+use crate::{RawFile, Warns};
+use cd_autosave::SECOND_START;
+use std::fs::{File, Files, Metadata, OpenOptions, TryLockError};
 use std::io::ErrorKind;
 use std::os::unix::fs::{FileExt, MetadataExt, OpenOptionsExt};
 use std::path::Path;
@@ -13,31 +15,25 @@ use std::{fs, io};
 /// The name of the file in which configurations are saved.
 pub const AUTOSAVE_FILE: &str = "autosave.bin";
 
-/// How many bytes the file has at most: those up to the second slot, and a slot whose text is as long as it may be.
-pub const MAX_FILE_BYTES: u64 = SECOND_START + HEAD_BYTES as u64 + MAX_KEPT_BYTES as u64;
-
 // Who may read and write the file: its owner. A configuration may have what others are not to see.
 const MODE: u32 = 0o600;
-
-/// The number, which the code cites by name.
-pub fn limits_are()
-    ensures { MAX_FILE_BYTES ≡ 25165837 }
-{}
 
 /// The file in which configurations are saved. It is looked for by the first call, and made by the first write. It is locked while it
 /// is open, so that no other server saves there.
 ///
 /// # Errors
 ///
-/// A call fails where the file can't be opened, and changes nothing: where it is no regular file, where another program has made it
-/// (its first byte is neither 0 nor 1, or it has more than `MAX_FILE_BYTES`), where another server has it open, and where a file of
-/// that name came after it was found missing, unless that file is empty. A sync also fails where the file was moved or removed since.
-pub struct AutosaveFile<'r, R: Files<File = File>> {
+/// A call fails where the file can't be opened, and changes nothing: where another user could have written it or could read it
+/// (`FileFault`), where another program has made it (`may_be_saved`), where another server has it open, and where a file of that
+/// name came after it was found missing, unless that file is empty. A sync also fails where the file was moved or removed since.
+pub struct AutosaveFile<'r, R: Files<File = File> + AllocGlobal> {
     files: &'r R,
     path: &'r str,
     found: Found,
     // Whether its folder was synced since the file was found or made.
     listed: bool,
+    // Why a save would fail, as far as that was seen when the file was looked for.
+    warning: Option<io::Error>,
 }
 
 // What is known of the file.
@@ -49,18 +45,28 @@ enum Found {
     Open(File),
 }
 
-impl<'r, R: Files<File = File>> Drop for AutosaveFile<'r, R> {
+impl Found {
+    fn is_open(&self) -> bool {
+        match self {
+            Found::Open(_) => true,
+            Found::Unknown | Found::Missing => false,
+        }
+    }
+}
+
+impl<'r, R: Files<File = File> + AllocGlobal> Drop for AutosaveFile<'r, R> {
     fn drop(self) {
         let Self {
             files: _,
             path: _,
             found: _,
             listed: _,
+            warning: _,
         } = self;
     }
 }
 
-impl<'r, R: Files<File = File>> AutosaveFile<'r, R> {
+impl<'r, R: Files<File = File> + AllocGlobal> AutosaveFile<'r, R> {
     /// The file at this path, which is not looked for yet.
     pub fn new(files: &'r R, path: &'r str) -> AutosaveFile<'r, R> {
         AutosaveFile {
@@ -68,13 +74,15 @@ impl<'r, R: Files<File = File>> AutosaveFile<'r, R> {
             path,
             found: Found::Unknown,
             listed: false,
+            warning: None,
         }
     }
 
-    // Looks for the file where that was not done.
+    // Looks for the file where that was not done, and tries whether a save would succeed.
     fn look(&mut self) -> io::Result<Option<&File>> {
         if let Found::Unknown = &self.found {
             self.found = find(self.files, self.path)?;
+            self.warning = warning_of(self.files, self.path, self.found.is_open());
         }
         match &self.found {
             Found::Open(file) => Ok(Some(file)),
@@ -91,7 +99,7 @@ impl<'r, R: Files<File = File>> AutosaveFile<'r, R> {
     }
 }
 
-impl<'r, R: Files<File = File>> RawFile for AutosaveFile<'r, R> {
+impl<'r, R: Files<File = File> + AllocGlobal> RawFile for AutosaveFile<'r, R> {
     ghost bytes = { λ _. None };
 
     fn read_at(&mut self, at: u64, into: &mut [u8]) -> io::Result<usize> {
@@ -126,13 +134,18 @@ impl<'r, R: Files<File = File>> RawFile for AutosaveFile<'r, R> {
     }
 }
 
+impl<'r, R: Files<File = File> + AllocGlobal> Warns for AutosaveFile<'r, R> {
+    fn warning(&self) -> Option<io::Error> {
+        self.warning
+    }
+}
+
 // Opens the file where there is one.
 fn find<R: Files<File = File>>(files: &R, path: &str) -> io::Result<Found> {
-    match OpenOptions::new().read(true).write(true).open(files, path) {
-        Ok(file) => {
-            is_regular(&file)?;
-            lock(&file)?;
-            is_own(&file)?;
+    match fs::symlink_metadata(files, path) {
+        Ok(named) => {
+            let file = open(files, path, &named)?;
+            is_of_saves(&file)?;
             Ok(Found::Open(file))
         }
         Err(error) if error.kind() == ErrorKind::NotFound => Ok(Found::Missing),
@@ -140,19 +153,67 @@ fn find<R: Files<File = File>>(files: &R, path: &str) -> io::Result<Found> {
     }
 }
 
-// Makes the file. It fails where something of that name has come that is not empty. A file that was made and could not be locked is
-// found empty by a later call.
+// Makes the file. A link is not followed, so nothing is made elsewhere. Where something of that name has come, it has to be an empty
+// file: one that was made and could not be locked is found so by a later call.
 fn make<R: Files<File = File>>(files: &R, path: &str) -> io::Result<File> {
-    let file = OpenOptions::new()
+    let made = OpenOptions::new()
         .read(true)
         .write(true)
-        .create(true)
+        .create_new(true)
         .mode(MODE)
-        .open(files, path)?;
-    is_regular(&file)?;
-    lock(&file)?;
+        .open(files, path);
+    match made {
+        Ok(file) => {
+            lock(&file)?;
+            Ok(file)
+        }
+        Err(error) if error.kind() == ErrorKind::AlreadyExists => take(files, path),
+        Err(error) => Err(error),
+    }
+}
+
+// Opens what has come since the file was found missing.
+fn take<R: Files<File = File>>(files: &R, path: &str) -> io::Result<File> {
+    let named = fs::symlink_metadata(files, path)?;
+    let file = open(files, path, &named)?;
     is_empty(&file)?;
     Ok(file)
+}
+
+// Opens and locks a file that is there, where its owner alone can have written it and can read what is saved there.
+fn open<R: Files<File = File>>(files: &R, path: &str, named: &Metadata) -> io::Result<File> {
+    if let Some(fault) = fault_of(attributes_of(named), own_user(files)?) {
+        return Err(io::Error::new(ErrorKind::InvalidInput, words_of(fault)));
+    }
+    let file = OpenOptions::new().read(true).write(true).open(files, path)?;
+    if !is_same(named, &file.metadata()?) {
+        return Err(io::Error::new(
+            ErrorKind::InvalidInput,
+            "another file has come in its place",
+        ));
+    }
+    lock(&file)?;
+    Ok(file)
+}
+
+fn attributes_of(named: &Metadata) -> Attributes {
+    let kind = if named.is_symlink() {
+        Kind::Link
+    } else if named.is_file() {
+        Kind::Regular
+    } else {
+        Kind::Other
+    };
+    Attributes {
+        kind,
+        owner: named.uid(),
+        mode: named.mode(),
+        names: named.nlink(),
+    }
+}
+
+fn is_same(one: &Metadata, other: &Metadata) -> bool {
+    one.dev() == other.dev() && one.ino() == other.ino()
 }
 
 fn is_empty(file: &File) -> io::Result<()> {
@@ -163,14 +224,6 @@ fn is_empty(file: &File) -> io::Result<()> {
             ErrorKind::AlreadyExists,
             "it has come since it was found missing",
         ))
-    }
-}
-
-fn is_regular(file: &File) -> io::Result<()> {
-    if file.metadata()?.is_file() {
-        Ok(())
-    } else {
-        Err(io::Error::new(ErrorKind::InvalidInput, "it is no regular file"))
     }
 }
 
@@ -185,23 +238,27 @@ fn lock(file: &File) -> io::Result<()> {
     }
 }
 
-// A save closes the gate of its slot before it writes there. So the first byte is 0 or 1, where the file has one.
-fn is_own(file: &File) -> io::Result<()> {
-    let mut gate = [0u8];
-    let count = file.read_at(&mut gate, 0)?;
-    let known = count == 0 || gate[0] <= 1;
-    if known && file.metadata()?.len() <= MAX_FILE_BYTES {
+fn is_of_saves(file: &File) -> io::Result<()> {
+    let size = file.metadata()?.len();
+    if may_be_saved(size, byte_at(file, 0)?, byte_at(file, SECOND_START)?) {
         Ok(())
     } else {
         Err(io::Error::new(ErrorKind::InvalidData, "it was made by another program"))
     }
 }
 
+// The byte at a place. Bytes past the end count as 0.
+fn byte_at(file: &File, at: u64) -> io::Result<u8> {
+    let mut byte = [0u8];
+    file.read_at(&mut byte, at)?;
+    Ok(byte[0])
+}
+
 // Whether the path still leads to the file.
 fn is_there<R: Files<File = File>>(files: &R, path: &str, file: &File) -> io::Result<()> {
     let own = file.metadata()?;
-    match fs::metadata(files, path) {
-        Ok(named) if named.dev() == own.dev() && named.ino() == own.ino() => Ok(()),
+    match fs::symlink_metadata(files, path) {
+        Ok(named) if is_same(&named, &own) => Ok(()),
         Ok(_) => Err(moved()),
         Err(error) if error.kind() == ErrorKind::NotFound => Err(moved()),
         Err(error) => Err(error),

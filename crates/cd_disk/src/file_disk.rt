@@ -7,7 +7,7 @@ ghost use Rattle.cd_autosave.specs.Disk.{Torn, Written, ReadsAt, Steps, After, I
 ghost use Rattle.cd_disk.specs.RawFile.{Writes};
 ghost use Rattle.cd_disk.specs.Untold.{untold, no_image, no_image_since};
 
-use crate::RawFile;
+use crate::{RawFile, Warns};
 use cd_autosave::Disk;
 use cd_outside::{Given, Taken};
 use cd_stdio::Explains;
@@ -56,6 +56,12 @@ impl<F: RawFile> FileDisk<F> {
 impl<F> Explains for FileDisk<F> {
     fn cause(&self) -> Option<io::Error> {
         self.cause
+    }
+}
+
+impl<F: Warns> Warns for FileDisk<F> {
+    fn warning(&self) -> Option<io::Error> {
+        self.file.warning()
     }
 }
 

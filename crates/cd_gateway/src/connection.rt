@@ -8,7 +8,7 @@ use crate::worker::Worker;
 use cd_outside::Lane;
 use cd_peers::Peers;
 use cd_proxy::relay;
-use cd_session::{Cause, ConnectionEnd, Session, read_more, refuse};
+use cd_session::{Cause, ConnectionEnd, READ_BYTES, Session, read_more, refuse};
 use cd_text::NoMemory;
 use cd_wire::Next;
 use std::sync::Wait;
@@ -19,6 +19,7 @@ impl<R: Wait> Worker<'_, R> {
         &self,
         lane: &mut L,
         peers: &mut P,
+        room: &mut [u8; READ_BYTES],
     ) -> ConnectionEnd
         requires may { MayDial self.now.place (length self.now.upstreams.now) (P.busy peers.old) }
         requires busy { L.busy lane.old ≡ true }
@@ -28,12 +29,17 @@ impl<R: Wait> Worker<'_, R> {
         ensures cause { HasRisen result.cause (L.faults lane.old) (L.faults lane.new) }
         ensures running { result.halted ≡ false }
     {
-        let end = self.relay_requests(lane, peers);
+        let end = self.relay_requests(lane, peers, room);
         lane.end();
         end
     }
 
-    fn relay_requests<L: Lane, P: Peers>(&self, lane: &mut L, peers: &mut P) -> ConnectionEnd
+    fn relay_requests<L: Lane, P: Peers>(
+        &self,
+        lane: &mut L,
+        peers: &mut P,
+        room: &mut [u8; READ_BYTES],
+    ) -> ConnectionEnd
         requires may { MayDial self.now.place (length self.now.upstreams.now) (P.busy peers.old) }
         requires busy { L.busy lane.old ≡ true }
         ensures busy { L.busy lane.new ≡ true }
@@ -44,7 +50,7 @@ impl<R: Wait> Worker<'_, R> {
     {
         let mut session = Session::new(self.alloc);
         for _ in self.rt.forever() {
-            match self.relay_next(lane, peers, &mut session) {
+            match self.relay_next(lane, peers, &mut session, room) {
                 Some(end) => return end,
                 None => {}
             }
@@ -58,6 +64,7 @@ impl<R: Wait> Worker<'_, R> {
         lane: &mut L,
         peers: &mut P,
         session: &mut Session,
+        room: &mut [u8; READ_BYTES],
     ) -> Option<ConnectionEnd>
         requires may { MayDial self.now.place (length self.now.upstreams.now) (P.busy peers.old) }
         requires busy { L.busy lane.old ≡ true }
@@ -83,7 +90,7 @@ impl<R: Wait> Worker<'_, R> {
                 );
                 after_request(session, how)
             }
-            Ok(Next::More) => read_more(session, lane),
+            Ok(Next::More) => read_more(session, lane, room),
             Ok(Next::End) => Some(session.end(Cause::Whole)),
             Ok(Next::Cut) => Some(session.end(Cause::Whole)),
             Ok(Next::Refused(fault)) => Some(refuse(fault, session, lane)),

@@ -13,7 +13,7 @@ ghost use Rattle.cd_gateway.specs.Stepping.{LaneGoesOn, MayDial};
 use crate::worker::Worker;
 use cd_outside::{Accepted, Address, Lane};
 use cd_peers::{Balancer, Peers};
-use cd_session::{Counts, LaneEnd, LaneHow};
+use cd_session::{Counts, LaneEnd, LaneHow, READ_BYTES};
 use std::alloc::Global;
 use std::sync::{Mutex, Wait};
 
@@ -48,9 +48,12 @@ pub fn relay_lane<R: Wait, L: Lane, P: Peers>(
         place,
     };
     let mut counts = Counts::new();
+    let mut room = [0; READ_BYTES];
     for _ in rt.forever() {
         match lane.accept() {
-            Accepted::Connection(at) => worker.relay_accepted(lane, peers, &at, &mut counts),
+            Accepted::Connection(at) => {
+                worker.relay_accepted(lane, peers, &at, &mut counts, &mut room);
+            }
             Accepted::Ended => return counts.end(LaneHow::Ended),
             Accepted::Failed => return counts.end(LaneHow::AcceptFault),
         }
@@ -66,6 +69,7 @@ impl<R: Wait> Worker<'_, R> {
         peers: &mut P,
         at: &Address,
         counts: &mut Counts,
+        room: &mut [u8; READ_BYTES],
     )
         requires may { MayDial self.now.place (length self.now.upstreams.now) (P.busy peers.old) }
         requires busy { L.busy lane.old ≡ true }
@@ -78,7 +82,7 @@ impl<R: Wait> Worker<'_, R> {
         ensures later { L.faults lane.old ≤ L.faults lane.new }
     {
         let _ = at;
-        let end = self.relay_connection(lane, peers);
+        let end = self.relay_connection(lane, peers, room);
         counts.add(&end);
     }
 }

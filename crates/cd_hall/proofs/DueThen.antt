@@ -10,14 +10,14 @@ use Rattle.cd_legal.specs.Entry.{signed, entries}
 use Rattle.cd_legal.specs.Legal.{state_at, may_retire}
 use Rattle.cd_legal.specs.State.{has_number, is_ticketed, open_at, without_ticket}
 use Rattle.cd_legal.proofs.Callers.{one_ticket, open_at-closed, ticket_of-without_other, ticket-open}
-use Rattle.cd_legal.proofs.Histories.{both}
+use Rattle.cd_legal.proofs.Histories.{both, first, second}
 use Rattle.cd_legal.proofs.Logs.{prefix_more, mine-own, state-snoc}
 use Rattle.cd_gate.specs.declared.view.View.{View}
 use Rattle.cd_gate.specs.Duties.{is_at, is_settled}
 use Rattle.cd_gate.specs.Tables.{Ends}
 use Rattle.cd_gate.proofs.Numbers.{tells, off}
 use Rattle.cd_gate.proofs.Tickets.{ticketed-is, retired-free}
-use Rattle.cd_hall.specs.Dues.{is_last_at, is_before_halt, DueBy, DueThen, MayRetireAll}
+use Rattle.cd_hall.specs.Dues.{is_last_at, is_before_halt, DueBy, DueThen, DueAtEnd, MayRetireAll}
 use Rattle.cd_hall.specs.Turned.{Turned}
 
 -- ---- tests
@@ -51,6 +51,18 @@ by_tests true false true false n only = refl
 by_tests true false true true n only = inr refl
 by_tests true true true false n only = absurd (off (only refl refl refl))
 by_tests true true true true n only = inl refl
+
+-- superseded and settled, and the last that runs
+by_settled : (low done last : Bool) → ((low && done) && last) ≡ ((low && last) && done)
+by_settled false done last = refl
+by_settled true true true = refl
+by_settled true true false = refl
+by_settled true false true = refl
+by_settled true false false = refl
+
+not_not : (b : Bool) → not b ≡ false → b ≡ true
+not_not true is = refl
+not_not false is = absurd (off (sym is))
 
 -- the duty that came may be done, where its serial may be retired once it is due
 pub duty_may : (s : State) (due : Bool) (n : ℕ) (ds : List ℕ) → (due ≡ true → may_retire s n ≡ true) → ds ≡ cond due (n ∷ []) [] → MayRetireAll s ds
@@ -102,6 +114,17 @@ module _ {T : Type 0} (v w : View T) (n : ℕ) (due : Bool) (log : List Signed) 
   pub due_then : DueThen s n (cond due (n ∷ []) [])
   due_then = subst (λ (z : Bool × Bool). DueBy z.0 (is_before_halt s n) n (cond z.1 (n ∷ []) [])) (λ i. (sym last_test i, sym due_test i))
       (by_tests (nat_lt n s.serial) (is_at n is.unsettled) (rest == 0) (is_before_halt s n) n after_halt)
+
+  -- the same by whether the serial was settled
+  abbrev pub was_settled : Bool
+  was_settled = not (is_at n is.unsettled)
+
+  pub due_at_end : DueAtEnd s n was_settled (cond due (n ∷ []) [])
+  due_at_end = record {
+    due = ap (λ (b : Bool). cond b (n ∷ []) []) (due_test ∙ (by_settled (nat_lt n s.serial) was_settled (rest == 0) ∙ ap (λ (b : Bool). b && was_settled) (sym last_test)));
+    early = λ last late. let both_are : (nat_lt n s.serial && (rest == 0)) ≡ true = sym last_test ∙ last in
+        after_halt (first (nat_lt n s.serial) (rest == 0) both_are) (not_not (is_at n is.unsettled) late) (second (nat_lt n s.serial) (rest == 0) both_are);
+  }
 
   -- where it comes its serial may be retired
   pub finish_may : due ≡ true → may_retire (state_at w.seen) n ≡ true

@@ -7,6 +7,7 @@ pub mod Placing
 pub mod Spreading
 pub mod Rows
 pub mod OneEnd
+pub mod LastEnd
 pub mod Told
 pub mod Confs
 pub mod Bare

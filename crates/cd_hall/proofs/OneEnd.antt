@@ -30,13 +30,13 @@ ends_in {A} (x ∷ xs) = inr (⊎_elim
     (λ more. (x ∷ more.0, more.1, ap (λ (l : List A). x ∷ l) more.2)) (ends_in xs))
 
 -- what begins a list with one element more begins the list, or is all of it
-shorter : {A : Type 0} (xs ys : List A) (y : A) → IsPrefix xs (ys ++ y ∷ []) → IsPrefix xs ys ⊎ (xs ≡ ys ++ y ∷ [])
+pub shorter : {A : Type 0} (xs ys : List A) (y : A) → IsPrefix xs (ys ++ y ∷ []) → IsPrefix xs ys ⊎ (xs ≡ ys ++ y ∷ [])
 shorter {A} xs ys y p = ⊎_elim
     (λ none. inr (sym (append-nil xs) ∙ (ap (λ (l : List A). xs ++ l) (sym none) ∙ p.1)))
     (λ more. inl (more.0, (snoc_same (xs ++ more.0) ys more.1 y (append_assoc xs more.0 (more.1 ∷ []) ∙ (ap (λ (l : List A). xs ++ l) (sym more.2) ∙ p.1))).0)) (ends_in p.0)
 
 -- one of two beginnings of one history begins the other
-either_first : (xs ys zs : List Signed) → IsPrefix xs zs → IsPrefix ys zs → IsPrefix xs ys ⊎ IsPrefix ys xs
+pub either_first : (xs ys zs : List Signed) → IsPrefix xs zs → IsPrefix ys zs → IsPrefix xs ys ⊎ IsPrefix ys xs
 either_first xs ys zs p q = ⊎_elim
     (λ e. inr (subst (λ (l : List Signed). IsPrefix ys l) e (longer_second xs ys zs p q)))
     (λ e. inl (subst (λ (l : List Signed). IsPrefix xs l) e (longer_first xs ys))) (either_one xs ys zs p q)
@@ -44,12 +44,12 @@ either_first xs ys zs p q = ⊎_elim
 -- ---- a serial that may be retired
 
 module _ (n : ℕ) where
-  freed : (s : State) → MayRetireAll s (n ∷ []) → Freed n s
+  pub freed : (s : State) → MayRetireAll s (n ∷ []) → Freed n s
   freed s may =
       let f : Retires s n = can s (Retire n) (first (may_retire s n) true may) in
       (f.superseded, open_at-none n s.tickets f.unticketed)
 
-  freed_on : (seen log : List Signed) → IsPrefix seen log → IsLegal log → Freed n (state_at seen) → Freed n (state_at log)
+  pub freed_on : (seen log : List Signed) → IsPrefix seen log → IsLegal log → Freed n (state_at seen) → Freed n (state_at log)
   freed_on seen log p legal free =
       let more : List Signed = p.0 in
       let whole : IsLegal (seen ++ more) = subst (λ (l : List Signed). IsLegal l) (sym p.1) legal in
@@ -57,7 +57,7 @@ module _ (n : ℕ) where
       (subst (λ (s : State). Freed n s) (sym (state-append seen more)) (along (Freed n) (freed_by n) (state_at seen) (entries more) (legal-back seen more whole) free))
 
   -- no request ends under it any more
-  none_ends : (k : ℕ) (s : State) → Freed n s → ticket_of k s.tickets ≡ Some n → ⊥
+  pub none_ends : (k : ℕ) (s : State) → Freed n s → ticket_of k s.tickets ≡ Some n → ⊥
   none_ends k s free has = some_left (open_at n s.tickets) (ticket-open k n s.tickets has) free.1
     where
       some_left : (x : ℕ) → 1 ≤ x → x ≡ 0 → ⊥

@@ -45,7 +45,7 @@ use Rattle.cd_life.proofs.Shelving.{allowed_more}
 use Rattle.cd_hall.specs.declared.hall.Hall.{Hall}
 use Rattle.cd_hall.specs.declared.hall.Ticket.{Ticket}
 use Rattle.cd_hall.specs.Calls.{IsPassOf, StaysCalm}
-use Rattle.cd_hall.specs.Dues.{DueThen}
+use Rattle.cd_hall.specs.Dues.{DueThen, DueAtEnd}
 use Rattle.cd_hall.specs.Requests.{BegunNow, HasLooked}
 use Rattle.cd_hall.specs.Since.{Since}
 use Rattle.cd_hall.specs.Tickets.{HasConfiguration, IsTicketOf, HasBegun}
@@ -246,6 +246,11 @@ module _ {T : Type 0} where
   pub finish_due : (v y : View T) (found other : List Signed) (n : ℕ) (ds es : List ℕ) → Turned v y found (Finish v.number ∷ []) → DueThen (state_at found) n ds → es ≡ ds → Turned v y other (Finish v.number ∷ []) → DueThen (state_at other) n es
   finish_due v y found other n ds es t due same u =
       subst (λ (z : List Signed × List ℕ). DueThen (state_at z.0) n z.1)
+      (let one : found ≡ other = append_cancel_right found other (signed v.number (Finish v.number) ∷ []) (sym t.is ∙ u.is) in λ i. (one i, sym same i)) due
+
+  pub finish_settled : (v y : View T) (found other : List Signed) (n : ℕ) (done : Bool) (ds es : List ℕ) → Turned v y found (Finish v.number ∷ []) → DueAtEnd (state_at found) n done ds → es ≡ ds → Turned v y other (Finish v.number ∷ []) → DueAtEnd (state_at other) n done es
+  finish_settled v y found other n done ds es t due same u =
+      subst (λ (z : List Signed × List ℕ). DueAtEnd (state_at z.0) n done z.1)
       (let one : found ≡ other = append_cancel_right found other (signed v.number (Finish v.number) ∷ []) (sym t.is ∙ u.is) in λ i. (one i, sym same i)) due
 
   pub finish_duties : (v y : View T) (due : Bool) (n : ℕ) (ds : List ℕ) → y.duties ≡ more_due due n v.duties → ds ≡ cond due (n ∷ []) [] → y.duties ≡ ds ++ v.duties

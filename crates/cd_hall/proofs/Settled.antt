@@ -11,6 +11,7 @@ use Rattle.cd_legal.specs.declared.state.State.{State}
 use Rattle.cd_legal.specs.Entry.{entries}
 use Rattle.cd_legal.specs.Laws.{core_at}
 use Rattle.cd_legal.specs.Legal.{after, state_at}
+use Rattle.cd_legal.specs.Owing.{Owes}
 use Rattle.cd_legal.specs.Runs.{stopped_all, stopped_of}
 use Rattle.cd_legal.specs.Signing.{IsHistory}
 use Rattle.cd_legal.specs.State.{has_number, open_at, apps_stopped}
@@ -20,10 +21,12 @@ use Rattle.cd_legal.specs.declared.limits.TheConstants.{MAX_UNRETIRED}
 use Rattle.cd_gate.specs.declared.pass.Pass.{Pass}
 use Rattle.cd_gate.specs.declared.pass.Turn.{Turn}
 use Rattle.cd_gate.specs.declared.view.View.{View}
+use Rattle.cd_gate.specs.Growing.{owes_after}
 use Rattle.cd_gate.specs.Knowing.{Knows}
 use Rattle.cd_gate.specs.Passes.{view, opening_of}
 use Rattle.cd_gate.specs.Steps.{settled}
 use Rattle.cd_gate.specs.Tables.{FoundInTurn}
+use Rattle.cd_gate.specs.Words.{owed}
 use Rattle.cd_legal.proofs.Serials.{retired-below}
 use Rattle.cd_gate.proofs.Numbers.{tells}
 use Rattle.cd_hall.specs.Calls.{StaysCalm}
@@ -145,11 +148,20 @@ module _ {T : Type 0} where
     h_whole = subst (λ (m : ℕ). GoesOn v b (Halt (m + 1) ∷ stopped_of (state_at v.seen) m)) current (goes_as v b _ _ (ap (λ (l : List Entry). Halt (n + 1) ∷ l) (stops_core v.seen n)) h_goes)
 
     module _ (x : View T) (due : Bool) (log : List Signed) (f : FoundInTurn b log) (told : due ≡ (open_at n (state_at log).tickets == 0)) (is : x ≡ settled b n due) where
+      h_ticket : b.ticket ≡ v.ticket
+      h_ticket =
+          still_owes a b (stopped_all stops.0.number stops.0.apps) (stops_end stops.0.number stops.0.apps) stops.2
+          ∙ ap (λ (o : Owes). o.ticket) (start.since.owes ∙ ap (λ (l : List Entry). owes_after (owed v) l) start.are)
+
+      h_lent : (ds : List ℕ) → ds ≡ cond due (n ∷ []) [] → v.ticket ≡ Some (state_at v.seen).serial → ds ≡ []
+      h_lent ds are has = are ∙ ap (λ (z : Bool). cond z (n ∷ []) []) (lent b n due log f (h_ticket ∙ (has ∙ ap (λ (m : ℕ). Some m) (sym current))) told)
+
       pub h_halt : (ds : List ℕ) → ds ≡ cond due (n ∷ []) [] → (state_at v.seen).halted ≡ false → IsHalt v x ds
       h_halt ds are runs = record {
         settles = settles_with v b x (Halt ((state_at v.seen).serial + 1) ∷ stopped_of (state_at v.seen) (state_at v.seen).serial) n due ds h_whole h_duties is are;
         running = runs;
         due = due_later b x n (state_at v.seen).serial due log ds f (ap (λ (z : View T). z.seen) is) told are current (λ came. retires_later b n log f h_low h_unretired h_stopped (sym told ∙ came));
+        lent = h_lent ds are;
       }
 
       pub h_quiet : x.unsettled ≡ None

@@ -1,11 +1,13 @@
 -- Which duty comes with the end of a request, and with a halt.
-use Rattle.std.specs.Prelude.{◌≡◌, ◌⊎◌, ℕ, ◌+◌, ◌==◌, ◌&&◌, Bool, true, false, nat_lt, cond, List, [], ◌∷◌}
+use Rattle.std.specs.Prelude.{◌≡◌, ◌⊎◌, ℕ, ◌+◌, ◌==◌, ◌&&◌, Bool, true, false, nat_lt, cond, List, [], ◌∷◌, ◌++◌, Some}
 use Rattle.std.specs.List.{list_all}
 use mathlib.Core.List.{IsPrefix}
+use Rattle.cd_legal.specs.declared.entry.Entry.TheVariants.{Finish}
 use Rattle.cd_legal.specs.declared.entry.Signed.{Signed}
 use Rattle.cd_legal.specs.declared.state.State.{State}
+use Rattle.cd_legal.specs.Entry.{signed}
 use Rattle.cd_legal.specs.Laws.{core_at}
-use Rattle.cd_legal.specs.State.{open_at}
+use Rattle.cd_legal.specs.State.{open_at, ticket_of}
 use Rattle.cd_legal.specs.Legal.{state_at, may_retire}
 use Rattle.cd_legal.specs.Signing.{IsHistory}
 
@@ -40,3 +42,25 @@ pub record DueLater (seen : List Signed) (n : ℕ) (duties : List ℕ) : Type 0 
   pub same : core_at later ≡ core_at seen
   pub due : duties ≡ cond (open_at n (state_at later).tickets == 0) (n ∷ []) []
   pub may : MayRetireAll (state_at later) duties
+
+-- the duty that came with the end of a request under the serial, which met this state: it came where the serial was settled by then,
+-- and no other request ran under it
+pub record DueAtEnd (s : State) (n : ℕ) (settled : Bool) (duties : List ℕ) : Type 0 where
+  pub due : duties ≡ cond (is_last_at s n && settled) (n ∷ []) []
+  -- the last request ends before the serial is settled only where the halt has superseded it
+  pub early : is_last_at s n ≡ true → settled ≡ false → is_before_halt s n ≡ true
+
+-- whether it was settled when a request ended that met this history, where it is settled after `later`: it was where `later` begins
+-- what the end met
+pub record SettledAfter (later found : List Signed) (settled : Bool) : Type 0 where
+  pub late : settled ≡ true → IsPrefix later found
+  pub known : IsPrefix later found → settled ≡ true
+
+-- after what was seen the last request under the serial ends in the history, by this caller
+pub record LastEnd (n : ℕ) (seen log : List Signed) : Type 0 where
+  pub found : List Signed
+  pub caller : ℕ
+  pub after_it : IsPrefix seen found
+  pub there : IsPrefix (found ++ signed caller (Finish caller) ∷ []) log
+  pub ticket : ticket_of caller (state_at found).tickets ≡ Some n
+  pub last : is_last_at (state_at found) n ≡ true

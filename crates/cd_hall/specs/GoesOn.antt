@@ -1,5 +1,5 @@
 -- What a pass does in its turn.
-use Rattle.std.specs.Prelude.{◌≡◌, ℕ, ◌+◌, false, List, [], ◌∷◌, ◌++◌, None}
+use Rattle.std.specs.Prelude.{◌≡◌, ℕ, ◌+◌, false, List, [], ◌∷◌, ◌++◌, Some, None}
 use Rattle.cd_legal.specs.declared.entry.Entry.{Entry}
 use Rattle.cd_legal.specs.declared.entry.Entry.TheVariants.{Halt}
 use Rattle.cd_legal.specs.declared.entry.Signed.{Signed}
@@ -48,3 +48,5 @@ pub record IsHalt {T : Type 0} (v w : View T) (duties : List ℕ) : Type 0 where
   pub settles : Settles v w (Halt ((state_at v.seen).serial + 1) ∷ stopped_of (state_at v.seen) (state_at v.seen).serial) duties
   pub running : (state_at v.seen).halted ≡ false
   pub due : DueLater w.seen (state_at v.seen).serial duties
+  -- none come where its own request runs under the serial that the halt supersedes
+  pub lent : v.ticket ≡ Some (state_at v.seen).serial → duties ≡ []

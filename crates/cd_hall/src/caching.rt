@@ -1,5 +1,5 @@
 //! A worker that keeps the configuration of its last request begins and ends the next one without waiting and without memory.
-ghost use Rattle.std.specs.Prelude.{◌≡◌, ◌≢◌, ◌≤◌, ◌&&◌, ◌==◌, ◌++◌, ◌∷◌, [], List, Some, None, IfOk, IfErr};
+ghost use Rattle.std.specs.Prelude.{◌≡◌, ◌≢◌, ◌≤◌, ◌&&◌, ◌==◌, ◌++◌, ◌∷◌, [], Bool, List, Some, None, IfOk, IfErr};
 ghost use Rattle.cd_legal.specs.declared.entry.Entry.TheVariants.{Finish};
 ghost use Rattle.cd_legal.specs.declared.entry.Signed.{Signed};
 ghost use Rattle.cd_legal.specs.declared.limits.TheConstants.{MAX_BEGINS};
@@ -11,7 +11,7 @@ ghost use Rattle.cd_gate.specs.Steps.{worn};
 ghost use Rattle.cd_gate.specs.Tables.{Found};
 ghost use Rattle.cd_hall.specs.Caches.{IsCacheOf, IfReady, IfStale, IfWorn, cached};
 ghost use Rattle.cd_hall.specs.Calls.{IsPassOf, duties_in};
-ghost use Rattle.cd_hall.specs.Dues.{DueThen, MayRetireAll};
+ghost use Rattle.cd_hall.specs.Dues.{DueThen, DueAtEnd, MayRetireAll};
 ghost use Rattle.cd_hall.specs.Requests.{BegunNow};
 ghost use Rattle.cd_hall.specs.Tickets.{HasConfiguration, IsTicketOf};
 ghost use Rattle.cd_hall.specs.Turned.{Turned, Makes};
@@ -83,6 +83,7 @@ impl<M: ModuleSet, F: Fixtures> Hall<M, F> {
         ensures same_duties { IfOk result (λ ticket. (view pass.new).duties ≡ (view pass.old).duties) }
         ensures finishes { IfErr result (λ none. (found : List Signed) × Turned (view pass.old) (view pass.new) found (Finish (view pass.old).number ∷ []) × (ticket_of (view pass.old).number (state_at found).tickets ≡ Some hold.serial)) }
         ensures due { IfErr result (λ none. (found : List Signed) → Turned (view pass.old) (view pass.new) found (Finish (view pass.old).number ∷ []) → DueThen (state_at found) hold.serial (duties_in none.duty)) }
+        ensures settled { IfErr result (λ none. (settled : Bool) × ((found : List Signed) → Turned (view pass.old) (view pass.new) found (Finish (view pass.old).number ∷ []) → DueAtEnd (state_at found) hold.serial settled (duties_in none.duty))) }
         ensures may { IfErr result (λ none. MayRetireAll (state_at (view pass.new).seen) (duties_in none.duty)) }
         ensures duties { IfErr result (λ none. (view pass.new).duties ≡ duties_in none.duty ++ (view pass.old).duties) }
         ensures cache { cache.new.ticket ≡ None }
@@ -136,6 +137,7 @@ impl<M: ModuleSet, F: Fixtures> Hall<M, F> {
         ensures pass { IsPassOf self.now pass.new }
         ensures finishes { (found : List Signed) × Turned (view pass.old) (view pass.new) found (Finish (view pass.old).number ∷ []) × (ticket_of (view pass.old).number (state_at found).tickets ≡ Some ticket.serial) }
         ensures due { (found : List Signed) → Turned (view pass.old) (view pass.new) found (Finish (view pass.old).number ∷ []) → DueThen (state_at found) ticket.serial (duties_in result) }
+        ensures settled { (settled : Bool) × ((found : List Signed) → Turned (view pass.old) (view pass.new) found (Finish (view pass.old).number ∷ []) → DueAtEnd (state_at found) ticket.serial settled (duties_in result)) }
         ensures may { MayRetireAll (state_at (view pass.new).seen) (duties_in result) }
         ensures duties { (view pass.new).duties ≡ duties_in result ++ (view pass.old).duties }
         ensures kept { cache.new.ticket ≡ Some ticket }

@@ -32,7 +32,7 @@ use std::sync::Wait;
 
 impl<M: ModuleSet, F: Fixtures> Hall<M, F> {
     /// Halts the host: no configuration follows, and the apps of the last one are stopped. A duty comes exactly where no request runs
-    /// under its serial when that is settled, after the apps were stopped.
+    /// under its serial when that is settled, after the apps were stopped. So none comes while the pass itself has a request there.
     ///
     /// # Errors
     ///
@@ -45,6 +45,7 @@ impl<M: ModuleSet, F: Fixtures> Hall<M, F> {
         requires pass { IsPassOf self.now pass.old }
         ensures pass { IsPassOf self.now pass.new }
         ensures spreads { IfOk result (λ duty. (found : List Signed) × Spread (view pass.old) (view pass.new) found (Halt ((state_at found).serial + 1) ∷ stopped_of (state_at found) (state_at found).serial) × ((state_at found).halted ≡ false) × DueLater (view pass.new).seen (state_at found).serial (duties_in duty) × ((view pass.new).duties ≡ duties_in duty ++ (view pass.old).duties)) }
+        ensures lent { IfOk result (λ duty. (found : List Signed) × Spread (view pass.old) (view pass.new) found (Halt ((state_at found).serial + 1) ∷ stopped_of (state_at found) (state_at found).serial) × ((view pass.old).ticket ≡ Some (state_at found).serial → duties_in duty ≡ [])) }
         ensures err { OnErr result (Makes (view pass.old) (view pass.new) (λ s. []) × ((state_at (view pass.new).seen).halted ≡ true) × ((view pass.new).duties ≡ (view pass.old).duties)) }
     {
         let mut turn = take_turn(rt, &self.gate, pass);

@@ -1,9 +1,10 @@
 //! What a pass has made in a turn, step by step, and what the beginning and the end of a request are; each as a call that does nothing.
-ghost use Rattle.std.specs.Prelude.{◌≡◌, ◌++◌, ◌∷◌, [], ℕ, Bool, List, Some, cond, false};
+ghost use Rattle.std.specs.Prelude.{◌≡◌, ◌<◌, ◌++◌, ◌∷◌, [], ℕ, Bool, List, Some, cond, true, false};
 ghost use mathlib.Core.List.{IsPrefix};
 ghost use Rattle.cd_legal.specs.declared.entry.Entry.{Entry};
-ghost use Rattle.cd_legal.specs.declared.entry.Entry.TheVariants.{Begin, Finish};
+ghost use Rattle.cd_legal.specs.declared.entry.Entry.TheVariants.{Begin, Finish, Retire};
 ghost use Rattle.cd_legal.specs.declared.entry.Signed.{Signed};
+ghost use Rattle.cd_legal.specs.declared.state.State.{State};
 ghost use Rattle.cd_legal.specs.Begins.{begins_now};
 ghost use Rattle.cd_legal.specs.Calls.{fixture_calls, failures};
 ghost use Rattle.cd_legal.specs.Entry.{signed, entries};
@@ -12,14 +13,14 @@ ghost use Rattle.cd_legal.specs.Legal.{state_at};
 ghost use Rattle.cd_legal.specs.Placed.{Placed, placed_entries};
 ghost use Rattle.cd_legal.specs.Serials.{last_conf, publishings};
 ghost use Rattle.cd_legal.specs.Signing.{IsHistory};
-ghost use Rattle.cd_legal.specs.State.{ticket_of};
+ghost use Rattle.cd_legal.specs.State.{open_at, ticket_of};
 ghost use Rattle.cd_gate.specs.declared.view.View.{View};
 ghost use Rattle.cd_gate.specs.Counts.{begins_in};
 ghost use Rattle.cd_gate.specs.Growing.{Places, all_signed};
 ghost use Rattle.cd_gate.specs.Steps.{with_turn, without_turn, checking, worn, noted, superseded, settled};
 ghost use Rattle.cd_gate.specs.Tables.{Found, FoundInTurn, Begins, Ends};
 ghost use Rattle.cd_hall.specs.Caches.{IsCacheOf};
-ghost use Rattle.cd_hall.specs.Dues.{DueThen, MayRetireAll};
+ghost use Rattle.cd_hall.specs.Dues.{is_last_at, DueAtEnd, DueLater, DueThen, LastEnd, MayRetireAll, SettledAfter};
 ghost use Rattle.cd_hall.specs.Requests.{BegunNow};
 ghost use Rattle.cd_hall.specs.Since.{Since};
 ghost use Rattle.cd_hall.specs.Spread.{Spread};
@@ -73,6 +74,24 @@ pub fn one_end_gives_the_duty_of_a_serial<T: Stands>()
     ensures { (v w x y : View T) (found other log : List Signed) (n : ℕ) → Turned v w found (Finish v.number ∷ []) → Turned x y other (Finish x.number ∷ []) →
         IsHistory log → IsPrefix w.seen log → IsPrefix y.seen log → ticket_of v.number (state_at found).tickets ≡ Some n → ticket_of x.number (state_at other).tickets ≡ Some n →
         MayRetireAll (state_at w.seen) (n ∷ []) → MayRetireAll (state_at y.seen) (n ∷ []) → (found ≡ other) × (v.number ≡ x.number) }
+{}
+
+/// Of a halt, and the ends of requests under the serial that it superseded, just one gives the duty of that serial: the halt, where
+/// none runs when it is settled, or the last end. So it is in each history that begins with the one after which it was settled, where
+/// an end says rightly whether this was before it.
+pub fn a_halt_or_the_last_end_gives_the_duty<T: Stands>()
+    ensures last { (w x y : View T) (other log : List Signed) (n : ℕ) (done : Bool) (gives ends : List ℕ) (halt : DueLater w.seen n gives) → Turned x y other (Finish x.number ∷ []) →
+        IsHistory log → IsPrefix halt.later log → IsPrefix y.seen log → ticket_of x.number (state_at other).tickets ≡ Some n →
+        DueAtEnd (state_at other) n done ends → SettledAfter halt.later other done → is_last_at (state_at other) n ≡ true → gives ++ ends ≡ n ∷ [] }
+    ensures others { (s : State) (n : ℕ) (done : Bool) (ends : List ℕ) → DueAtEnd s n done ends → is_last_at s n ≡ false → ends ≡ [] }
+    ensures at_once { (w : View T) (n : ℕ) (gives : List ℕ) → DueLater w.seen n gives → n < (state_at w.seen).serial → open_at n (state_at w.seen).tickets ≡ 0 → gives ≡ n ∷ [] }
+    ensures there { (seen log : List Signed) (n : ℕ) → IsHistory log → IsPrefix seen log → n < (state_at seen).serial →
+        0 < open_at n (state_at seen).tickets → open_at n (state_at log).tickets ≡ 0 → LastEnd n seen log }
+{}
+
+/// A serial is retired once: two passes that both had its duty could not both retire it.
+pub fn a_serial_is_retired_once()
+    ensures { (one two log : List Signed) (j k n : ℕ) → IsHistory log → IsPrefix (one ++ signed j (Retire n) ∷ []) log → IsPrefix (two ++ signed k (Retire n) ∷ []) log → (one ≡ two) × (j ≡ k) }
 {}
 
 /// Without Begin and Finish a history is one too, and has the same calls of fixtures, failed keys, publishings, and configuration.

@@ -50,6 +50,7 @@ pub use faults::{BeginFault, Halted, KeyFailed, NoFetch};
 pub use hall::{Hall, Ticket};
 pub use kept::Kept;
 pub use laws::{
+    a_halt_or_the_last_end_gives_the_duty, a_serial_is_retired_once,
     caches_keep_their_configurations, one_end_gives_the_duty_of_a_serial,
     requests_begin_under_their_tickets, requests_leave_all_else,
     the_beginning_of_a_request_is_one_entry, the_end_of_a_request_is_one_entry,

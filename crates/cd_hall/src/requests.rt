@@ -1,5 +1,5 @@
 //! Requests begin and end.
-ghost use Rattle.std.specs.Prelude.{◌≡◌, ◌≤◌, ◌&&◌, ◌==◌, ◌++◌, ◌∷◌, [], List, Some, None, Err, IfSome, IfOk, OnErr, cond, true, false};
+ghost use Rattle.std.specs.Prelude.{◌≡◌, ◌≤◌, ◌&&◌, ◌==◌, ◌++◌, ◌∷◌, [], Bool, List, Some, None, Err, IfSome, IfOk, OnErr, cond, true, false};
 ghost use Rattle.cd_legal.specs.declared.entry.Entry.TheVariants.{Begin, Finish};
 ghost use Rattle.cd_legal.specs.declared.entry.Signed.{Signed};
 ghost use Rattle.cd_legal.specs.declared.limits.TheConstants.{MAX_BEGINS};
@@ -17,7 +17,7 @@ ghost use Rattle.cd_gate.specs.Tables.{Found, FoundInTurn};
 ghost use Rattle.cd_life.specs.Standing.{Stood};
 ghost use Rattle.cd_hall.specs.declared.faults.BeginFault.TheVariants as fault;
 ghost use Rattle.cd_hall.specs.Calls.{IsPassOf, StaysCalm, duties_in};
-ghost use Rattle.cd_hall.specs.Dues.{DueThen, MayRetireAll};
+ghost use Rattle.cd_hall.specs.Dues.{DueThen, DueAtEnd, MayRetireAll};
 ghost use Rattle.cd_hall.specs.Requests.{BegunNow, HasLooked};
 ghost use Rattle.cd_hall.specs.Tickets.{IsTicketOf, HasBegun};
 ghost use Rattle.cd_hall.specs.Turned.{Turned, Makes};
@@ -93,14 +93,15 @@ impl<M: ModuleSet, F: Fixtures> Hall<M, F> {
     }
 
     /// Ends the request, by one atomic step, which waits for nobody. The duty of its serial comes exactly where this is superseded
-    /// and no other request runs under it; but where the halt has superseded it, the duty may also not come. Where it comes the
-    /// serial may be retired: its apps are stopped, and no request runs under it.
+    /// and settled, and no other request runs under it. A serial that the halt has superseded may not be settled yet: then no duty
+    /// comes here. Where it comes the serial may be retired: its apps are stopped, and no request runs under it.
     pub fn finish(&self, ticket: Ticket<M>, pass: &mut Pass<Board<M, F>>) -> Option<Duty>
         requires pass { IsPassOf self.now pass.old }
         requires ticket { IsTicketOf (view pass.old) ticket }
         ensures pass { IsPassOf self.now pass.new }
         ensures finishes { (found : List Signed) × Turned (view pass.old) (view pass.new) found (Finish (view pass.old).number ∷ []) × (ticket_of (view pass.old).number (state_at found).tickets ≡ Some ticket.serial) }
         ensures due { (found : List Signed) → Turned (view pass.old) (view pass.new) found (Finish (view pass.old).number ∷ []) → DueThen (state_at found) ticket.serial (duties_in result) }
+        ensures settled { (settled : Bool) × ((found : List Signed) → Turned (view pass.old) (view pass.new) found (Finish (view pass.old).number ∷ []) → DueAtEnd (state_at found) ticket.serial settled (duties_in result)) }
         ensures may { MayRetireAll (state_at (view pass.new).seen) (duties_in result) }
         ensures duties { (view pass.new).duties ≡ duties_in result ++ (view pass.old).duties }
     {
@@ -123,6 +124,7 @@ impl<M: ModuleSet, F: Fixtures> Hall<M, F> {
         ensures pass { IsPassOf self.now pass.new }
         ensures finishes { (found : List Signed) × Turned (view pass.old) (view pass.new) found (Finish (view pass.old).number ∷ []) × (ticket_of (view pass.old).number (state_at found).tickets ≡ Some serial) }
         ensures due { (found : List Signed) → Turned (view pass.old) (view pass.new) found (Finish (view pass.old).number ∷ []) → DueThen (state_at found) serial (duties_in result) }
+        ensures settled { (settled : Bool) × ((found : List Signed) → Turned (view pass.old) (view pass.new) found (Finish (view pass.old).number ∷ []) → DueAtEnd (state_at found) serial settled (duties_in result)) }
         ensures may { MayRetireAll (state_at (view pass.new).seen) (duties_in result) }
         ensures duties { (view pass.new).duties ≡ duties_in result ++ (view pass.old).duties }
     {
@@ -175,6 +177,7 @@ fn end_request<T: Stands>(gate: &Gate<T>, pass: &mut Pass<T>, serial: u32, halte
     requires halted { halted ≡ ((state_at (view pass.old).seen).halted && (serial == (state_at (view pass.old).seen).serial)) }
     ensures pass { IsIdleOf gate.now pass.new }
     ensures finishes { (found : List Signed) × Turned (view pass.old) (view pass.new) found (Finish (view pass.old).number ∷ []) × (ticket_of (view pass.old).number (state_at found).tickets ≡ Some serial) × DueThen (state_at found) serial (cond result (serial ∷ []) []) }
+    ensures settled { (settled : Bool) × ((found : List Signed) → Turned (view pass.old) (view pass.new) found (Finish (view pass.old).number ∷ []) → DueAtEnd (state_at found) serial settled (cond result (serial ∷ []) [])) }
     ensures may { result ≡ true → may_retire (state_at (view pass.new).seen) serial ≡ true }
     ensures duties { (view pass.new).duties ≡ more_due result serial (view pass.old).duties }
 {

@@ -116,7 +116,7 @@ module _ {T : Type 0} (tree : Tree) (plan : Plan) (serial d : ℕ) (v w x y : Vi
       drafted-published tree plan serial v d w x y m.0 m.1 (signs entries (opened d plan) o (whole-plan entries opens.0))
       (subst (λ (n : ℕ). IsTried n true x y) (ap (λ (z : Held). z.number) opens.1 ∙ ap (λ (z : Held). z.number) is) tried)
 
-  pub has-tried : (entries : List Entry) → HasMade w x entries → Opens h g entries None → IsTried g.number false x y → HasDrafted tree plan how.NoMemory serial v y
+  pub has-tried : (entries : List Entry) → HasMade w x entries → Opens h g entries None → IsTried g.number false x y → HasDrafted tree plan how.Unpublished serial v y
   has-tried entries o opens tried =
       drafted-in-vain tree plan serial v d w x y m.0 m.1 (signs entries (opened d plan) o (whole-plan entries opens.0))
       (subst (λ (n : ℕ). IsTried n false x y) (ap (λ (z : Held). z.number) opens.1 ∙ ap (λ (z : Held). z.number) is) tried)

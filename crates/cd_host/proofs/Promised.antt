@@ -156,7 +156,7 @@ rose interruptions before now some_failed covers = ⊎_elim (λ low. let c = cov
 pub goes-with : (h : StartHow) (start : Start) (ended : HostHow) → IsHow h start → MayFollow h ended → (start ≡ Start.published) ⊎ (is_served ended ≡ false)
 goes-with start_how.Published start ended is follows = inl is
 goes-with (start_how.FirstRefused key) start ended is follows = inr (ap is_served follows)
-goes-with start_how.NoMemory start ended is follows = inr (ap is_served follows)
+goes-with start_how.Unpublished start ended is follows = inr (ap is_served follows)
 
 module _ (m : Meaning) (first : Tree) (given : Observed) where
   -- what was run is what is promised of such an end
@@ -167,7 +167,7 @@ module _ (m : Meaning) (first : Tree) (given : Observed) where
       follows
   promised (start_how.FirstRefused key) start ended is follows ran =
       subst (λ (x : HostHow). Promises m first x given) (sym follows) (is.0, subst (λ (s : Start). Ran m first s false given) is.1 (subst (λ (x : HostHow). Ran m first start (is_served x) given) follows ran))
-  promised start_how.NoMemory start ended is follows ran =
+  promised start_how.Unpublished start ended is follows ran =
       subst (λ (x : HostHow). Promises m first x given) (sym follows) (inr (start, subst (λ (x : HostHow). Ran m first start (is_served x) given) follows ran))
 
   -- a start that was refused has a key that failed, which is a fault of the fixtures

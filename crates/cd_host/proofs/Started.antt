@@ -98,10 +98,10 @@ abbrev drafted : Tree → Plan → State
 drafted tree plan = after (after opening_state (Begin 0 0)) (Draft 0 tree plan)
 
 module _ {T : Type 0} (tree : Tree) (plan : Plan) (serial : ℕ) (v : View T) where
-  pub undrafted-here : IsHistory v.seen → HasDrafted tree plan how.NoMemory serial v v
+  pub undrafted-here : IsHistory v.seen → HasDrafted tree plan how.Unpublished serial v v
   undrafted-here history = record { made = []; signed = signs-none v history; start = Start.undrafted; is = refl; alone = λ number alone zero begun. refl }
 
-  pub undrafted : (w : View T) (found : List Signed) → Turned v w found [] → HasDrafted tree plan how.NoMemory serial v w
+  pub undrafted : (w : View T) (found : List Signed) → Turned v w found [] → HasDrafted tree plan how.Unpublished serial v w
   undrafted w found t = record { made = []; signed = signs-turned v w found [] t; start = Start.undrafted; is = refl; alone = λ number alone zero begun. refl }
 
   -- it is the first draft
@@ -142,7 +142,7 @@ module _ {T : Type 0} (tree : Tree) (plan : Plan) (serial : ℕ) (v : View T) wh
           ∙ ap (λ (n : ℕ). Draft n tree plan ∷ (opened n plan ++ Publish n 1 0 change.First ∷ [])) first;
     }
 
-    pub drafted-in-vain : HasSigned w x (opened d plan) → IsTried d false x y → HasDrafted tree plan how.NoMemory serial v y
+    pub drafted-in-vain : HasSigned w x (opened d plan) → IsTried d false x y → HasDrafted tree plan how.Unpublished serial v y
     drafted-in-vain opens tried = record {
       made = (Draft d tree plan ∷ []) ++ (opened d plan ++ tried.made);
       signed = all-signs (opened d plan) tried.made opens tried.signed;
@@ -277,15 +277,15 @@ module _ (first : Tree) (plan : Plan) where
   is-how : (h : StartHow) (start : Start) → IsDrafted h start → IsHow h start
   is-how how.Published start is = is
   is-how (how.FirstRefused key) start is = is
-  is-how how.NoMemory start is = inl is
+  is-how how.Unpublished start is = inl is
 
   has-begun : (h : StartHow) (start : Start) → IsDrafted h start → ¬ (start ≡ Start.unbegun)
   has-begun how.Published start is none = absurd (let e : Start.published ≡ Start.unbegun = sym is ∙ none in cc)
   has-begun (how.FirstRefused key) start is none = absurd (let e : Start.refused is.0 key ≡ Start.unbegun = sym is.1 ∙ none in cc)
-  has-begun how.NoMemory start is none = absurd (let e : Start.undrafted ≡ Start.unbegun = sym is ∙ none in cc)
+  has-begun how.Unpublished start is none = absurd (let e : Start.undrafted ≡ Start.unbegun = sym is ∙ none in cc)
 
   module _ {T : Type 0} where
-    pub unbegun : (v w : View T) (found : List Signed) → Turned v w found [] → HasStarted first plan how.NoMemory v w
+    pub unbegun : (v w : View T) (found : List Signed) → Turned v w found [] → HasStarted first plan how.Unpublished v w
     unbegun v w found t = record {
       made = [];
       signed = signs-turned v w found [] t;

@@ -19,7 +19,7 @@ use Rattle.cd_host.specs.Seated.{HaveTheirs}
 abbrev pub MayFollow : StartHow → HostHow → Type 0
 MayFollow start.Published ended = (ended ≡ how.Served) ⊎ (ended ≡ how.WriteFault)
 MayFollow (start.FirstRefused key) ended = ended ≡ how.FirstRefused key
-MayFollow start.NoMemory ended = ended ≡ how.NoMemory
+MayFollow start.Unpublished ended = ended ≡ how.NoMemory
 
 -- What the lanes come to in one history of all passes, where the program had seen `start` after its start, and `found` once the lanes
 -- were served, or were left. Where they were left, nobody but the program has signed anything.

@@ -20,13 +20,13 @@ use Rattle.cd_host.specs.Program.{Start, start_entries}
 abbrev pub IsDrafted : StartHow → Start → Type 0
 IsDrafted how.Published start = start ≡ Start.published
 IsDrafted (how.FirstRefused key) start = (failure : Failure) × (start ≡ Start.refused failure key)
-IsDrafted how.NoMemory start = start ≡ Start.undrafted
+IsDrafted how.Unpublished start = start ≡ Start.undrafted
 
 -- how a start went
 abbrev pub IsHow : StartHow → Start → Type 0
 IsHow how.Published start = start ≡ Start.published
 IsHow (how.FirstRefused key) start = (failure : Failure) × (start ≡ Start.refused failure key)
-IsHow how.NoMemory start = (start ≡ Start.undrafted) ⊎ (start ≡ Start.unbegun)
+IsHow how.Unpublished start = (start ≡ Start.undrafted) ⊎ (start ≡ Start.unbegun)
 
 -- the entries of a start between its Begin and its Finish
 abbrev pub first_entries : Tree → Plan → Start → List Entry

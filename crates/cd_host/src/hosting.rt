@@ -57,7 +57,8 @@ fn announce<O: Sink>(start: StartHow, out: &mut O) -> HostHow
             Given::Failed => HostHow::WriteFault,
         },
         StartHow::FirstRefused(key) => HostHow::FirstRefused(key),
-        StartHow::NoMemory => HostHow::NoMemory,
+        // The program's pass is the first to make entries, and no count is full so early: there was no memory.
+        StartHow::Unpublished => HostHow::NoMemory,
     }
 }
 

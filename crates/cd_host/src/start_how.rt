@@ -9,5 +9,5 @@ pub enum StartHow {
     FirstRefused(Key),
     /// Nothing was published, and nothing is left of what was drafted: there was no memory, or another pass has made entries before,
     /// or as many requests were begun or drafts made as may be.
-    NoMemory,
+    Unpublished,
 }

@@ -65,20 +65,20 @@ fn draft_first<R: Wait, M: ModuleSet, F: Fixtures>(
     ensures none { (view pass.new).draft ≡ None }
     ensures duties { (view pass.new).duties ≡ (view pass.old).duties }
 {
-    // Nobody publishes before the start. The contract of a pass can't tell, so the test stands here.
+    // In a run nobody publishes before the start. The contract of a pass can't tell, so the test stands here.
     if ticket.serial() != 0 {
-        return StartHow::NoMemory;
+        return StartHow::Unpublished;
     }
     let mut draft = match hall.draft(rt, alloc, pass, first) {
         Ok(draft) => draft,
-        Err(_) => return StartHow::NoMemory,
+        Err(_) => return StartHow::Unpublished,
     };
     match open_draft(rt, hall, &mut draft, pass) {
         Ok(()) => {
             if publish_first(rt, hall, ticket, draft, pass) {
                 StartHow::Published
             } else {
-                StartHow::NoMemory
+                StartHow::Unpublished
             }
         }
         Err(key) => {
@@ -125,7 +125,7 @@ pub fn start_first<R: Wait, M: ModuleSet, F: Fixtures>(
 {
     let ticket = match hall.begin(rt, pass) {
         Ok(ticket) => ticket,
-        Err(_) => return StartHow::NoMemory,
+        Err(_) => return StartHow::Unpublished,
     };
     let how = draft_first(rt, alloc, hall, &ticket, first, pass);
     finish_first(rt, hall, ticket, pass);

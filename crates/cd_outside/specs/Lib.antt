@@ -10,3 +10,6 @@ pub mod Pieces
 pub mod Places
 pub mod Script
 pub mod FixtureRecord
+pub mod Received
+pub mod Devices
+pub mod Lines

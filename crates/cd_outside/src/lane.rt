@@ -4,13 +4,16 @@ ghost use Rattle.cd_outside.specs.declared.given.Given.TheVariants as given;
 ghost use Rattle.cd_outside.specs.declared.accepted.Accepted.TheVariants as accepted;
 ghost use Rattle.cd_outside.specs.declared.past.Past.{Past as Told};
 ghost use Rattle.cd_outside.specs.Counts.{Rises};
+ghost use Rattle.cd_outside.specs.declared.received.Received.TheVariants as received;
+ghost use Rattle.cd_outside.specs.Received.{IsReceived, after_receipt};
 ghost use Rattle.cd_outside.specs.Taken.{IsTakenWithin};
 ghost use Rattle.cd_outside.specs.Given.{IsGivenOf};
 ghost use Rattle.cd_outside.specs.Past.{after_accept, after_read, after_put, after_line, after_keep, is_connection};
 
 use crate::limits::MAX_KEPT_BYTES;
-use crate::{Accepted, Given, Key, Taken};
-use cd_text::Text;
+use crate::{Accepted, Given, Key, Received, Taken};
+use cd_text::{NoMemory, Text};
+use cd_wire::Intake;
 use std::sync::Wait;
 
 /// Where connections come from, one after another. At most one is there at a time.
@@ -39,6 +42,25 @@ pub trait Lane {
         ensures bound { IsTakenWithin result (length into.new) }
         ensures past { past self.new ≡ option_map (after_read result into.new) (past self.old) }
         ensures cause { Rises (faults self.old) (faults self.new) (result ≡ taken.Failed) };
+
+    /// Reads the next bytes of the connection behind those that an intake has. A lane that has read them before gives them with what it
+    /// found in them. Else they are read into `room`, which may not be empty, and copied; what is left there has no meaning.
+    fn receive(&mut self, into: &mut Intake, room: &mut [u8]) -> Received
+        requires busy { busy self.old ≡ true }
+        requires room { 0 < length room.old }
+        ensures busy { busy self.new ≡ true }
+        ensures past { (piece : List ℕ) × IsReceived result piece into.old into.new × (past self.new ≡ option_map (after_receipt result piece) (past self.old)) }
+        ensures cause { Rises (faults self.old) (faults self.new) (result ≡ received.Failed) }
+    {
+        match self.read(room) {
+            Taken::Bytes(count) => match into.push(&room[..count]) {
+                Ok(()) => Received::Some,
+                Err(NoMemory) => Received::Lacking,
+            },
+            Taken::End => Received::End,
+            Taken::Failed => Received::Failed,
+        }
+    }
 
     /// Tells the lane that every byte that was read has been answered. A lane may then serve others while this connection is
     /// quiet.

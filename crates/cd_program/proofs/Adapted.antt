@@ -6,7 +6,7 @@ use Rattle.cd_caddyfile.specs.Adapting.{adapted}
 use Rattle.cd_caddyfile.specs.Faults.{fault_at}
 use Rattle.cd_caddyfile.specs.declared.fault.CaddyfileFault.{CaddyfileFault}
 use Rattle.cd_caddyfile.specs.declared.fault.CaddyfileKind.TheVariants.{TooLong}
-use Rattle.cd_output.specs.Devices.{Device, IsUnfailed}
+use Rattle.cd_outside.specs.Devices.{Device, IsUnfailed}
 use Rattle.cd_program.specs.declared.status.Status.{Status}
 use Rattle.cd_program.specs.declared.status.Status.TheVariants as status
 use Rattle.cd_program.specs.Adapting.{Adapts, ComesTo}

@@ -22,7 +22,7 @@ use Rattle.cd_program.specs.declared.status.Status.{Status}
 use Rattle.cd_program.specs.declared.status.Status.TheVariants as status
 use Rattle.cd_standard.specs.Acting.{plan_of_tree}
 use Rattle.cd_program.specs.Complete.{NothingFailed, HoldsConfiguration, MayBegin, HaveAllAnswers, AreComplete, HasCompleted, Completes, CompletesAs}
-use Rattle.cd_output.specs.Devices.{IsUnfailed, Device, HasFailed}
+use Rattle.cd_outside.specs.Devices.{IsUnfailed, Device, HasFailed}
 use Rattle.cd_program.specs.Configuration.{configured}
 use Rattle.cd_program.specs.Seen.{Seen}
 use Rattle.cd_program.specs.Storm.{Storms}

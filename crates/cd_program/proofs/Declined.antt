@@ -12,7 +12,7 @@ use Rattle.cd_program.specs.declared.status.Status.{Status}
 use Rattle.cd_program.specs.declared.status.Status.TheVariants as status
 use Rattle.cd_program.specs.Endings.{IsDeclined}
 use Rattle.cd_program.specs.Seen.{Seen, IsUntouched}
-use Rattle.cd_output.specs.Devices.{Device, HasFailed}
+use Rattle.cd_outside.specs.Devices.{Device, HasFailed}
 use Rattle.cd_program.specs.Top.{Begins, Loads, NullMayRun, Serves, Validates}
 use Rattle.cd_program.specs.Words.{is_of_file}
 use Rattle.cd_program.proofs.Loading.{refused_not_null}

@@ -15,7 +15,7 @@ use Rattle.cd_program.specs.Adapting.{Adapts}
 use Rattle.cd_program.specs.Config.{Gave}
 use Rattle.cd_program.specs.Output.{Wrote, FellShort, tree_line}
 use Rattle.cd_program.specs.Seen.{Seen}
-use Rattle.cd_output.specs.Devices.{Device, HasFailed}
+use Rattle.cd_outside.specs.Devices.{Device, HasFailed}
 use Rattle.cd_program.specs.Storm.{IsStorm, Storms}
 use Rattle.cd_program.specs.Top.{ExitsWith, HasRun, HasEnded, Serves, Validates, Declines, code_of}
 

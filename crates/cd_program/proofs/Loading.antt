@@ -18,7 +18,7 @@ use Rattle.cd_program.specs.declared.initial.Initial.{Initial}
 use Rattle.cd_program.specs.declared.initial.Initial.TheVariants.{OfFile, Null, Saved}
 use Rattle.cd_program.specs.Config.{Gave}
 use Rattle.cd_program.specs.Configuration.{configured, if_planned}
-use Rattle.cd_output.specs.Devices.{Device}
+use Rattle.cd_outside.specs.Devices.{Device}
 use Rattle.cd_program.specs.Top.{Begins, Loads, NullMayRun}
 use Rattle.cd_program.specs.Words.{is_null}
 use Rattle.cd_program.specs.declared.refusal.Refusal.{Refusal}

@@ -16,7 +16,7 @@ use Rattle.cd_program.specs.declared.status.Status.TheVariants as status
 use Rattle.cd_program.specs.Endings.{Concludes}
 use Rattle.cd_program.specs.Output.{Wrote, FellShort, WroteLess, Writes, Says, run_text, served_line, unopened_line}
 use Rattle.cd_program.specs.Seen.{Seen, IsUnserved, IsUntouched, observed_in}
-use Rattle.cd_output.specs.Devices.{Device, HasFailed}
+use Rattle.cd_outside.specs.Devices.{Device, HasFailed}
 use Rattle.cd_program.specs.Top.{Begins, HasRun, HasStarted, HasEnded, FailedToOpen, Serves}
 use Rattle.cd_program.proofs.Said.{wrote_as, wrote_more, wrote_none, wrote_part, not_short}
 use Rattle.cd_program.proofs.Unpublished.{refused-publishes-nothing}

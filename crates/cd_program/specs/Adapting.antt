@@ -5,8 +5,8 @@ use Rattle.cd_tree.specs.declared.tree.Tree.{Tree}
 use Rattle.cd_caddyfile.specs.Adapting.{adapted}
 use Rattle.cd_caddyfile.specs.Wording.{fault_words}
 use Rattle.cd_caddyfile.specs.declared.fault.CaddyfileFault.{CaddyfileFault}
-use Rattle.cd_output.specs.Devices.{Device, HasFailed}
-use Rattle.cd_output.specs.Lines.{refused_line}
+use Rattle.cd_outside.specs.Devices.{Device, HasFailed}
+use Rattle.cd_outside.specs.Lines.{refused_line}
 use Rattle.cd_program.specs.Config.{Gave}
 use Rattle.cd_program.specs.Output.{Writes, Says, read_fault_line, tree_line}
 use Rattle.cd_program.specs.declared.status.Status.{Status}

@@ -23,7 +23,7 @@ use Rattle.cd_program.specs.declared.initial.Initial.{Initial}
 use Rattle.cd_program.specs.declared.initial.Initial.TheVariants.{OfFile, Null, Saved}
 use Rattle.cd_program.specs.Configuration.{configured, if_planned}
 use Rattle.cd_program.specs.Seen.{Seen}
-use Rattle.cd_output.specs.Devices.{Device, IsUnfailed}
+use Rattle.cd_outside.specs.Devices.{Device, IsUnfailed}
 use Rattle.cd_program.specs.Top.{HasRun, standard}
 
 -- ---- what it asks for

@@ -12,8 +12,8 @@ use Rattle.cd_program.specs.declared.status.Status.{Status}
 use Rattle.cd_program.specs.declared.status.Status.TheVariants as status
 use Rattle.cd_program.specs.Configuration.{words_of}
 use Rattle.cd_program.specs.Output.{Writes, Says, served_line, unopened_line, read_fault_line, tree_line}
-use Rattle.cd_output.specs.Lines.{refused_line}
-use Rattle.cd_output.specs.Devices.{Device, HasFailed, IsSilent}
+use Rattle.cd_outside.specs.Lines.{refused_line}
+use Rattle.cd_outside.specs.Devices.{Device, HasFailed, IsSilent}
 
 -- that of a run that went so, over the output between the run and its end
 abbrev pub Concludes : ℕ → ℕ → Device (List ℕ) → HostHow → Status → Type 0

@@ -9,8 +9,8 @@ use Rattle.cd_tree.specs.Tree.{text}
 use Rattle.cd_tree.specs.declared.tree.Tree.{Tree}
 use Rattle.cd_serve.specs.Faults.{key_words}
 use Rattle.cd_host.specs.Hosting.{serving_line}
-use Rattle.cd_output.specs.Devices.{Device, HasFailed}
-use Rattle.cd_output.specs.Lines.{refused_line}
+use Rattle.cd_outside.specs.Devices.{Device, HasFailed}
+use Rattle.cd_outside.specs.Lines.{refused_line}
 
 -- so many requests were answered under so many configurations
 unfoldable pub served_line : ℕ → ℕ → List ℕ

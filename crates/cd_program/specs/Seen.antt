@@ -3,7 +3,7 @@
 use Rattle.std.specs.Prelude.{◌≡◌, ℕ, List, Option}
 use Rattle.cd_outside.specs.declared.fixtures.FixtureCall.{FixtureCall}
 use Rattle.cd_outside.specs.declared.past.Past.{Past}
-use Rattle.cd_output.specs.Devices.{Device, device}
+use Rattle.cd_outside.specs.Devices.{Device, device}
 use Rattle.cd_legal.specs.State.{Conf}
 use Rattle.cd_serve.specs.Reports.{Span}
 use Rattle.cd_host.specs.Runs.{Observed}

@@ -20,7 +20,7 @@ use Rattle.cd_host.specs.Seated.{spans}
 use Rattle.cd_program.specs.declared.status.Status.{Status}
 use Rattle.cd_program.specs.declared.status.Status.TheVariants as status
 use Rattle.cd_program.specs.Output.{Writes}
-use Rattle.cd_output.specs.Devices.{Device, HasFailed}
+use Rattle.cd_outside.specs.Devices.{Device, HasFailed}
 
 -- ---- the line
 

@@ -24,9 +24,9 @@ use Rattle.cd_program.specs.Adapting.{Adapts}
 use Rattle.cd_program.specs.Config.{Gave}
 use Rattle.cd_program.specs.Configuration.{configured, if_planned, words_of}
 use Rattle.cd_program.specs.Output.{FellShort, Writes, WroteLess, Says, run_text, valid_line, read_fault_line, unopened_line}
-use Rattle.cd_output.specs.Lines.{refused_line, usage_line}
+use Rattle.cd_outside.specs.Lines.{refused_line, usage_line}
 use Rattle.cd_program.specs.Seen.{Seen, IsBack, IsUnserved, IsUntouched, observed_in}
-use Rattle.cd_output.specs.Devices.{Device, HasFailed}
+use Rattle.cd_outside.specs.Devices.{Device, HasFailed}
 use Rattle.cd_program.specs.Storm.{Storms}
 use Rattle.cd_program.specs.Words.{is_null, is_of_file}
 

@@ -33,14 +33,6 @@ command (word ∷ number ∷ []) = if bytes_eq word (codes "storm") then storm_o
 command (word ∷ option ∷ file ∷ []) = if bytes_eq option (codes "--config") then with_file word else Unknown
 command (word ∷ option ∷ file ∷ other ∷ more) = Unknown
 
--- it is a run
-abbrev pub is_run : Command → Bool
-is_run (Serve initial) = true
-is_run Validate = false
-is_run Adapt = false
-is_run (Storm number) = false
-is_run Unknown = false
-
 -- a run begins with the configuration of a file
 abbrev pub is_of_file : Initial → Bool
 is_of_file OfFile = true

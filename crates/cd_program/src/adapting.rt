@@ -2,7 +2,7 @@
 ghost use Rattle.std.specs.Prelude.{Ok, Err};
 ghost use Rattle.cd_tree.specs.Tree.{IsSound};
 ghost use Rattle.cd_caddyfile.specs.Adapting.{adapted};
-ghost use Rattle.cd_output.specs.Devices.{device};
+ghost use Rattle.cd_outside.specs.Devices.{device};
 ghost use Rattle.cd_program.specs.Adapting.{Adapts};
 ghost use Rattle.cd_program.specs.Endings.{IsAdapted};
 

@@ -2,7 +2,7 @@
 ghost use Rattle.std.specs.Prelude.{◌≡◌, ℕ};
 ghost use Rattle.cd_host.specs.declared.host_end.HostHow.TheVariants as how;
 ghost use Rattle.cd_program.specs.Endings.{Concludes};
-ghost use Rattle.cd_output.specs.Devices.{device};
+ghost use Rattle.cd_outside.specs.Devices.{device};
 ghost use Rattle.cd_program.specs.Top.{code_of};
 ghost use Rattle.cd_program.specs.declared.status.Status.{Status as Ending};
 

@@ -5,7 +5,7 @@ ghost use Rattle.cd_tree.specs.Tree.{IsSound};
 ghost use Rattle.cd_outside.specs.Counts.{Rose};
 ghost use Rattle.cd_program.specs.Config.{Gave};
 ghost use Rattle.cd_program.specs.Configuration.{configured, if_planned};
-ghost use Rattle.cd_output.specs.Devices.{device};
+ghost use Rattle.cd_outside.specs.Devices.{device};
 ghost use Rattle.cd_program.specs.Top.{Begins, Loads};
 ghost use Rattle.cd_program.specs.Words.{IsSoundStart, is_of_file};
 ghost use Rattle.cd_program.specs.declared.refusal.Refusal.{Refusal as Refused};

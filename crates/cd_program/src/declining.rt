@@ -1,5 +1,5 @@
 ghost use Rattle.cd_program.specs.Endings.{IsDeclined};
-ghost use Rattle.cd_output.specs.Devices.{device};
+ghost use Rattle.cd_outside.specs.Devices.{device};
 
 use crate::config::Unloaded;
 use crate::output::{refused_line, say_line};

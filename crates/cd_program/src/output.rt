@@ -5,7 +5,7 @@ ghost use Rattle.cd_serve.specs.Faults.{key_words};
 ghost use Rattle.cd_tree.specs.Tree.{IsSound};
 ghost use Rattle.cd_caddyfile.specs.Wording.{fault_words as caddyfile_words};
 ghost use Rattle.cd_program.specs.Output.{Wrote, served_line, tree_line, unopened_line};
-ghost use Rattle.cd_output.specs.Lines.{refused_line};
+ghost use Rattle.cd_outside.specs.Lines.{refused_line};
 
 use crate::refusal::{Refusal, fault_words};
 use cd_caddyfile::CaddyfileFault;

@@ -2,7 +2,7 @@
 ghost use Rattle.std.specs.Prelude.{◌≡◌, IfOk, IsTrue, option_map};
 ghost use Rattle.cd_tree.specs.Tree.{IsSound};
 ghost use Rattle.cd_life.specs.Shares.{conf_in};
-ghost use Rattle.cd_output.specs.Devices.{device};
+ghost use Rattle.cd_outside.specs.Devices.{device};
 ghost use Rattle.cd_program.specs.Storm.{HasDigits, HasStormed, IsFinalOf, IsUnfailing, Storms, have_no_fault, storm_line};
 
 use crate::status::Status;

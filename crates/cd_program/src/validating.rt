@@ -1,4 +1,4 @@
-ghost use Rattle.cd_output.specs.Devices.{device};
+ghost use Rattle.cd_outside.specs.Devices.{device};
 ghost use Rattle.cd_program.specs.Top.{Validates};
 
 use crate::config::load;

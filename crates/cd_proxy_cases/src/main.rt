@@ -11,8 +11,7 @@ mod picks;
 mod relays;
 mod responses;
 
-use cd_rig::Handles;
-use cd_rows::check_files;
+use cd_rows::{Handles, check_files};
 use kinds::Cases;
 use std::process::ExitCode;
 

@@ -8,8 +8,7 @@
 //! It is `more`, `bad`, or the bytes that a client of HTTP/1.1 is sent for it. The bytes are read whole, and again in pieces of each
 //! of the sizes, or byte by byte where there are none.
 use cd_proxy::{PassedResponse, Reading, ResponseIntake, response};
-use cd_rig::{InPieces, found_in_pieces};
-use cd_rows::{Outcome, RowFault, bytes_at, is_true, only};
+use cd_rows::{InPieces, Outcome, RowFault, bytes_at, found_in_pieces, is_true, only};
 use cd_text::{NoMemory, Octets};
 use cd_tree::Tree;
 use cd_wire::render;

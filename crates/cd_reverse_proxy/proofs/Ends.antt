@@ -5,7 +5,7 @@ use Rattle.cd_outside.specs.declared.address.Address.{Address}
 use Rattle.cd_outside.specs.declared.fixtures.FixtureCall.{FixtureCall}
 use Rattle.cd_outside.specs.Counts.{Rose}
 use Rattle.cd_outside.specs.FixtureCall.{CallsGrow}
-use Rattle.cd_output.specs.Devices.{Device}
+use Rattle.cd_outside.specs.Devices.{Device}
 use Rattle.cd_session.specs.declared.counting.Counts.{Counts}
 use Rattle.cd_reverse_proxy.specs.declared.settings.ProxySettings.{ProxySettings}
 use Rattle.cd_reverse_proxy.specs.declared.status.Status.{Status}

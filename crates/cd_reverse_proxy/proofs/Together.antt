@@ -12,7 +12,7 @@ use Rattle.cd_session.specs.declared.lane_end.LaneHow.TheVariants as how
 use Rattle.cd_session.specs.Ends.{IsLaneEnd}
 use Rattle.cd_gateway.specs.Lanes.{IsRelayed, answered_in, counted, interrupted_in}
 use Rattle.cd_reverse_proxy.specs.Workers.{AllOfThose, AllTell, AreRelayed, AreReports, EndsAccepting, NoneInterrupted, NoneRose, RelayedEach, Report, ReportOf, Worker, WorkersTold, faults, interruptions, over_all}
-use Rattle.cd_output.specs.Devices.{IsUnfailed}
+use Rattle.cd_outside.specs.Devices.{IsUnfailed}
 
 module _ (upstreams : List Address) where
   abbrev Told : Worker → LaneEnd → Past → Past → Type 0

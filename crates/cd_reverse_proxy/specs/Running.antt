@@ -4,8 +4,8 @@ use Rattle.cd_outside.specs.declared.address.Address.{Address}
 use Rattle.cd_outside.specs.declared.fixtures.FixtureCall.{FixtureCall}
 use Rattle.cd_outside.specs.declared.fixtures.FixtureCall.TheVariants as call
 use Rattle.cd_outside.specs.declared.key.Key.{Key}
-use Rattle.cd_output.specs.Devices.{Device, HasFailed, IsSilent}
-use Rattle.cd_output.specs.Lines.{WasGiven, WasCutShort}
+use Rattle.cd_outside.specs.Devices.{Device, HasFailed, IsSilent}
+use Rattle.cd_outside.specs.Lines.{WasGiven, WasCutShort}
 use Rattle.cd_session.specs.declared.counting.Counts.{Counts}
 use Rattle.cd_reverse_proxy.specs.declared.status.Status.{Status}
 use Rattle.cd_reverse_proxy.specs.declared.status.Status.TheVariants as status

@@ -2,7 +2,7 @@
 use Rattle.std.specs.Prelude.{◌≡◌, ℕ, List, Option}
 use Rattle.cd_outside.specs.declared.fixtures.FixtureCall.{FixtureCall}
 use Rattle.cd_outside.specs.declared.past.Past.{Past}
-use Rattle.cd_output.specs.Devices.{Device, device}
+use Rattle.cd_outside.specs.Devices.{Device, device}
 use Rattle.cd_peers.specs.declared.dialled.Dialled.{Dialled}
 use Rattle.cd_reverse_proxy.specs.declared.ended.ProxyEnded.{ProxyEnded}
 use Rattle.cd_reverse_proxy.specs.Workers.{Worker, workers}

@@ -2,7 +2,7 @@
 use Rattle.std.specs.Prelude.{◌≡◌, ◌≤◌, ℕ, Bool, false, List, [], All, length, Option}
 use Rattle.cd_outside.specs.declared.address.Address.{Address}
 use Rattle.cd_outside.specs.declared.past.Past.{Past}
-use Rattle.cd_output.specs.Devices.{device}
+use Rattle.cd_outside.specs.Devices.{device}
 use Rattle.cd_peers.specs.declared.dialled.Dialled.{Dialled}
 use Rattle.cd_peers.specs.declared.limits.TheConstants.{MAX_PLACES}
 use Rattle.cd_reverse_proxy.specs.declared.slot.Slot.{Slot}

@@ -6,8 +6,8 @@ use Rattle.cd_outside.specs.declared.fixtures.FixtureCall.TheVariants as call
 use Rattle.cd_outside.specs.declared.key.Key.TheVariants as key
 use Rattle.cd_outside.specs.FixtureCall.{CallsGrow}
 use Rattle.cd_addr.specs.Addresses.{written}
-use Rattle.cd_output.specs.Devices.{HasFailed, IsSilent, IsUnfailed}
-use Rattle.cd_output.specs.Lines.{WasGiven, WasCutShort, Says, refused_line, usage_line}
+use Rattle.cd_outside.specs.Devices.{HasFailed, IsSilent, IsUnfailed}
+use Rattle.cd_outside.specs.Lines.{WasGiven, WasCutShort, Says, refused_line, usage_line}
 use Rattle.cd_reverse_proxy.specs.declared.settings.ProxySettings.{ProxySettings}
 use Rattle.cd_reverse_proxy.specs.declared.settings.WordsFault.{WordsFault}
 use Rattle.cd_reverse_proxy.specs.declared.status.Status.{Status}

@@ -6,7 +6,7 @@ use Rattle.cd_outside.specs.declared.past.Connection.{Connection}
 use Rattle.cd_outside.specs.declared.past.Past.{Past}
 use Rattle.cd_outside.specs.Counts.{count_end, Rose, Covers}
 use Rattle.cd_outside.specs.Telling.{TellsOn}
-use Rattle.cd_output.specs.Devices.{Device, IsUnfailed, device}
+use Rattle.cd_outside.specs.Devices.{Device, IsUnfailed, device}
 use Rattle.cd_session.specs.declared.lane_end.LaneEnd.{LaneEnd}
 use Rattle.cd_session.specs.declared.lane_end.LaneHow.TheVariants as how
 use Rattle.cd_peers.specs.declared.dialled.Dialled.{Dialled}

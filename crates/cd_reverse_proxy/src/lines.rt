@@ -1,6 +1,6 @@
 //! The lines that the command says.
 ghost use Rattle.std.specs.Prelude.{◌≡◌, ◌++◌, codes, IfOk};
-ghost use Rattle.cd_output.specs.Lines.{refused_line};
+ghost use Rattle.cd_outside.specs.Lines.{refused_line};
 ghost use Rattle.cd_reverse_proxy.specs.Top.{served_line, unopened_line};
 
 use cd_addr::write;

@@ -3,7 +3,7 @@ ghost use Rattle.std.specs.Prelude.{◌≡◌, ◌≤◌, ◌<◌, ℕ, [], Ok, 
 ghost use Rattle.std.specs.Vec.{vec_capacity};
 ghost use Rattle.cd_outside.specs.declared.key.Key.TheVariants.{Listen};
 ghost use Rattle.cd_outside.specs.FixtureCall.{CallsGrow};
-ghost use Rattle.cd_output.specs.Devices.{device};
+ghost use Rattle.cd_outside.specs.Devices.{device};
 ghost use Rattle.cd_peers.specs.declared.limits.TheConstants.{MAX_UPSTREAMS};
 ghost use Rattle.cd_reverse_proxy.specs.declared.status.Status.{Status as Ending};
 ghost use Rattle.cd_reverse_proxy.specs.Running.{Concludes, HasBegun, IsLast, RunsTo, answered_of, closing_calls, cut_of};
@@ -18,8 +18,7 @@ use crate::serving::serve_all;
 use crate::settings::ProxySettings;
 use crate::slot::Slot;
 use crate::status::Status;
-use cd_output::say;
-use cd_outside::{Address, Fixtures, Given, Key, Lane, Opened, Sink};
+use cd_outside::{Address, Fixtures, Given, Key, Lane, Opened, Sink, say};
 use cd_peers::{Balancer, Peers, Policy};
 use cd_session::Counts;
 use cd_text::{List, NoMemory, Text};

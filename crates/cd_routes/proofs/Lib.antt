@@ -5,6 +5,7 @@ pub mod Servers
 pub mod Rising
 pub mod Counts
 pub mod Invokes
+pub mod Halves
 pub mod Depends
 pub mod NamedMeaning
 pub mod NameKept

@@ -2,6 +2,7 @@ pub mod Names
 pub mod Reading
 pub mod Server
 pub mod Invoking
+pub mod NameList
 pub mod Running
 pub mod Named
 pub mod Work

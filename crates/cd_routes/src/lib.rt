@@ -23,6 +23,7 @@ mod counting;
 mod laws;
 mod leading;
 mod listen;
+mod name_list;
 mod named;
 mod naming;
 mod outcome;
@@ -39,6 +40,7 @@ pub use laws::{
 };
 pub use leading::{leads_of, order_of};
 pub use listen::{Listen, ListenText};
+pub use name_list::NameList;
 pub use named::{KnownName, NamedRoute};
 pub use outcome::Outcome;
 pub use reading::read_route;

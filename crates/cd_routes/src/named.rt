@@ -1,11 +1,12 @@
 //! The named routes of a server, and which names they have.
-ghost use Rattle.std.specs.Prelude.{◌≡◌, IfOk};
+ghost use Rattle.std.specs.Prelude.{◌≡◌, true, IfOk, IsTrue};
 ghost use Rattle.cd_text.specs.Gives.{Gives};
 ghost use Rattle.cd_module.specs.Settings.{each_member, is_setting, optional as optional_of};
 ghost use Rattle.std.specs.Option.{option_copied};
 ghost use Rattle.cd_routes.specs.Invoking.{place_of, route_named, route_names};
 ghost use Rattle.cd_routes.specs.Reading.{is_known, known_name, known_names, named_route, named_routes_read, names_or_none};
 
+use crate::name_list::NameList;
 use crate::reading::read_route;
 use crate::route::Route;
 use cd_module::{LoadFault, LoadKind, Named, is_a_setting, object_by_name};
@@ -27,10 +28,24 @@ pub struct KnownName {
     pub name: Text,
 }
 
-/// Whether there is a named route of that name.
+// Whether a search by halves finds the name, as it does where the names rise.
+fn is_found(known: &[KnownName], name: &Text) -> bool
+    ensures { IsTrue result → is_known known.now name.now ≡ true }
+{
+    match known.binary_search_by(|one| one.name.cmp(name)) {
+        Ok(place) => name.equals(known[place].name.as_str()),
+        Err(_) => false,
+    }
+}
+
+/// Whether there is a named route of that name. The names of an object rise, so all of them are looked at only for a name that
+/// is none of them, and reading ends there.
 pub fn is_known(known: &[KnownName], name: &Text) -> bool
     ensures { result ≡ is_known known.now name.now }
 {
+    if is_found(known, name) {
+        return true;
+    }
     known.iter().any(|one| name.equals(one.name.as_str()))
 }
 
@@ -137,8 +152,8 @@ pub fn read_named_member(
     }
 }
 
-/// The place of a name among those of named routes; their number, where it is none of them. It takes no memory.
-pub fn place_of(named: &[NamedRoute], name: &Text) -> usize
+// The place of a name among those of named routes; their number, where it is none of them. It takes no memory.
+fn place_of(named: &[NamedRoute], name: &Text) -> usize
     ensures { result ≡ place_of (route_names named.now) name.now }
 {
     for (place, one) in named.iter().enumerate() {
@@ -147,6 +162,17 @@ pub fn place_of(named: &[NamedRoute], name: &Text) -> usize
         }
     }
     named.len()
+}
+
+/// The names of named routes.
+pub fn names_of(alloc: Global, named: &[NamedRoute]) -> Result<NameList, NoMemory>
+    ensures { IfOk result (λ names. names ≡ route_names named.now) }
+{
+    let mut names = List::new(alloc);
+    for one in named {
+        names.push(one.name.copy(alloc)?)?;
+    }
+    Ok(NameList::new(names))
 }
 
 /// The named route of a name. It takes no memory.

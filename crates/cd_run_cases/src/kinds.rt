@@ -2,8 +2,7 @@
 use crate::conversation::conversation_outcome;
 use crate::lives::life_outcome;
 use crate::tearing::images_found;
-use cd_rig::Handles;
-use cd_rows::{Kinds, Outcome, RowFault, has, only};
+use cd_rows::{Handles, Kinds, Outcome, RowFault, has, only};
 use cd_tree::Tree;
 use std::alloc::Global;
 use std::sync::Wait;

@@ -26,8 +26,7 @@ mod running;
 mod saving;
 mod tearing;
 
-use cd_rig::Handles;
-use cd_rows::check_files;
+use cd_rows::{Handles, check_files};
 use kinds::RunKinds;
 use std::process::ExitCode;
 

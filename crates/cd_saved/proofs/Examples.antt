@@ -9,7 +9,7 @@ use Rattle.cd_program.specs.declared.initial.Initial.TheVariants as Initial
 use Rattle.cd_program.specs.declared.status.Status.{Status}
 use Rattle.cd_program.specs.declared.status.Status.TheVariants as status
 use Rattle.cd_program.specs.Seen.{Seen}
-use Rattle.cd_output.specs.Devices.{Device}
+use Rattle.cd_outside.specs.Devices.{Device}
 use Rattle.cd_serve.specs.Reports.{Span}
 use Rattle.cd_saved.specs.declared.saved_run.SavedRun.{SavedRun}
 use Rattle.cd_saved.specs.declared.saved_run.SavedRun.TheVariants.{OfFile, Null, Resumed}

@@ -7,7 +7,7 @@ use Rattle.cd_program.specs.declared.initial.Initial.{Initial}
 use Rattle.cd_program.specs.declared.status.Status.{Status}
 use Rattle.cd_program.specs.declared.status.Status.TheVariants as status
 use Rattle.cd_program.specs.Seen.{IsUnserved, IsUntouched, Seen}
-use Rattle.cd_output.specs.Devices.{Device}
+use Rattle.cd_outside.specs.Devices.{Device}
 use Rattle.cd_program.specs.Top.{ExitsWith, FailedToOpen, HasEnded, HasRun, HasStarted, Serves}
 
 -- what is seen of a call, by these lanes

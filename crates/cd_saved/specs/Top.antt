@@ -13,9 +13,9 @@ use Rattle.cd_program.specs.declared.status.Status.TheVariants as status
 use Rattle.cd_program.specs.declared.command.Command.{Command}
 use Rattle.cd_program.specs.Complete.{MayBegin, NothingFailed, Completes, CompletesAs}
 use Rattle.cd_program.specs.Output.{FellShort, Says, read_fault_line}
-use Rattle.cd_output.specs.Lines.{refused_line}
+use Rattle.cd_outside.specs.Lines.{refused_line}
 use Rattle.cd_program.specs.Seen.{IsUnserved, IsUntouched, Seen}
-use Rattle.cd_output.specs.Devices.{Device}
+use Rattle.cd_outside.specs.Devices.{Device}
 use Rattle.cd_program.specs.Top.{EndsAs, ExitsWith, Serves, standard}
 use Rattle.cd_saved.specs.declared.saved_run.SavedRun.{SavedRun}
 use Rattle.cd_saved.specs.Shares.{shared}

@@ -2,7 +2,7 @@ ghost use Rattle.std.specs.Prelude.{◌≡◌, List, ℕ, Option, IfSome};
 ghost use Rattle.cd_outside.specs.Counts.{Rose};
 ghost use Rattle.cd_autosave.specs.declared.save_fault.SaveFault.TheVariants as fault;
 ghost use Rattle.cd_autosave.specs.Opening.{IsDamaged};
-ghost use Rattle.cd_output.specs.Devices.{device};
+ghost use Rattle.cd_outside.specs.Devices.{device};
 ghost use Rattle.cd_saved.specs.Top.{DiskSeen, IsRefused};
 
 use cd_autosave::SaveFault;

@@ -3,7 +3,7 @@ ghost use Rattle.std.specs.Prelude.{◌≡◌, ◌≤◌, false, [], All, length
 ghost use Rattle.std.specs.Vec.{vec_capacity};
 ghost use Rattle.cd_legal.specs.declared.limits.TheConstants.{MAX_LANES};
 ghost use Rattle.cd_program.specs.Seen.{seen};
-ghost use Rattle.cd_output.specs.Devices.{device};
+ghost use Rattle.cd_outside.specs.Devices.{device};
 ghost use Rattle.cd_program.specs.Words.{IsSoundStart, is_of_file};
 ghost use Rattle.cd_saved.specs.Running.{RanShared};
 ghost use Rattle.cd_saved.specs.Top.{HasRunOver};

@@ -4,7 +4,7 @@ ghost use Rattle.cd_program.specs.declared.command.Command as commands;
 ghost use Rattle.cd_program.specs.declared.command.Command.TheVariants as Command;
 ghost use Rattle.cd_program.specs.Complete.{CompletesAs};
 ghost use Rattle.cd_program.specs.Seen.{seen};
-ghost use Rattle.cd_output.specs.Devices.{device};
+ghost use Rattle.cd_outside.specs.Devices.{device};
 ghost use Rattle.cd_program.specs.Top.{EndsAs};
 ghost use Rattle.cd_program.specs.Words.{command, has_file};
 ghost use Rattle.cd_saved.specs.Top.{EndsOver, AsWithout};

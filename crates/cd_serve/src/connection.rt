@@ -17,7 +17,7 @@ use cd_gate::Pass;
 use cd_hall::Cache;
 use cd_life::Board;
 use cd_outside::{Fixtures, Lane};
-use cd_session::{Cause, ConnectionEnd, Session, read_more, refuse};
+use cd_session::{Cause, ConnectionEnd, READ_BYTES, Session, read_more, refuse};
 use cd_text::NoMemory;
 use cd_wire::Next;
 use std::sync::Wait;
@@ -29,6 +29,7 @@ impl<'m, R: Wait, M: Administered, F: Fixtures> Means<'m, R, M, F> {
         pass: &mut Pass<Board<M, F>>,
         cache: &mut Cache<M>,
         lane: &mut L,
+        room: &mut [u8; READ_BYTES],
     ) -> ConnectionEnd
         requires may { MayServe self.now.hall.now pass.old cache.old (L.busy lane.old) }
         ensures pass { IsPassOf self.now.hall.now pass.new }
@@ -39,7 +40,7 @@ impl<'m, R: Wait, M: Administered, F: Fixtures> Means<'m, R, M, F> {
     {
         let mut session = Session::new(self.alloc);
         for _ in self.rt.forever() {
-            match self.serve_next(pass, cache, lane, &mut session) {
+            match self.serve_next(pass, cache, lane, &mut session, room) {
                 Some(end) => {
                     lane.end();
                     return end;
@@ -57,6 +58,7 @@ impl<'m, R: Wait, M: Administered, F: Fixtures> Means<'m, R, M, F> {
         cache: &mut Cache<M>,
         lane: &mut L,
         session: &mut Session,
+        room: &mut [u8; READ_BYTES],
     ) -> Option<ConnectionEnd>
         requires may { MayServe self.now.hall.now pass.old cache.old (L.busy lane.old) }
         ensures may { MayServe self.now.hall.now pass.new cache.new (L.busy lane.new) }
@@ -76,7 +78,7 @@ impl<'m, R: Wait, M: Administered, F: Fixtures> Means<'m, R, M, F> {
                 let how = task.serve_request(pass, cache, lane, out);
                 after_request::<Board<M, F>, L>(session, lane, how)
             }
-            Ok(Next::More) => read_more(session, lane),
+            Ok(Next::More) => read_more(session, lane, room),
             Ok(Next::End) => Some(session.end(Cause::Whole)),
             Ok(Next::Cut) => Some(session.end(Cause::Whole)),
             Ok(Next::Refused(fault)) => Some(refuse(fault, session, lane)),

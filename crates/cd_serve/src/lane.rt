@@ -22,7 +22,7 @@ use cd_gate::Pass;
 use cd_hall::{Cache, Hall};
 use cd_life::Board;
 use cd_outside::{Accepted, Address, Fixtures, Lane};
-use cd_session::{Counts, LaneEnd, LaneHow};
+use cd_session::{Counts, LaneEnd, LaneHow, READ_BYTES};
 use std::alloc::Global;
 use std::sync::Wait;
 
@@ -49,10 +49,21 @@ pub fn serve_lane<R: Wait, M: Administered, F: Fixtures, L: Lane>(
 {
     let mut counts = Counts::new();
     let mut cache = Cache::empty();
+    let mut room = [0; READ_BYTES];
     for _ in rt.forever() {
         match lane.accept() {
             Accepted::Connection(at) => {
-                if serve_accepted(rt, alloc, hall, pass, &mut cache, lane, &at, &mut counts) {
+                if serve_accepted(
+                    rt,
+                    alloc,
+                    hall,
+                    pass,
+                    &mut cache,
+                    lane,
+                    &at,
+                    &mut counts,
+                    &mut room,
+                ) {
                     cache.end();
                     return counts.end(LaneHow::Halted);
                 }
@@ -80,6 +91,7 @@ fn serve_accepted<R: Wait, M: Administered, F: Fixtures, L: Lane>(
     lane: &mut L,
     at: &Address,
     counts: &mut Counts,
+    room: &mut [u8; READ_BYTES],
 ) -> bool
     requires pass { IsPassOf hall.now pass.old }
     requires free { OwesNothing (view pass.old) }
@@ -103,7 +115,7 @@ fn serve_accepted<R: Wait, M: Administered, F: Fixtures, L: Lane>(
         hall,
         at,
     };
-    let end = means.serve_connection(pass, cache, lane);
+    let end = means.serve_connection(pass, cache, lane, room);
     counts.add(&end);
     end.halted
 }

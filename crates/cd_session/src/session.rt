@@ -1,13 +1,12 @@
 //! A connection while it is served: what is kept of it, and how it is read.
-ghost use Rattle.std.specs.Prelude.{◌≡◌, [], Bool, true, false, Some};
+ghost use Rattle.std.specs.Prelude.{◌≡◌, ◌<◌, [], Bool, true, false, Some, length};
 ghost use Rattle.cd_session.specs.Ends.{HaltedBy, RisesBy, ended_by};
 ghost use Rattle.cd_session.specs.Reading.{IsRefused, ReadsOn};
 
 use crate::cause::Cause;
 use crate::connection_end::ConnectionEnd;
 use crate::putting::put;
-use cd_outside::{Given, Lane, Taken};
-use cd_text::NoMemory;
+use cd_outside::{Given, Lane, Received};
 use cd_wire::{Intake, WireFault, refusal};
 use std::alloc::Global;
 
@@ -23,8 +22,6 @@ pub struct Session {
     pub ended: bool,
     /// How many of its requests were answered. It stays at 2^64 - 1.
     pub answered: u64,
-    /// Where bytes are read to. It is kept from one read to the next, since a new one would be filled with zeros each time.
-    pub buffer: [u8; READ_BYTES],
     /// Where answers are written before they are sent. Its memory is kept from one answer to the next.
     pub output: Vec<u8>,
 }
@@ -40,7 +37,6 @@ impl Session {
             intake: Intake::new(alloc),
             ended: false,
             answered: 0,
-            buffer: [0; READ_BYTES],
             output: Vec::new(alloc),
         }
     }
@@ -57,12 +53,17 @@ impl Session {
     }
 }
 
-/// Reads the next bytes of the connection, whose end was not seen. None where it goes on.
+/// Reads the next bytes of the connection, whose end was not seen. None where it goes on. `room` is for what the lane has not read before.
 ///
 /// Where every byte that came was taken by a request, the lane is told that it may rest.
-pub fn read_more<L: Lane>(session: &mut Session, lane: &mut L) -> Option<ConnectionEnd>
+pub fn read_more<L: Lane>(
+    session: &mut Session,
+    lane: &mut L,
+    room: &mut [u8],
+) -> Option<ConnectionEnd>
     requires busy { L.busy lane.old ≡ true }
     requires more { session.old.ended ≡ false }
+    requires room { 0 < length room.old }
     ensures busy { L.busy lane.new ≡ true }
     ensures reads { ReadsOn result session.old.intake session.new.intake session.old.ended session.new.ended session.old.answered session.new.answered (L.past lane.old) (L.past lane.new) }
     ensures cause { RisesBy result (L.faults lane.old) (L.faults lane.new) }
@@ -71,30 +72,27 @@ pub fn read_more<L: Lane>(session: &mut Session, lane: &mut L) -> Option<Connect
     if session.intake.is_empty() {
         lane.rest();
     }
-    take_more(session, lane)
+    take_more(session, lane, room)
 }
 
 // Reads, after the lane was told whether it may rest.
-fn take_more<L: Lane>(session: &mut Session, lane: &mut L) -> Option<ConnectionEnd>
+fn take_more<L: Lane>(session: &mut Session, lane: &mut L, room: &mut [u8]) -> Option<ConnectionEnd>
     requires busy { L.busy lane.old ≡ true }
     requires more { session.old.ended ≡ false }
+    requires room { 0 < length room.old }
     ensures busy { L.busy lane.new ≡ true }
     ensures reads { ReadsOn result session.old.intake session.new.intake session.old.ended session.new.ended session.old.answered session.new.answered (L.past lane.old) (L.past lane.new) }
     ensures cause { RisesBy result (L.faults lane.old) (L.faults lane.new) }
     ensures halted { (halted : Bool) → HaltedBy result halted }
 {
-    match lane.read(&mut session.buffer) {
-        Taken::Bytes(count) => {
-            match session.intake.push(&session.buffer[..count]) {
-                Ok(()) => None,
-                Err(NoMemory) => Some(session.end(Cause::Lacking)),
-            }
-        }
-        Taken::End => {
+    match lane.receive(&mut session.intake, room) {
+        Received::Some => None,
+        Received::End => {
             session.ended = true;
             None
         }
-        Taken::Failed => Some(session.end(Cause::Failed)),
+        Received::Failed => Some(session.end(Cause::Failed)),
+        Received::Lacking => Some(session.end(Cause::Lacking)),
     }
 }
 

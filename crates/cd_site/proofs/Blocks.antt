@@ -17,8 +17,8 @@ use Rattle.cd_handlers.specs.declared.changes.FilledChanges.{FilledChanges}
 use Rattle.cd_handlers.specs.declared.outcome.Effect.{Effect}
 use Rattle.cd_handlers.specs.declared.outcome.Effect.TheVariants as effect
 use Rattle.cd_caddyfile.specs.Sites.{Tests, Action, vars, set_field, add_field, delete_field, redir, rewrite, respond, Block, done, act, handle}
-use Rattle.cd_sequence.specs.Sequences as sequences
-use Rattle.cd_sequence.specs.Sequences.{HasNoInvoke, all_changed, push}
+use Rattle.cd_site.specs.Sequences as sequences
+use Rattle.cd_site.specs.Sequences.{HasNoInvoke, all_changed, push}
 use Rattle.cd_caddyfile.specs.Shape.{is_rewrite}
 use Rattle.cd_site.specs.Answering.{holds, does_action, deletion, without_fitting, deleted, with_deletions, Course, on, ends, fails, went, then_on, does}
 use Rattle.cd_site.specs.Settings.{setting_of, sets_of, sequence_of}

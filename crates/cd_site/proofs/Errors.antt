@@ -16,8 +16,8 @@ use Rattle.cd_handlers.specs.declared.outcome.Effect.{Effect}
 use Rattle.cd_handlers.specs.declared.outcome.Effect.TheVariants as effect
 use Rattle.cd_routes.specs.Running.{bare_answer}
 use Rattle.cd_caddyfile.specs.Sites.{Action, vars, set_field, add_field, delete_field, redir, rewrite, respond, Block, done, act, handle}
-use Rattle.cd_sequence.specs.Sequences as sequences
-use Rattle.cd_sequence.specs.Sequences.{all_changed}
+use Rattle.cd_site.specs.Sequences as sequences
+use Rattle.cd_site.specs.Sequences.{all_changed}
 use Rattle.cd_caddyfile.specs.Shape.{is_rewrite}
 use Rattle.cd_site.specs.Answering.{holds, filled_field, rewriting, does_action, deletion, with_deletions, Course, on, ends, fails, went, then_on, does, settled}
 use Rattle.cd_site.proofs.Blocks.{Same, all_changed_is}

@@ -1,6 +1,19 @@
+pub mod Blind
+pub mod Heart
 pub mod Actions
 pub mod Matchers
 pub mod Blocks
 pub mod Errors
 pub mod Sites
 mod Examples
+pub mod Objects
+pub mod Marks
+pub mod Handlers
+pub mod ReadMatchers
+pub mod Routes
+pub mod Parts
+pub mod Listening
+pub mod Modules
+pub mod Servers
+pub mod Files
+pub mod Whole

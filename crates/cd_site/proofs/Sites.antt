@@ -23,10 +23,10 @@ use Rattle.cd_routes.specs.declared.route.Subroute.{roll-Subroute, out-roll-Subr
 use Rattle.cd_routes.proofs.Equations.{run_route_is, run_subroute_is, routes_more}
 use Rattle.cd_caddyfile.specs.Shape.{sites_at}
 use Rattle.cd_caddyfile.specs.Sites.{Block, Site}
-use Rattle.cd_sequence.proofs.Blind.{sequences_are_blind}
-use Rattle.cd_sequence.proofs.Heart.{routes_mean}
-use Rattle.cd_sequence.specs.Sequences as sequences
-use Rattle.cd_sequence.specs.Sequences.{AreDistinct}
+use Rattle.cd_site.proofs.Blind.{sequences_are_blind}
+use Rattle.cd_site.proofs.Heart.{routes_mean}
+use Rattle.cd_site.specs.Sequences as sequences
+use Rattle.cd_site.specs.Sequences.{AreDistinct}
 use Rattle.cd_site.specs.Answering.{host_is, answered_by, does, settled, site_answer}
 use Rattle.cd_site.specs.Settings.{group_name, sequence_of, host_sets, block_sequence, site_route, site_routes, all_groups}
 use Rattle.cd_site.proofs.Errors.{errors_stay, settled_same}

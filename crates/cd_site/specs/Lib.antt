@@ -1,2 +1,5 @@
+pub mod Sequences
 pub mod Answering
 pub mod Settings
+pub mod Ids
+pub mod Variables

@@ -17,8 +17,8 @@ use Rattle.cd_match.specs.declared.path.PathPattern.{PathPattern}
 use Rattle.cd_match.specs.declared.query.KeyTest.{KeyTest}
 use Rattle.cd_match.specs.declared.sets.Sets.{Sets}
 use Rattle.cd_routes.specs.declared.route.Route.{Route, roll-Route}
-use Rattle.cd_sequence.specs.Sequences as sequences
-use Rattle.cd_sequence.specs.Sequences.{Sequence}
+use Rattle.cd_site.specs.Sequences as sequences
+use Rattle.cd_site.specs.Sequences.{Sequence}
 use Rattle.cd_caddyfile.specs.Sites.{Wanted, Tests, Action, vars, set_field, add_field, delete_field, redir, rewrite, respond, Block, done, act, handle, Site}
 use Rattle.cd_caddyfile.specs.Shape.{is_rewrite}
 use Rattle.cd_site.specs.Answering.{answering, rewriting, holds}

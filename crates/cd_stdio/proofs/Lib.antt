@@ -1,1 +1,2 @@
 pub mod TakingNothing
+pub mod TakingOut

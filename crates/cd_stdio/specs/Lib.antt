@@ -1,3 +1,4 @@
+pub mod Escaping
 pub mod Lines
 pub mod Moving
 pub mod Names

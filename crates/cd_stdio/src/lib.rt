@@ -9,15 +9,17 @@
 //! `Writers` has the log writers that lanes share, `LogFile` is one file of them, and names.rt says what their names stand for. A
 //! line is written without a lock that another lane needs, unless it goes to the same standard stream.
 //!
-//! `Messages` has the lines for standard error that wait, and lines.rt what they say. `Announced` is other fixtures, `Reporting` is
-//! another lane, and `AfterMessages` another sink: each answers as the one that it has, and leaves messages or writes those that
-//! wait. A call that holds up others only leaves them, and `Watched` says whether standard error takes them at once.
+//! `Messages` has the lines for standard error that wait, and lines.rt what they say; escaping.rt writes control characters in names as
+//! escapes. `Announced` is other fixtures, `Reporting` is another lane, and `AfterMessages` another sink: each answers as the one that
+//! it has, and leaves messages or writes those that wait. A call that holds up others only leaves them, and `Watched` says whether
+//! standard error takes them at once.
 #![tactic(auto)]
 
 mod after_messages;
 mod announced;
 mod config_file;
 mod console;
+mod escaping;
 mod lines;
 mod log_file;
 mod messages;

@@ -4,6 +4,7 @@ ghost use Rattle.cd_addr.specs.Addresses.{written};
 ghost use Rattle.cd_stdio.specs.declared.lines.TheConstants.{HTTPS_PORT};
 ghost use Rattle.cd_stdio.specs.Lines.{served_at, caused, thing_of};
 
+use crate::escaping::escaped;
 use cd_addr::write;
 use cd_outside::{Address, Key};
 use cd_text::{NoMemory, Text};
@@ -38,10 +39,14 @@ fn served_at(port: u16) -> &'static str
     }
 }
 
-/// The line that says why something has failed: what it is, and the words of the system.
+/// The line that says why something has failed: what it is, and the words of the system. It has no control character but its end.
 pub fn caused_line(alloc: Global, what: &str, words: &str) -> Result<Text, NoMemory>
     ensures { IfOk result (λ line. line ≡ caused what.now words.now) }
 {
+    let what = escaped(alloc, what)?;
+    let what = what.as_str();
+    let words = escaped(alloc, words)?;
+    let words = words.as_str();
     let line = format!(in alloc; "caddy_run: {what}: {words}\n")?;
     Ok(Text::from_string(line))
 }

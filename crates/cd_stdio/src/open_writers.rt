@@ -1,6 +1,7 @@
-ghost use Rattle.std.specs.Prelude.{◌≡◌, ◌+◌, ◌++◌, ◌∷◌, [], length, OnOk, OnErr, OnSome, IfNone};
+ghost use Rattle.std.specs.Prelude.{◌≡◌, ◌++◌, ◌∷◌, [], OnOk, OnErr, position};
 ghost use Rattle.std.specs.Option.{option_copied};
-ghost use Rattle.cd_stdio.specs.OpenWriters.{writer_of};
+ghost use Rattle.std.specs.Str.{bytes_eq};
+ghost use Rattle.cd_stdio.specs.OpenWriters.{writer_of, without};
 
 use cd_text::{List, NoMemory, Text};
 use std::alloc::Global;
@@ -50,14 +51,20 @@ impl<W: Drop> OpenWriters<W> {
 
     /// Takes the writer of this name out, of several the first.
     pub fn take(&mut self, name: &str) -> Option<W>
-        ensures none { IfNone result (self.new.list ≡ self.old.list) }
-        ensures fewer { OnSome result (length self.new.list + 1 ≡ length self.old.list) }
+        ensures taken { result ≡ writer_of name.now self.old.list }
+        ensures left { self.new.list ≡ without name.now self.old.list }
     {
-        let at = self
-            .list
+        let at = self.place_of(name)?;
+        Some(self.list.remove(at).writer)
+    }
+
+    // The place of the first writer of this name.
+    fn place_of(&self, name: &str) -> Option<usize>
+        ensures { result ≡ position (λ one. bytes_eq one.name name.now) self.now.list }
+    {
+        self.list
             .as_slice()
             .iter()
-            .position(|named| named.name.equals(name))?;
-        Some(self.list.remove(at).writer)
+            .position(|named| named.name.equals(name))
     }
 }

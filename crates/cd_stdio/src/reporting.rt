@@ -1,8 +1,9 @@
 ghost use Rattle.std.specs.Prelude.{◌≡◌};
 
 use crate::{Explains, Messages, TakesNow, caused_line, key_line};
-use cd_outside::{Accepted, Given, Key, Lane, Taken};
+use cd_outside::{Accepted, Given, Key, Lane, Received, Taken};
 use cd_text::{NoMemory, Text};
+use cd_wire::Intake;
 use std::alloc::Global;
 use std::io;
 use std::sync::Wait;
@@ -127,6 +128,10 @@ impl<'m, R: Wait, L: Lane + Explains, W: TakesNow> Lane for Reporting<'m, R, L, 
 
     fn read(&mut self, into: &mut [u8]) -> Taken {
         self.lane.read(into)
+    }
+
+    fn receive(&mut self, into: &mut Intake, room: &mut [u8]) -> Received {
+        self.lane.receive(into, room)
     }
 
     fn rest(&mut self) {

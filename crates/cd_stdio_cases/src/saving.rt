@@ -8,8 +8,9 @@ use cd_outside::{Given, MAX_KEPT_BYTES, Taken};
 use cd_stdio::{Explains, Messages};
 use std::alloc::Global;
 use std::fs;
-use std::fs::{File, Files};
-use std::io::{ErrorKind, Stdout};
+use std::fs::{File, Files, OpenOptions};
+use std::io::{ErrorKind, Stdout, Write};
+use std::os::unix::fs::OpenOptionsExt;
 use std::sync::Wait;
 
 // The sync that fails where none does.
@@ -65,14 +66,30 @@ fn failed_by<D: Explains>(disk: &D, kind: ErrorKind) -> bool {
 }
 
 // A disk over a file that is not looked for yet.
-fn disk_at<'r, R: Files<File = File>>(rt: &'r R, path: &'r str) -> FileDisk<AutosaveFile<'r, R>> {
+fn disk_at<'r, R: Files<File = File> + AllocGlobal>(
+    rt: &'r R,
+    path: &'r str,
+) -> FileDisk<AutosaveFile<'r, R>> {
     FileDisk::new(AutosaveFile::new(rt, path))
 }
 
 // Whether a file can't be opened, for this reason.
-fn is_refused<R: Files<File = File>>(rt: &R, path: &str, kind: ErrorKind) -> bool {
+fn is_refused<R: Files<File = File> + AllocGlobal>(rt: &R, path: &str, kind: ErrorKind) -> bool {
     let mut disk = disk_at(rt, path);
     disk.sync() == Given::Failed && disk.faults == 1 && failed_by(&disk, kind)
+}
+
+// Makes a file that is its owner's alone.
+fn put<R: Files<File = File>>(rt: &R, path: &str, text: &str) -> bool {
+    let made = OpenOptions::new()
+        .write(true)
+        .create_new(true)
+        .mode(0o600)
+        .open(rt, path);
+    match made {
+        Ok(mut file) => file.write_all(text.as_bytes()).is_ok(),
+        Err(_) => false,
+    }
 }
 
 // Whether there is nothing of this name.
@@ -84,7 +101,7 @@ fn is_missing<R: Files<File = File>>(rt: &R, path: &str) -> bool {
 }
 
 // Saves a text by a saver over a file, and says whether that was done, and whether a configuration was saved there before.
-fn saves<R: Files<File = File>>(
+fn saves<R: Files<File = File> + AllocGlobal>(
     rt: &R,
     alloc: Global,
     path: &str,
@@ -138,9 +155,9 @@ pub fn a_file_is_made_by_the_first_write<R: Files<File = File> + AllocGlobal>(rt
 
 /// Whether a file that another program made, a folder and a device are refused, and the file stays as it is.
 pub fn what_is_no_saved_file_stays<R: Files<File = File> + AllocGlobal>(rt: &R) -> bool {
-    fs::write(rt, "other.bin", "hello\n").is_ok()
+    put(rt, "other.bin", "hello\n")
         && is_refused(rt, "other.bin", ErrorKind::InvalidData)
-        && is_refused(rt, ".", ErrorKind::IsADirectory)
+        && is_refused(rt, ".", ErrorKind::InvalidInput)
         && is_refused(rt, "/dev/null", ErrorKind::InvalidInput)
         && has_text(rt, "other.bin", "hello\n")
 }
@@ -149,7 +166,7 @@ pub fn what_is_no_saved_file_stays<R: Files<File = File> + AllocGlobal>(rt: &R) 
 pub fn a_file_that_has_come_stays<R: Files<File = File> + AllocGlobal>(rt: &R) -> bool {
     let mut disk = disk_at(rt, "late.bin");
     disk.sync() == Given::All
-        && fs::write(rt, "late.bin", "hello\n").is_ok()
+        && put(rt, "late.bin", "hello\n")
         && disk.write_at(0, b"\0") == Given::Failed
         && failed_by(&disk, ErrorKind::AlreadyExists)
         && has_text(rt, "late.bin", "hello\n")
@@ -159,7 +176,10 @@ pub fn a_file_that_has_come_stays<R: Files<File = File> + AllocGlobal>(rt: &R) -
 pub fn an_empty_file_is_used<R: Files<File = File> + AllocGlobal>(rt: &R) -> bool {
     let mut disk = disk_at(rt, "empty.bin");
     let begun = disk.sync() == Given::All;
-    let Ok(other) = File::create_new(rt, "empty.bin") else {
+    if !put(rt, "empty.bin", "") {
+        return false;
+    }
+    let Ok(other) = fs::open(rt, "empty.bin") else {
         return false;
     };
     let refused = other.try_lock().is_ok()

@@ -1,7 +1,7 @@
 //! A file in memory that does little at a time.
 ghost use Rattle.std.specs.Prelude.{◌≤◌, length, IfOk, None};
 
-use cd_disk::RawFile;
+use cd_disk::{RawFile, Warns};
 use cd_text::rest_from;
 use std::alloc::Global;
 use std::io;
@@ -57,6 +57,17 @@ impl SlowFile {
         let count = piece.len().min(rest.len());
         rest[..count].copy_from_slice(&piece[..count]);
         Ok(())
+    }
+}
+
+impl Warns for SlowFile {
+    /// It has room so far, whatever is to come.
+    fn warning(&self) -> Option<io::Error> {
+        if self.room == 0 {
+            Some(io::Error::from(ErrorKind::StorageFull))
+        } else {
+            None
+        }
     }
 }
 

@@ -1,10 +1,9 @@
 -- Each definition where it holds and where it does not, computed.
 use Rattle.std.proofs.Common.{◌≡◌, true, false, refl}
-use Rattle.std.specs.Prelude.{codes}
-use Rattle.cd_tcp.specs.declared.seeing.Seen.TheVariants as seen
+use Rattle.cd_wire.specs.declared.intake.Look.TheVariants as look
 use Rattle.cd_tcp.specs.Budgets.{is_too_much}
 use Rattle.cd_tcp.specs.Pacing.{slow_after, is_over}
-use Rattle.cd_tcp.specs.Seeing.{has_end, names_version, sized, is_due}
+use Rattle.cd_tcp.specs.Waiting.{is_due}
 use Rattle.cd_tcp.specs.Tries.{one_more, twice}
 
 -- ---- pauses
@@ -34,37 +33,22 @@ not-where-a-lane-is-free = refl
 
 -- ---- how much is kept
 
-a-body-of-eight-million : is_too_much 8388608 false 8388608 ≡ false
+a-body-of-eight-million : is_too_much 8388608 8388608 ≡ false
 a-body-of-eight-million = refl
 
-not-in-chunks : is_too_much 1048577 true 1048577 ≡ true
-not-in-chunks = refl
-
-a-head-is-kept-in-any-case : is_too_much 16384 false 67108865 ≡ false
+a-head-is-kept-in-any-case : is_too_much 16384 67108865 ≡ false
 a-head-is-kept-in-any-case = refl
 
-a-longer-one-is-not : is_too_much 16385 false 67108865 ≡ true
+a-longer-one-is-not : is_too_much 16385 67108865 ≡ true
 a-longer-one-is-not = refl
 
 -- ---- when a connection gets a lane
 
-a-version : names_version (codes "GET / HTTP/1.1\r") ≡ true
-a-version = refl
-
-another-version : names_version (codes "GET / HTTP/2.0\r") ≡ false
-another-version = refl
-
-an-end : has_end (codes "ab") (codes "b") ≡ true
-an-end = refl
-
-no-end : has_end (codes "b") (codes "ab") ≡ false
-no-end = refl
-
-a-whole-request : is_due (sized 10 10) 10 false 0 ≡ true
+a-whole-request : is_due look.Whole 10 0 ≡ true
 a-whole-request = refl
 
-a-byte-is-missing : is_due (sized 10 9) 9 false 0 ≡ false
+a-byte-is-missing : is_due look.More 9 0 ≡ false
 a-byte-is-missing = refl
 
-the-client-has-ended : is_due (seen.Chunked 5) 9 true 0 ≡ true
+the-client-has-ended : is_due look.Cut 9 0 ≡ true
 the-client-has-ended = refl

@@ -1,3 +1,2 @@
-pub mod ChunkLemmas
 pub mod Examples
 pub mod KeptBytes

@@ -1,6 +1,5 @@
 pub mod Budgets
 pub mod Got
-pub mod Kept
 pub mod Pacing
-pub mod Seeing
+pub mod Waiting
 pub mod Tries

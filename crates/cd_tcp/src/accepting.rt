@@ -1,5 +1,5 @@
 use crate::connection::Connection;
-use crate::inbound::Inbound;
+use crate::waiting::Waiting;
 use cd_outside::Address;
 use std::alloc::Global;
 use std::io;
@@ -41,7 +41,7 @@ fn begin(alloc: Global, stream: TcpStream, address: &Address) -> Came {
         Ok(address) => Came::Connection(Connection {
             stream,
             address,
-            inbound: Inbound::new(alloc),
+            waiting: Waiting::new(alloc),
             waits: false,
             watched: false,
             drained: false,

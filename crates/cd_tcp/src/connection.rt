@@ -1,5 +1,5 @@
-use crate::inbound::Inbound;
 use crate::stream::{Got, read_once};
+use crate::waiting::Waiting;
 use cd_outside::Address;
 use std::io::Read;
 
@@ -10,7 +10,7 @@ pub struct Connection<S> {
     /// The address of the listener that it came to.
     pub address: Address,
     /// What has come and no lane has read.
-    pub inbound: Inbound,
+    pub waiting: Waiting,
     /// Whether its reads and writes wait for a limited time. Those of a connection that was just accepted don't wait.
     pub waits: bool,
     /// Whether the poll watches it.
@@ -47,23 +47,28 @@ impl<S: Read> Connection<S> {
     // Keeps a piece. `drained` says that it was all that was there.
     fn add(&mut self, piece: &[u8], drained: bool, ended: bool) -> Receipt {
         self.drained = drained;
-        if self.inbound.push(piece).is_err() {
+        if self.waiting.push(piece).is_err() {
             return Receipt::Lacking;
         }
-        if drained && ended {
-            self.inbound.end();
+        self.waiting.ended = drained && ended;
+        self.look()
+    }
+
+    // Looks what has come of its next request.
+    fn look(&mut self) -> Receipt {
+        match self.waiting.look() {
+            Ok(()) => Receipt::Some,
+            Err(_) => Receipt::Lacking,
         }
-        self.inbound.look();
-        Receipt::Some
     }
 
     fn end(&mut self) -> Receipt {
         self.drained = true;
-        self.inbound.end();
-        if self.inbound.is_empty() {
+        self.waiting.ended = true;
+        if self.waiting.is_empty() {
             Receipt::Over
         } else {
-            Receipt::Some
+            self.look()
         }
     }
 }

@@ -36,9 +36,9 @@ impl Sockets {
         let Some(connection) = self.parked.get_mut(id) else {
             return;
         };
-        let before = connection.inbound.room();
+        let before = connection.waiting.memory();
         let receipt = connection.receive(self.room.as_mut_slice(), ended);
-        let after = connection.inbound.room();
+        let after = connection.waiting.memory();
         self.kept = self.kept.saturating_sub(before).saturating_add(after);
         match receipt {
             Receipt::Some => self.go_on(registry, id),
@@ -61,7 +61,7 @@ impl Sockets {
         let Some(connection) = self.parked.get(id) else {
             return;
         };
-        if connection.inbound.is_due(self.kept) {
+        if connection.waiting.is_due(self.kept) {
             if let Some(connection) = self.take_parked(id) {
                 self.call(connection);
             }
@@ -176,7 +176,7 @@ impl Sockets {
     fn begin(&mut self, registry: &Registry, mut connection: Connection<TcpStream>, now: Duration) {
         match connection.receive(self.room.as_mut_slice(), false) {
             Receipt::Some => {
-                if connection.inbound.is_due(self.kept) {
+                if connection.waiting.is_due(self.kept) {
                     self.call(connection);
                 } else {
                     self.wait_for_more(registry, connection, now);

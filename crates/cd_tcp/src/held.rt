@@ -1,5 +1,6 @@
-ghost use Rattle.std.specs.Prelude.{◌≡◌, ◌<◌, length, IsTrue};
+ghost use Rattle.std.specs.Prelude.{◌≡◌, ◌<◌, [], List, ℕ, length, IsTrue};
 ghost use Rattle.std.specs.Io.KnownBytes.{Appends};
+ghost use Rattle.cd_outside.specs.Received.{IsReceived};
 ghost use Rattle.cd_outside.specs.Taken.{IsTakenWithin};
 ghost use Rattle.cd_tcp.specs.Got.{IsGotWithin};
 
@@ -9,7 +10,9 @@ use crate::{
     BUSY_MILLIS, GRACE_MILLIS, Got, Patient, Reactor, SLOW_SECONDS, SLOW_SECONDS_WHEN_FULL,
     read_once, write_whole,
 };
-use cd_outside::Taken;
+use cd_outside::{Received, Taken};
+use cd_text::NoMemory;
+use cd_wire::Intake;
 use std::sync::Wait;
 use std::time::{Clock, Duration};
 
@@ -34,8 +37,8 @@ pub enum Parting {
 pub struct Held<S> {
     pub connection: Connection<S>,
     pub parting: Parting,
-    // Whether all bytes that were taken have been answered.
-    quiet: bool,
+    // Whether nothing was handed over yet.
+    fresh: bool,
     // Whether the request that was handed out last was whole.
     whole: bool,
     // When it was handed out.
@@ -46,13 +49,12 @@ pub struct Held<S> {
 
 impl<S: Patient> Held<S> {
     /// A connection of which nothing was taken yet, and which the lane got then.
-    pub fn new(mut connection: Connection<S>, from: Duration) -> Held<S> {
-        let whole = connection.inbound.open();
+    pub fn new(connection: Connection<S>, from: Duration) -> Held<S> {
         Held {
             connection,
             parting: Parting::Linger,
-            quiet: true,
-            whole,
+            fresh: true,
+            whole: false,
             from,
             waited: Duration::ZERO,
         }
@@ -60,13 +62,12 @@ impl<S: Patient> Held<S> {
 
     /// All bytes that were taken have been answered.
     pub fn rest(&mut self) {
-        self.quiet = true;
         self.waited = Duration::ZERO;
     }
 
     /// Whether the last answer needs no lingering: its request was read whole, and nothing was left unread.
     pub fn is_clean(&self) -> bool {
-        self.whole && self.connection.drained && self.connection.inbound.is_empty()
+        self.whole && self.connection.drained && self.connection.waiting.is_empty()
     }
 
     /// Writes the whole piece, and says whether it was written: of a stream that tells its bytes, these are then its last ones.
@@ -77,67 +78,99 @@ impl<S: Patient> Held<S> {
         write_whole(rt, reactor, &mut self.connection.stream, piece)
     }
 
-    /// Reads the next bytes: first those that have come before, up to the end of their request. The end is answered where the client
+    /// The next bytes: first those that have come before, one request at a time, as it was read. The end is answered where the client
     /// sends no more, where the connection was quiet for `GRACE_MILLIS` or lets others go first, and where the client is too slow within
     /// a request. A read that fails on a quiet connection cuts no request, and is its end.
-    pub fn read<R: Wait + Clock>(&mut self, rt: &R, reactor: &Reactor, into: &mut [u8]) -> Taken
-        requires { 0 < length into.old }
-        ensures { IsTakenWithin result (length into.new) }
+    pub fn receive<R: Wait + Clock>(
+        &mut self,
+        rt: &R,
+        reactor: &Reactor,
+        into: &mut Intake,
+        room: &mut [u8],
+    ) -> Received
+        requires { 0 < length room.old }
+        ensures { (piece : List ℕ) × IsReceived result piece into.old into.new }
     {
-        let count = self.connection.inbound.give(into);
-        if count > 0 {
-            self.quiet = false;
-            Taken::Bytes(count)
-        } else if self.quiet {
-            self.read_quiet(rt, reactor, into)
+        if !into.is_empty() {
+            self.receive_on(rt, reactor, into, room)
+        } else if self.fresh {
+            self.begin(into)
         } else {
-            self.read_on(rt, reactor, into)
+            self.receive_quiet(rt, reactor, into, room)
         }
     }
 
     // The next request of a connection that was answered. It goes after those that wait where each lane has a connection. Where the last
     // one took long, the connection goes back to the loop: mostly another lane takes its next request, so what was made for the last one
     // is freed before this lane makes as much again.
-    fn read_quiet<R: Wait + Clock>(&mut self, rt: &R, reactor: &Reactor, into: &mut [u8]) -> Taken
-        requires { 0 < length into.old }
-        ensures { IsTakenWithin result (length into.new) }
+    fn receive_quiet<R: Wait + Clock>(
+        &mut self,
+        rt: &R,
+        reactor: &Reactor,
+        into: &mut Intake,
+        room: &mut [u8],
+    ) -> Received
+        requires none { into.old ≡ [] }
+        requires room { 0 < length room.old }
+        ensures { (piece : List ℕ) × IsReceived result piece into.old into.new }
+    {
+        if self.await_request(rt, reactor, room) {
+            self.from = now(rt);
+            self.begin(into)
+        } else {
+            Received::End
+        }
+    }
+
+    // Waits for the next request, and says whether it is one for this lane.
+    fn await_request<R: Wait + Clock>(&mut self, rt: &R, reactor: &Reactor, room: &mut [u8]) -> bool
+        requires { 0 < length room.old }
     {
         if millis_since(rt, self.from) >= BUSY_MILLIS {
             self.parting = Parting::Yield;
-            return Taken::End;
+            return false;
         }
         if reactor.is_full() {
             self.parting = Parting::Park;
-            return Taken::End;
+            return false;
         }
-        self.connection.inbound.look();
+        if !self.look(rt, reactor) {
+            return false;
+        }
         for _ in 0..MAX_READS {
-            if self.connection.inbound.is_due(0) {
-                self.from = now(rt);
-                return self.begin(into);
+            if self.connection.waiting.is_due(0) {
+                return true;
             }
-            if !self.read_next(rt, reactor, into) {
-                return Taken::End;
+            if !self.read_next(rt, reactor, room) {
+                return false;
             }
         }
         self.parting = Parting::Park;
-        Taken::End
+        false
     }
 
-    // Hands out the first bytes of the next request.
-    fn begin(&mut self, into: &mut [u8]) -> Taken
-        requires { 0 < length into.old }
-        ensures { IsTakenWithin result (length into.new) }
-    {
-        self.whole = self.connection.inbound.open();
-        let count = self.connection.inbound.give(into);
-        if count > 0 {
-            self.quiet = false;
-            Taken::Bytes(count)
-        } else {
+    // Looks what has come of the next request. For want of memory the connection is over.
+    fn look<R: Wait>(&mut self, rt: &R, reactor: &Reactor) -> bool {
+        if self.connection.waiting.look().is_err() {
+            reactor.count_cut(rt);
             self.parting = Parting::Close;
-            Taken::End
+            return false;
         }
+        true
+    }
+
+    // Hands over the next request.
+    fn begin(&mut self, into: &mut Intake) -> Received
+        requires { into.old ≡ [] }
+        ensures { (piece : List ℕ) × IsReceived result piece into.old into.new }
+    {
+        if self.connection.waiting.is_empty() {
+            self.parting = Parting::Close;
+            return Received::End;
+        }
+        self.fresh = false;
+        self.whole = self.connection.waiting.hand_over(into);
+        Received::Some
     }
 
     // Reads once for the next request, and says whether to go on: where it has not come as far as it will without waiting, the connection
@@ -154,7 +187,7 @@ impl<S: Patient> Held<S> {
                 self.parting = Parting::Park;
                 false
             }
-            Got::End | Got::Failed => self.end_of_input(),
+            Got::End | Got::Failed => self.end_of_input(rt, reactor),
         }
     }
 
@@ -167,13 +200,15 @@ impl<S: Patient> Held<S> {
         drained: bool,
     ) -> bool {
         self.connection.drained = drained;
-        if self.connection.inbound.push(piece).is_err() {
+        if self.connection.waiting.push(piece).is_err() {
             reactor.count_cut(rt);
             self.parting = Parting::Close;
             return false;
         }
-        self.connection.inbound.look();
-        if drained && !self.connection.inbound.is_due(0) {
+        if !self.look(rt, reactor) {
+            return false;
+        }
+        if drained && !self.connection.waiting.is_due(0) {
             self.parting = Parting::Park;
             return false;
         }
@@ -181,13 +216,13 @@ impl<S: Patient> Held<S> {
     }
 
     // The client sends no more: what has come of its next request is handed out.
-    fn end_of_input(&mut self) -> bool {
-        if self.connection.inbound.is_empty() {
+    fn end_of_input<R: Wait>(&mut self, rt: &R, reactor: &Reactor) -> bool {
+        if self.connection.waiting.is_empty() {
             self.parting = Parting::Close;
             false
         } else {
-            self.connection.inbound.end();
-            true
+            self.connection.waiting.ended = true;
+            self.look(rt, reactor)
         }
     }
 
@@ -203,16 +238,37 @@ impl<S: Patient> Held<S> {
         }
     }
 
-    // Reads within a request, of which more bytes are wanted than were handed out.
-    fn read_on<R: Wait + Clock>(&mut self, rt: &R, reactor: &Reactor, into: &mut [u8]) -> Taken
+    // Reads within a request, of which more bytes are wanted than were handed over. Nothing else has come then.
+    fn receive_on<R: Wait + Clock>(
+        &mut self,
+        rt: &R,
+        reactor: &Reactor,
+        into: &mut Intake,
+        room: &mut [u8],
+    ) -> Received
+        requires { 0 < length room.old }
+        ensures { (piece : List ℕ) × IsReceived result piece into.old into.new }
+    {
+        match self.read(rt, reactor, room) {
+            Taken::Bytes(count) => match into.push(&room[..count]) {
+                Ok(()) => Received::Some,
+                Err(NoMemory) => Received::Lacking,
+            },
+            Taken::End => Received::End,
+            Taken::Failed => Received::Failed,
+        }
+    }
+
+    /// Reads bytes that have not come before. It fails where some have.
+    pub fn read<R: Wait + Clock>(&mut self, rt: &R, reactor: &Reactor, into: &mut [u8]) -> Taken
         requires { 0 < length into.old }
         ensures { IsTakenWithin result (length into.new) }
     {
         self.whole = false;
-        if !self.connection.inbound.is_empty() {
-            return self.begin_rest(into);
+        if !self.connection.waiting.is_empty() {
+            return Taken::Failed;
         }
-        if self.connection.inbound.has_ended() {
+        if self.connection.waiting.ended {
             self.parting = Parting::Close;
             return Taken::End;
         }
@@ -229,16 +285,6 @@ impl<S: Patient> Held<S> {
             }
             Got::Failed => Taken::Failed,
         }
-    }
-
-    // Hands out all that has come.
-    fn begin_rest(&mut self, into: &mut [u8]) -> Taken
-        requires { 0 < length into.old }
-        ensures { IsTakenWithin result (length into.new) }
-    {
-        let taken = self.begin(into);
-        self.whole = false;
-        taken
     }
 
     // Waits for bytes until the time that a request has is over: first as long as a quiet connection would, then in turns of a

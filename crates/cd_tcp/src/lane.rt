@@ -3,8 +3,9 @@ ghost use Rattle.std.specs.Prelude.{◌≡◌, None, is_some};
 use crate::connection::Connection;
 use crate::reactor::Next;
 use crate::{Held, Parting, Reactor};
-use cd_outside::{Accepted, Address, Given, Key, Lane, Taken};
+use cd_outside::{Accepted, Address, Given, Key, Lane, Received, Taken};
 use cd_text::Text;
+use cd_wire::Intake;
 use std::alloc::Global;
 use std::io;
 use std::io::ErrorKind;
@@ -127,6 +128,7 @@ impl<'d, R: Wait + Clock> Lane for TcpLane<'d, R> {
         }
     }
 
+    /// What has come before can be had by `receive` alone: where there is some, this is a failure.
     fn read(&mut self, into: &mut [u8]) -> Taken {
         let Some(held) = &mut self.held else {
             return Taken::End;
@@ -136,6 +138,17 @@ impl<'d, R: Wait + Clock> Lane for TcpLane<'d, R> {
             self.faults = self.faults.saturating_add(1);
         }
         taken
+    }
+
+    fn receive(&mut self, into: &mut Intake, room: &mut [u8]) -> Received {
+        let Some(held) = &mut self.held else {
+            return Received::End;
+        };
+        let received = held.receive(self.rt, self.reactor, into, room);
+        if received == Received::Failed {
+            self.faults = self.faults.saturating_add(1);
+        }
+        received
     }
 
     fn rest(&mut self) {
@@ -193,8 +206,11 @@ fn part<R: Wait + Clock>(
     } = held;
     match parting {
         Parting::Park | Parting::Yield => {
-            connection.inbound.look();
-            connection.inbound.let_memory_go();
+            if connection.waiting.look().is_err() {
+                reactor.count_cut(rt);
+                return None;
+            }
+            connection.waiting.let_memory_go();
             if parting == Parting::Yield {
                 return Some(connection);
             }

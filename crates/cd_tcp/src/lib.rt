@@ -4,12 +4,11 @@
 //! log writers there, while lanes wait; a `TcpLane` serves one connection at a time. There is no thread that accepts: one of
 //! the lanes that wait sleeps in the system's poll, takes the first connection that is ready, and lets the one lead that came last.
 //!
-//! The loop reads what comes, and keeps it with the connection (`Inbound`). A lane gets a connection only when a whole request has
-//! come, head and body, or when what has come can't become one, or is more than is kept. It is handed out one request at a time, and
-//! the connection goes back once it is answered and others wait. So idle clients, half heads, half bodies and clients that have their
-//! last answer take no lane, and those that send many requests at once take turns. seeing.rt says how much of a request has come; what
-//! it means the lane says, which reads the bytes anew. What a lane calls a connection is thus a stretch of it, from a request to
-//! the next quiet moment.
+//! The loop reads what comes, and keeps it with the connection, in an `Intake`. A lane gets a connection only when a whole request has
+//! come, head and body, or when what has come can't become one, or is more than is kept. It is handed over one request at a time, as it
+//! was read, and the connection goes back once it is answered and others wait. So idle clients, half heads, half bodies and clients that
+//! have their last answer take no lane, and those that send many requests at once take turns. What a lane calls a connection is thus a
+//! stretch of it, from a request to the next quiet moment.
 //!
 //! `TcpPeers` are the way of a lane to upstreams: a connection for each exchange, which the lane waits for itself.
 //!
@@ -17,7 +16,7 @@
 //! that a read never answers more bytes than there was room for, how long a client may be slow, how much is kept, and that nothing
 //! panics. What sockets and files do is tested.
 //!
-//! limits.rt has the numbers. Reading order: seeing, inbound, connection, sockets, events, turns, reactor, held, lane.
+//! limits.rt has the numbers. Reading order: waiting, connection, sockets, events, turns, reactor, held, lane.
 #![tactic(auto)]
 
 mod accepting;
@@ -31,38 +30,35 @@ mod draining;
 mod events;
 mod explaining;
 mod fixtures;
-mod heads;
 mod held;
-mod inbound;
 mod lane;
 mod limits;
 mod pacing;
 mod peers;
 mod reactor;
-mod seeing;
 mod sockets;
 mod stream;
 mod tokens;
 mod tries;
 mod turns;
+mod waiting;
 
 pub use budgets::is_too_much;
 pub use connection::Connection;
 pub use fixtures::TcpFixtures;
 pub use held::{Held, Parting};
-pub use inbound::Inbound;
 pub use lane::TcpLane;
 pub use limits::{
     BUSY_MILLIS, DIAL_SECONDS, FAST_BYTES, GRACE_MILLIS, IDLE_SECONDS, LINGER_SECONDS, MAX_ACCEPTS,
-    MAX_CHUNKED_BYTES, MAX_DIALS, MAX_DRAIN_READS, MAX_HEAD_ROOM, MAX_KEPT_BYTES,
-    MAX_KEPT_BYTES_OF_ALL, MAX_PAUSE_MILLIS, MAX_TAKES, MAX_TRIES, MAX_WAITING, READ_BYTES,
-    SLOW_SECONDS, SLOW_SECONDS_WHEN_FULL, TRY_PAUSE_MILLIS, UPSTREAM_SECONDS, WRITE_MILLIS,
+    MAX_DIALS, MAX_DRAIN_READS, MAX_HEAD_ROOM, MAX_KEPT_BYTES, MAX_KEPT_BYTES_OF_ALL,
+    MAX_PAUSE_MILLIS, MAX_TAKES, MAX_TRIES, MAX_WAITING, READ_BYTES, SLOW_SECONDS,
+    SLOW_SECONDS_WHEN_FULL, TRY_PAUSE_MILLIS, UPSTREAM_SECONDS, WRITE_MILLIS,
     WRITE_MILLIS_WHEN_FULL, WRITE_TURN_MILLIS, limits_are,
 };
 pub use pacing::{is_over, slow_after};
 pub use peers::TcpPeers;
 pub use reactor::Reactor;
-pub use seeing::{Search, Seen, is_due, look_on, nothing_seen};
 pub use stream::{Got, Patient, read_once, write_whole};
 pub use tokens::Id;
 pub use tries::Tries;
+pub use waiting::{Waiting, is_due};

@@ -1,6 +1,6 @@
 //! The numbers of the event loop. Each is a limit of time, of room or of tries.
 ghost use Rattle.std.specs.Prelude.{◌≡◌};
-ghost use Rattle.cd_tcp.specs.declared.limits.TheConstants.{BUSY_MILLIS, DIAL_SECONDS, FAST_BYTES, GRACE_MILLIS, IDLE_SECONDS, LINGER_SECONDS, MAX_ACCEPTS, MAX_CHUNKED_BYTES, MAX_DIALS, MAX_DRAIN_READS, MAX_HEAD_ROOM, MAX_KEPT_BYTES, MAX_KEPT_BYTES_OF_ALL, MAX_PAUSE_MILLIS, MAX_TAKES, MAX_TRIES, MAX_WAITING, READ_BYTES, SLOW_SECONDS, SLOW_SECONDS_WHEN_FULL, TRY_PAUSE_MILLIS, UPSTREAM_SECONDS, WRITE_MILLIS, WRITE_MILLIS_WHEN_FULL, WRITE_TURN_MILLIS};
+ghost use Rattle.cd_tcp.specs.declared.limits.TheConstants.{BUSY_MILLIS, DIAL_SECONDS, FAST_BYTES, GRACE_MILLIS, IDLE_SECONDS, LINGER_SECONDS, MAX_ACCEPTS, MAX_DIALS, MAX_DRAIN_READS, MAX_HEAD_ROOM, MAX_KEPT_BYTES, MAX_KEPT_BYTES_OF_ALL, MAX_PAUSE_MILLIS, MAX_TAKES, MAX_TRIES, MAX_WAITING, READ_BYTES, SLOW_SECONDS, SLOW_SECONDS_WHEN_FULL, TRY_PAUSE_MILLIS, UPSTREAM_SECONDS, WRITE_MILLIS, WRITE_MILLIS_WHEN_FULL, WRITE_TURN_MILLIS};
 
 /// How long a lane waits for the next request of a connection, in milliseconds. Then it waits without a lane.
 pub const GRACE_MILLIS: u64 = 20;
@@ -60,9 +60,6 @@ pub const MAX_DRAIN_READS: u32 = 4;
 /// How many bytes of one connection are kept while it has no lane, at most.
 pub const MAX_KEPT_BYTES: usize = 16_777_216;
 
-/// How many bytes of a request are kept whose body comes in chunks, at most.
-pub const MAX_CHUNKED_BYTES: usize = 1_048_576;
-
 /// How many bytes of all connections are kept, those left out that keep no more than `MAX_HEAD_ROOM`.
 pub const MAX_KEPT_BYTES_OF_ALL: usize = 67_108_864;
 
@@ -99,7 +96,6 @@ pub fn limits_are()
     ensures reads { READ_BYTES ≡ 65536 }
     ensures drain { MAX_DRAIN_READS ≡ 4 }
     ensures kept { MAX_KEPT_BYTES ≡ 16777216 }
-    ensures chunked { MAX_CHUNKED_BYTES ≡ 1048576 }
     ensures all_kept { MAX_KEPT_BYTES_OF_ALL ≡ 67108864 }
     ensures head_room { MAX_HEAD_ROOM ≡ 16384 }
     ensures dial { DIAL_SECONDS ≡ 3 }

@@ -86,7 +86,7 @@ impl Sockets {
     /// The connection that has been ready longest.
     pub fn next(&mut self) -> Option<Connection<TcpStream>> {
         let connection = self.ready.pop_front()?;
-        self.kept = self.kept.saturating_sub(connection.inbound.room());
+        self.kept = self.kept.saturating_sub(connection.waiting.memory());
         Some(connection)
     }
 
@@ -182,7 +182,7 @@ impl Sockets {
         for _ in 0..self.ready.len() {
             if let Some(connection) = self.ready.pop_front() {
                 if connection.address == *address {
-                    self.kept = self.kept.saturating_sub(connection.inbound.room());
+                    self.kept = self.kept.saturating_sub(connection.waiting.memory());
                     self.let_go(connection);
                 } else {
                     let _ = self.ready.push_back(connection);
@@ -201,7 +201,7 @@ impl Sockets {
     /// Takes a connection that waits.
     pub fn take_parked(&mut self, id: Id) -> Option<Connection<TcpStream>> {
         let connection = self.parked.remove(id)?;
-        self.kept = self.kept.saturating_sub(connection.inbound.room());
+        self.kept = self.kept.saturating_sub(connection.waiting.memory());
         Some(connection)
     }
 
@@ -225,7 +225,7 @@ impl Sockets {
             self.let_go(connection);
             return;
         }
-        if connection.inbound.is_due(self.kept) {
+        if connection.waiting.is_due(self.kept) {
             self.call(connection);
         } else {
             self.wait_for_more(registry, connection, now);
@@ -239,7 +239,7 @@ impl Sockets {
 
     /// A connection is ready for a lane.
     pub fn call(&mut self, connection: Connection<TcpStream>) {
-        let room = connection.inbound.room();
+        let room = connection.waiting.memory();
         if self.ready.push_back(connection).is_ok() {
             self.kept = self.kept.saturating_add(room);
         } else {
@@ -259,7 +259,7 @@ impl Sockets {
         }
         let fd = connection.stream.as_raw_fd();
         let watched = connection.watched;
-        let room = connection.inbound.room();
+        let room = connection.waiting.memory();
         let Some(id) = self.parked.insert(connection, now) else {
             self.cut = self.cut.saturating_add(1);
             return;
@@ -286,7 +286,7 @@ impl Sockets {
         }
         match self.parked.take_oldest(now) {
             Some(connection) => {
-                self.kept = self.kept.saturating_sub(connection.inbound.room());
+                self.kept = self.kept.saturating_sub(connection.waiting.memory());
                 true
             }
             None => false,
@@ -327,7 +327,7 @@ impl Sockets {
         for _ in 0..self.parked.len() {
             match self.parked.take_oldest(idle) {
                 Some(connection) => {
-                    self.kept = self.kept.saturating_sub(connection.inbound.room());
+                    self.kept = self.kept.saturating_sub(connection.waiting.memory());
                     self.let_go(connection);
                 }
                 None => break,

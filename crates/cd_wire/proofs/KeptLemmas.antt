@@ -96,6 +96,7 @@ search_push input piece search s = record {
 kept_push : (before left piece : List ℕ) (kept : Known) → IsKept before left kept → IsKept before (left ++ piece) kept
 kept_push before left piece (known.Search search) k = (k.0, search_push left piece search k.1)
 kept_push before left piece (known.Front front) k = k
+kept_push before left piece (known.Whole request) k = k
 
 -- the same of what is left of a buffer that the piece makes longer
 pub kept_appended : (before buffer new piece : List ℕ) (start : ℕ) (kept : Known) → new ≡ buffer ++ piece

@@ -13,6 +13,7 @@ pub mod ScanLemmas
 pub mod KeptLemmas
 pub mod LineLemmas
 pub mod BodyLemmas
+pub mod CutLemmas
 pub mod ReadingLemmas
 pub mod Making
 pub mod UsualLemmas

@@ -1,3 +1,4 @@
+-- Part of the main theorem.
 -- What the reader of bodies finds and keeps. It speaks of all bytes of a body: those that were read before, which its caller need
 -- not keep, and then the text that the call is given.
 use Rattle.std.specs.Prelude.{◌≡◌, ℕ, ◌≤◌, List, [], ◌++◌, length, take, drop}

@@ -1,3 +1,4 @@
+-- Part of the main theorem.
 -- For the clauses of private functions: where a head ends, which is after an empty line that follows another line.
 use Rattle.std.specs.Prelude.{ℕ, ◌==◌, Bool, true, false, ◌||◌, if◌then◌else◌, List, [], ◌∷◌}
 use Rattle.cd_wire.specs.declared.scanning.Line.{Line}

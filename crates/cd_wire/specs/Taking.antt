@@ -1,3 +1,4 @@
+-- Part of the main theorem.
 -- For the clauses of private functions: what is read at the front of an input, and what is kept of it.
 use Rattle.std.specs.Prelude.{⊤, ◌≡◌, ℕ, ◌≤◌, ◌<◌, Bool, List, [], ◌++◌, length, take, drop, IsTrue, IsFalse, Ok}
 use Rattle.std.specs.List.{list_any}
@@ -66,6 +67,7 @@ pub record HasFront (read : List ℕ) (front : Front) : Type 0 where
 abbrev pub IsKept : List ℕ → List ℕ → Known → Type 0
 IsKept before left (known.Search search) = (before ≡ []) × IsSearch left search
 IsKept before left (known.Front front) = HasFront before front
+IsKept before left (known.Whole request) = BeginsRequest before request []
 
 -- ---- what the input begins with
 

@@ -1,8 +1,10 @@
 ghost use Rattle.std.specs.Prelude.{◌≡◌, ◌==◌, ℕ, ◌≤◌, ◌+◌, Bool, List, [], ◌++◌, length, drop, IfOk, OnErr, if◌then◌else◌, is_ok};
 ghost use Rattle.std.specs.Vec.{vec_len, vec_capacity};
-ghost use Rattle.cd_wire.specs.Intake.{IsNext};
+ghost use Rattle.cd_wire.specs.Intake.{IsNext, IsLook, IsHandedOver};
+ghost use Rattle.cd_wire.specs.Reading.{IsBodyKept};
 ghost use Rattle.cd_wire.specs.Taking.{IsPause};
 
+use crate::bodies::Body;
 use crate::dropped::Dropped;
 use crate::fault::WireFault;
 use crate::limits::MAX_IDLE_BYTES;
@@ -12,12 +14,28 @@ use crate::texts::{front_of, rest_from};
 use cd_text::NoMemory;
 use std::alloc::Global;
 use std::marker::Model;
+use std::mem;
 
 /// What `Intake::next` finds.
 #[derive(Drop)]
 pub enum Next {
     /// A whole request, which is taken off the front.
     Request(Request),
+    /// No whole request yet. It comes only where the input has not ended.
+    More,
+    /// Nothing is left of an input that has ended.
+    End,
+    /// The input ended inside a body.
+    Cut,
+    /// What follows is refused, and so is all after it.
+    Refused(WireFault),
+}
+
+/// What `Intake::look` finds.
+#[derive(Clone, Copy, Debug, PartialEq, Eq)]
+pub enum Look {
+    /// A whole request: `next` gives it.
+    Whole,
     /// No whole request yet. It comes only where the input has not ended.
     More,
     /// Nothing is left of an input that has ended.
@@ -111,6 +129,19 @@ fn answer(pause: Pause) -> Result<Next, NoMemory>
     }
 }
 
+// What `look` returns where there is no request.
+fn seen(pause: Pause) -> Result<Look, NoMemory>
+    ensures { (input : List ℕ) (ended : Bool) → IsPause input ended pause → IfOk result (IsLook input ended) }
+{
+    match pause {
+        Pause::More => Ok(Look::More),
+        Pause::End => Ok(Look::End),
+        Pause::Cut => Ok(Look::Cut),
+        Pause::Refused(fault) => Ok(Look::Refused(fault)),
+        Pause::NoMemory => Err(NoMemory),
+    }
+}
+
 impl Intake {
     /// No bytes. It takes no memory.
     pub fn new(alloc: Global) -> Intake
@@ -132,6 +163,7 @@ impl Intake {
         match self.known {
             Known::Search(_) => self.start == self.buffer.len(),
             Known::Front(_) => false,
+            Known::Whole(_) => false,
         }
     }
 
@@ -164,5 +196,77 @@ impl Intake {
                 answer(pause)
             }
         }
+    }
+
+    /// Says what `next` would find, and takes nothing off. A request that it finds whole is kept as it was read, so that `next` gives it
+    /// with no further work.
+    pub fn look(&mut self, ended: bool) -> Result<Look, NoMemory>
+        ensures found { IfOk result (IsLook self.old ended) }
+        ensures same { self.new ≡ self.old }
+    {
+        if let Known::Whole(_) = self.known {
+            return Ok(Look::Whole);
+        }
+        let rest = rest_from(self.buffer.as_slice(), self.start);
+        match take_request(self.alloc, rest, ended, &mut self.known) {
+            Taken::Request(request, len) => {
+                self.dropped = self.dropped.and(front_of(rest, len));
+                self.known = Known::Whole(request);
+                self.start = drop_read(self.alloc, &mut self.buffer, self.start + len);
+                Ok(Look::Whole)
+            }
+            Taken::None(pause, len) => {
+                self.dropped = self.dropped.and(front_of(rest, len));
+                self.start = drop_read(self.alloc, &mut self.buffer, self.start + len);
+                seen(pause)
+            }
+        }
+    }
+
+    /// Hands the request that `look` has found whole over to an intake that has no bytes, and says so; or else all bytes. What was
+    /// read of them goes with them, and none is copied.
+    pub fn hand_over(&mut self, into: &mut Intake) -> bool
+        requires { into.old ≡ [] }
+        ensures { IsHandedOver result self.old self.new into.new }
+    {
+        if let Known::Whole(_) = self.known {
+            into.known = mem::replace(&mut self.known, Known::Search(no_search()));
+            into.dropped = mem::replace(&mut self.dropped, Dropped::none());
+            true
+        } else {
+            mem::swap(self, into);
+            false
+        }
+    }
+
+    /// How many bytes it keeps of what has not come whole: those that were not read, and the data of chunks.
+    pub fn kept(&self) -> usize
+        ensures { result ≤ length self.now }
+    {
+        let left = self.buffer.len() - self.start;
+        match &self.known {
+            Known::Front(front) => left.saturating_add(data_of(&front.body)),
+            Known::Search(_) => left,
+            Known::Whole(_) => left,
+        }
+    }
+
+    /// How much memory it takes for these, in bytes.
+    pub fn memory(&self) -> usize {
+        match &self.known {
+            Known::Front(front) => self.buffer.capacity().saturating_add(data_of(&front.body)),
+            Known::Search(_) => self.buffer.capacity(),
+            Known::Whole(request) => self.buffer.capacity().saturating_add(request.body().len()),
+        }
+    }
+}
+
+// How much data it has so far.
+fn data_of(body: &Body) -> usize
+    ensures { (part : List ℕ) → IsBodyKept part body.now → result ≤ length part }
+{
+    match body {
+        Body::Sized(_) => 0,
+        Body::Chunks(found) => found.len(),
     }
 }

@@ -7,6 +7,11 @@ ghost use Rattle.std.specs.Cmp.Lexicographic.{slice_cmp};
 ghost use Rattle.cd_wire.specs.Fields.{is_named};
 ghost use Rattle.cd_wire.specs.Render.{by_name};
 ghost use Rattle.cd_wire.specs.Requests.{BeginsRequest, Splits, HasNoRequest, HasRequests, Tail, HasTail, EndsInBody, clean, cut, refused};
+ghost use Rattle.cd_wire.specs.Intake.{IsNext, IsLook};
+ghost use Rattle.cd_wire.specs.declared.intake.Look.{Look};
+ghost use Rattle.cd_wire.specs.declared.intake.Look.TheVariants as look;
+ghost use Rattle.cd_wire.specs.declared.intake.Next.{Next};
+ghost use Rattle.cd_wire.specs.declared.intake.Next.TheVariants as next;
 ghost use Rattle.cd_wire.specs.declared.fault.WireFault.{WireFault};
 ghost use Rattle.cd_wire.specs.declared.fields.Field.{Field};
 ghost use Rattle.cd_wire.specs.declared.request.Request.{Request};
@@ -59,6 +64,14 @@ pub fn splits_stay()
     ensures other { (pushed : List ℕ) (requests : List Request) (left : List ℕ) (ended : Bool) (tail : Tail)
         → Splits pushed requests left → HasNoRequest left → HasTail left ended tail
         → HasRequests pushed ended requests tail }
+{}
+
+/// Where `look` says that a request is whole, `next` gives it, and so it does only there.
+pub fn looks_are_kept()
+    ensures whole { (bytes new : List ℕ) (ended : Bool) (found : Next) → IsLook bytes ended look.Whole → IsNext bytes ended new found
+        → (request : Request) × (found ≡ next.Request request) }
+    ensures only { (bytes new : List ℕ) (ended : Bool) (request : Request) (found : Look) → IsNext bytes ended new (next.Request request)
+        → IsLook bytes ended found → found ≡ look.Whole }
 {}
 
 /// No bytes begin with a request.

@@ -57,11 +57,11 @@ pub use fault::WireFault;
 pub use fields::Field;
 pub use framing::Framing;
 pub use held::RequestFields;
-pub use intake::{Intake, Next};
+pub use intake::{Intake, Look, Next};
 pub use judging::framing_by;
 pub use laws::{
-    fields_go_by_name, limits_are, no_bytes_are_no_request, requests_are_unique, requests_exist,
-    requests_stay, splits_stay,
+    fields_go_by_name, limits_are, looks_are_kept, no_bytes_are_no_request, requests_are_unique,
+    requests_exist, requests_stay, splits_stay,
 };
 pub use lent::{Lent, copy_fields};
 pub use limits::{MAX_BODY_BYTES, MAX_CHUNK_LINE_BYTES, MAX_HEAD_BYTES, MAX_HEAD_FIELDS};

@@ -9,6 +9,7 @@ ghost use Rattle.cd_wire.specs.Scanning.{scan, is_over};
 ghost use Rattle.cd_wire.specs.Taking.{IsScanned, IsSearch, HasFront, IsKept, IsBegun, IsPause, IsTaken};
 ghost use Rattle.cd_wire.specs.declared.scanning.Line.TheVariants as place;
 ghost use Rattle.cd_wire.specs.declared.taking.Front.{Front};
+ghost use Rattle.cd_wire.specs.declared.request.Request.{Request as Asked};
 
 use crate::bodies::{Body, BodyRead, read_body, unread};
 use crate::fault::WireFault;
@@ -47,6 +48,8 @@ pub(crate) enum Known {
     Search(Search),
     /// Its head was read and is not refused, and its body has not come whole.
     Front(Front),
+    /// It has come whole, and was not taken yet.
+    Whole(Request),
 }
 
 // What an input begins with: a head that is not refused, whether one of its fields closes the connection, a body of which nothing
@@ -205,6 +208,7 @@ fn take_out(known: &mut Known, body: Octets) -> Request
     match mem::replace(known, Known::Search(no_search())) {
         Known::Front(front) => front.request.with_body(body),
         Known::Search(_) => unreachable!(),
+        Known::Whole(_) => unreachable!(),
     }
 }
 
@@ -343,6 +347,18 @@ fn take_next(alloc: Global, bytes: &[u8], ended: bool, known: &mut Known) -> Tak
     }
 }
 
+// The request that has come whole.
+fn take_known(known: &mut Known) -> Taken
+    requires { (before : List ℕ) × (request : Asked) × (known.old ≡ Known.Whole request) × BeginsRequest before request [] }
+    ensures { (before left : List ℕ) (ended : Bool) → IsKept before left known.old → IsTaken before left ended known.new result }
+{
+    match mem::replace(known, Known::Search(no_search())) {
+        Known::Whole(request) => Taken::Request(request, 0),
+        Known::Search(_) => unreachable!(),
+        Known::Front(_) => unreachable!(),
+    }
+}
+
 /// The request at the front of an input, of which this is known and these bytes are left.
 pub(crate) fn take_request(alloc: Global, bytes: &[u8], ended: bool, known: &mut Known) -> Taken
     requires { (before : List ℕ) × IsKept before bytes.now known.old }
@@ -352,6 +368,9 @@ pub(crate) fn take_request(alloc: Global, bytes: &[u8], ended: bool, known: &mut
     if let Known::Search(search) = known {
         let search = *search;
         return take_first(alloc, bytes, ended, search, known);
+    }
+    if let Known::Whole(_) = known {
+        return take_known(known);
     }
     take_next(alloc, bytes, ended, known)
 }

@@ -5,7 +5,7 @@ use Rattle.caddy_run.proofs.lanes.tcp_lanes.Given as goal
 abbrev pub invariant-loop-alloc : goal.invariant-loop-alloc
 invariant-loop-alloc g l = record {
   few : length l.lanes ≤ LANES;
-  idle : All (λ reporting. is_some reporting.lane.held ≡ false) l.lanes;
+  idle : All (λ telling. is_some telling.lane.lane.held ≡ false) l.lanes;
 }
 
 abbrev pub decreases-loop-alloc : goal.decreases-loop-alloc

@@ -1,6 +1,6 @@
 use Rattle.std.proofs.Common.{ℕ, List, subst}
 use Rattle.cd_caddyfile.specs.Adapting.{adapted}
-use Rattle.cd_output.specs.Devices.{device}
+use Rattle.cd_outside.specs.Devices.{device}
 use Rattle.cd_program.specs.Endings.{IsAdapted}
 use Rattle.cd_program.proofs.Adapted.{has_read}
 use Rattle.cd_program.proofs.adapting.adapt_file.Goals as goal

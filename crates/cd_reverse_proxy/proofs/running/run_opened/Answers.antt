@@ -1,5 +1,5 @@
 use Rattle.std.proofs.Common.{refl}
-use Rattle.cd_output.specs.Devices.{device}
+use Rattle.cd_outside.specs.Devices.{device}
 use Rattle.cd_reverse_proxy.specs.Workers.{workers}
 use Rattle.cd_reverse_proxy.proofs.Ends.{has-run}
 use Rattle.cd_reverse_proxy.proofs.running.run_opened.Goals as goal

@@ -1,8 +1,8 @@
 use Rattle.std.proofs.Common.{◌∙◌, ℕ, [], ◌∷◌, List, refl, subst, sym}
 use Rattle.cd_outside.specs.declared.fixtures.FixtureCall.TheVariants as call
 use Rattle.cd_outside.specs.declared.key.Key.TheVariants as key
-use Rattle.cd_output.specs.Devices.{device}
-use Rattle.cd_output.specs.Lines.{Says}
+use Rattle.cd_outside.specs.Devices.{device}
+use Rattle.cd_outside.specs.Lines.{Says}
 use Rattle.cd_reverse_proxy.specs.declared.status.Status.TheVariants as status
 use Rattle.cd_reverse_proxy.specs.Running.{closing_calls}
 use Rattle.cd_reverse_proxy.specs.Seen.{seen}

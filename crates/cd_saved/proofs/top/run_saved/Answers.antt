@@ -1,6 +1,6 @@
 use Rattle.std.proofs.Common.{inr, ap, subst}
 use Rattle.cd_program.specs.Seen.{seen}
-use Rattle.cd_output.specs.Devices.{device}
+use Rattle.cd_outside.specs.Devices.{device}
 use Rattle.cd_saved.specs.Top.{HasRunOver}
 use Rattle.cd_saved.proofs.Over.{from_earlier, opened_found}
 use Rattle.cd_saved.proofs.top.run_saved.Goals as goal

@@ -1,25 +1,25 @@
-use Rattle.std.proofs.Common.{◌≡◌, ◌∙◌, ◌++◌, List, ℕ, take, inl, inr, refl}
+use Rattle.std.proofs.Common.{◌∙◌, inl, inr, refl}
 use Rattle.cd_session.proofs.Changes.{as-it-is}
 use Rattle.cd_session.proofs.session.take_more.Goals as goal
 
 -- the bytes came
-pub returns-in-Ok-clause-reads : goal.returns-in-Ok-clause-reads
-returns-in-Ok-clause-reads g c =
-    let session = c.args.session.now in
-    let piece : List ℕ = take c.in-Bytes.count c.read.new.into in
-    let is : c.push.new.self ≡ session.intake ++ piece = rw c.in-Ok.is at c.push.ensures in
-    (refl, inl (record { piece = piece; left_is = is; ended_is = refl; told = c.in-Bytes.ensures.past }))
+pub returns-in-Some-clause-reads : goal.returns-in-Some-clause-reads
+returns-in-Some-clause-reads g c =
+    let came = c.in-Some.ensures.past in
+    (refl, inl (record { piece = came.0; left_is = came.1.1; ended_is = refl; told = came.2 }))
 
 -- they came, and there was no memory for them
-pub returns-in-Err-clause-reads : goal.returns-in-Err-clause-reads
-returns-in-Err-clause-reads g c =
-    inl (record { piece = take c.in-Bytes.count c.read.new.into; end_is = c.end.ensures; told = c.in-Bytes.ensures.past })
+pub returns-in-Lacking-clause-reads : goal.returns-in-Lacking-clause-reads
+returns-in-Lacking-clause-reads g c =
+    let came = c.in-Lacking.ensures.past in
+    inl (record { piece = came.0; end_is = c.end-in-Lacking.ensures; told = came.2 })
 
 -- the end was seen
 pub returns-in-End-clause-reads : goal.returns-in-End-clause-reads
-returns-in-End-clause-reads g c = (refl, inr (record { left_is = refl; ended_is = refl; told = c.in-End.ensures.past }))
+returns-in-End-clause-reads g c =
+    let came = c.in-End.ensures.past in (refl, inr (record { left_is = came.1; ended_is = refl; told = came.2 }))
 
 -- the lane has failed
 pub returns-in-Failed-clause-reads : goal.returns-in-Failed-clause-reads
 returns-in-Failed-clause-reads g c =
-    inr (record { end_is = c.end-in-Failed.ensures; told = c.in-Failed.ensures.past ∙ as-it-is (g.L.Lane.past c.args.lane.now) })
+    inr (record { end_is = c.end.ensures; told = c.in-Failed.ensures.past.2 ∙ as-it-is (g.L.Lane.past c.args.lane.now) })

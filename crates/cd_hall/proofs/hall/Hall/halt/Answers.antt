@@ -1,4 +1,4 @@
-use Rattle.std.proofs.Common.{◌≡◌, ◌≤◌, ℕ, ◌+◌, true, false, List, [], ◌∷◌, ◌++◌, sym, ap, subst, ◌∙◌}
+use Rattle.std.proofs.Common.{◌≡◌, ◌≤◌, ℕ, ◌+◌, true, false, List, [], ◌∷◌, ◌++◌, Some, sym, ap, subst, ◌∙◌}
 use Rattle.cd_legal.specs.declared.entry.Entry.{Entry}
 use Rattle.cd_legal.specs.declared.entry.Entry.TheVariants.{Halt}
 use Rattle.cd_legal.specs.declared.entry.Signed.{Signed}
@@ -50,6 +50,23 @@ returns-clause-spreads g c =
       halted_alike l.found w.seen l.found_core ∙ has.running,
       subst (λ (z : List Signed × ℕ). DueLater z.0 z.1 (duties_in duty)) (λ i. (sym (seen_after x y c.leave_turn.ensures.seen) i, sym serial i)) has.due,
       duties_after v w x y (duties_in duty) same s.more c.leave_turn.ensures.seen,
+    )) c.halt_once-halted.ensures.halts
+
+pub returns-clause-lent : goal.returns-clause-lent
+returns-clause-lent g c =
+    let v = (view c.args.pass.now) in
+    let w = (view c.take_turn-turn.new.pass) in
+    let x = (view c.halt_once-halted.new.pass) in
+    let y = (view c.leave_turn.new.pass) in
+    let same = c.take_turn-turn.ensures.same in
+    if_ok (λ duty. IsHalt w x (duties_in duty))
+    (λ duty. (found : List Signed) × Spread v y found (Halt ((state_at found).serial + 1) ∷ stopped_of (state_at found) (state_at found).serial) × (v.ticket ≡ Some (state_at found).serial → duties_in duty ≡ [])) c.halt_once-halted.result
+    (λ duty has.
+    let s = has.settles in
+    let l = leaves v w s.unsettled x y same c.take_turn-turn.ensures.since c.requires.pass.idle.1 (ends_settled v s.unsettled x y c.requires.pass.idle.0.5 c.halt_once-halted.ensures.turn.0.5 c.requires.pass.idle.3 s.settled c.leave_turn.ensures.seen) _ s.goes in (
+      l.found,
+      subst (λ (es : List Entry). Spread v y l.found es) (halt_found l.found w.seen l.found_core) l.spread,
+      λ own. has.lent (ap (λ z. z.ticket) same ∙ (own ∙ ap (λ (m : ℕ). Some m) (serial_alike l.found w.seen l.found_core))),
     )) c.halt_once-halted.ensures.halts
 
 pub returns-clause-err : goal.returns-clause-err

@@ -1,6 +1,0 @@
-use Rattle.std.proofs.Common.{◌≡◌, ◌+◌, drop}
-use Rattle.cd_routes.specs.Invoking.{place_of}
-use Rattle.cd_chain.proofs.compiling.place_of.Given as goal
-
-abbrev pub invariant-loop-place : goal.invariant-loop-place
-invariant-loop-place l = l.place + place_of (drop l.place l.names) l.name ≡ place_of l.names l.name

@@ -1,2 +1,0 @@
-pub mod Blind
-pub mod Heart

@@ -1,6 +1,0 @@
-pub mod Parts
-pub mod Listening
-pub mod Modules
-pub mod Servers
-pub mod Files
-pub mod Whole

@@ -1,5 +1,0 @@
-pub mod Objects
-pub mod Marks
-pub mod Handlers
-pub mod Matchers
-pub mod Routes
