@@ -6,7 +6,7 @@ use Rattle.cd_tree.specs.declared.tree.Tree.{Tree}
 use Rattle.cd_autosave.specs.Places.{other}
 use Rattle.cd_autosave.specs.Image.{Saved, slot_at, gate_at, newer, rank}
 use Rattle.cd_autosave.specs.Disk.{IsDurable}
-use Rattle.cd_autosave.specs.Saving.{IsWhole, Keeps, Notes, IsKept, held_of}
+use Rattle.cd_autosave.specs.Saving.{IsWhole, Notes, IsKept, held_of}
 use Rattle.cd_autosave.specs.Opening.{IsInvalid, IsDamagedAt, IsDamaged, Holds, IsFound, number_or, IsTreeOf, kept_of, record_of, gate_for, count_or, slots_over, IsOpened}
 use Rattle.cd_autosave.specs.declared.limits.TheConstants.{MAX_NUMBER}
 use Rattle.cd_autosave.specs.declared.slot.Slot.{Slot}
@@ -83,7 +83,7 @@ some_when : {A : Type 0} (P : A → Type 0) (o : Option A) → ((a : A) → o �
 some_when P None each = tt
 some_when P (Some a) each = each a refl
 
-module _ {D : Type 0} (seen : D → Option (List ℕ)) (may_leave : D → List ℕ → Type 0) (disk : D) where
+module _ {D : Type 0} (seen : D → Option (List ℕ)) (left_now : D → List ℕ → Type 0) (disk : D) where
   held_is : (k : Slot) (held : Option ℕ) (g h : Gate) (image : List ℕ) → seen disk ≡ Some image → held_of seen (slots_over disk k held g h) ≡ pick k (slot_at image 0) (slot_at image SECOND_START)
   held_is First held g h image is = ap (λ o. option_and_then (λ bytes. slot_at bytes 0) o) is
   held_is Second held g h image is = ap (λ o. option_and_then (λ bytes. slot_at bytes SECOND_START) o) is
@@ -109,12 +109,9 @@ module _ {D : Type 0} (seen : D → Option (List ℕ)) (may_leave : D → List �
     notes_at : (image : List ℕ) → seen disk ≡ Some image → Notes arranged (held_of seen arranged) image
     notes_at image is = notes_of (kept_of first.held second.held) held (record_of first.held second.held) first.gate second.gate image is held_r (choice_at image is) (some_at _ (seen disk) image is one).gate (some_at _ (seen disk) image is two).gate
 
-    pub arranged_kept : (slots : Slots D) → slots ≡ arranged → IsDurable (seen disk) (may_leave disk) → ((c : List ℕ) → may_leave disk c → (image : List ℕ) × (seen disk ≡ Some image))
-        → count_or held ≤ MAX_NUMBER → IsKept seen may_leave slots
-    arranged_kept slots same only told small = subst (IsKept seen may_leave) (sym same) (record {
-      images = λ c left.
-          let image = told c left in
-          subst (λ bytes. Keeps (other arranged.next) (held_of seen arranged) bytes) (sym (only image.0 c image.1 left)) (notes_at image.0 image.1).keeps;
+    pub arranged_kept : (slots : Slots D) → slots ≡ arranged → IsDurable (seen disk) (left_now disk) → count_or held ≤ MAX_NUMBER → IsKept seen left_now slots
+    arranged_kept slots same only small = subst (IsKept seen left_now) (sym same) (record {
+      images = λ c left. (notes_at c (only c left)).keeps;
       notes = notes_at;
       settled = λ yes_settled. only;
       found = small;

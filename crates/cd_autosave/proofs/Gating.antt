@@ -1,11 +1,11 @@
 -- What the three writes of a save leave at the slot that it takes.
-use Rattle.std.proofs.Common.{◌≡◌, inl, inr, ⊎_elim, ◌⊎◌, ℕ, ◌+◌, ◌<◌, ◌≤◌, ◌^◌, ◌==◌, nat_lt, true, List, [], ◌∷◌, ◌++◌, length, sym, ◌∙◌, ap, subst, arith, Some, None, length-append, if◌then◌else◌}
+use Rattle.std.proofs.Common.{◌≡◌, inl, inr, ⊎_elim, ◌⊎◌, ℕ, ◌+◌, ◌-◌, ◌<◌, ◌≤◌, ◌^◌, ◌==◌, nat_lt, true, List, [], ◌∷◌, ◌++◌, length, sym, ◌∙◌, ap, subst, arith, Some, None, length-append, if◌then◌else◌}
 use Rattle.std.proofs.lemmas.Bool.{cases_lt, cases_eq, cases_Bool, and_from, and_left, and_right, lt-ltb, le-ltb, eq-eqb, ne_eqb, cond-true, cond-false}
 use Rattle.std.proofs.lemmas.List.{get_or_past, get_or_append_left, get_or-append-add}
 use Rattle.std.proofs.lemmas.Nat.{from_be_bytes-to_be_bytes_4, from_be_bytes-to_be_bytes_8}
 use Rattle.std.specs.Int.{w32, w64, from_be_bytes, to_be_bytes}
 use Rattle.cd_autosave.specs.Image.{byte_at, bytes_at, Saved, is_open, length_at, saved_at, slot_at, gate_at, rest_of, IsShut, IsFilled}
-use Rattle.cd_autosave.specs.Disk.{Torn, Written}
+use Rattle.cd_autosave.specs.Disk.{PartWritten, Written}
 use Rattle.cd_autosave.specs.declared.slot.Gate.TheVariants.{Missing, One, Other}
 use Rattle.cd_autosave.proofs.Images.{bytes_are, saved_same, open_slot, shut_slot}
 
@@ -62,15 +62,15 @@ shut_by_end image start short = shut_slot image start (and_right (byte_at image 
 pub nothing_shut : (image : List ℕ) (start : ℕ) → IsShut start image → slot_at image start ≡ None
 nothing_shut image start shut = shut_by_byte image start shut.not_one
 
--- ---- a torn write of the gate alone
+-- ---- a write of the gate alone, in part
 
-module _ (d c : List ℕ) (start : ℕ) (torn : Torn start 1 d c) (there : start < length d) where
+module _ (d c : List ℕ) (start : ℕ) (torn : PartWritten start 1 d c) (there : start < length d) where
   same_long : length c ≡ length d
-  same_long = omega (arith, torn.no_shorter, torn.no_longer, there)
+  same_long = omega (arith, torn.end, torn.reach, there)
 
   byte_after : (i : ℕ) → start + 1 ≤ i → byte_at c i ≡ byte_at d i
   byte_after i past = elim (cases_lt i (length d)) [
-    | inl inside ↦ torn.above i inside (omega (arith, past))
+    | inl inside ↦ torn.others i inside (inr (omega (arith, past)))
     | inr outside ↦ get_or_past c i 0 (omega (arith, same_long, outside)) ∙ sym (get_or_past d i 0 outside)
   ]
 
@@ -87,9 +87,9 @@ module _ (d c : List ℕ) (start : ℕ) (torn : Torn start 1 d c) (there : start
 -- ---- closing
 
 -- a write of the gate where it is 1 or past the end leaves what the slot held, or nothing
-pub closing : (d c : List ℕ) (start : ℕ) → (gate_at d start ≡ Other → ⊥) → Torn start 1 d c → (slot_at c start ≡ None) ⊎ (slot_at c start ≡ slot_at d start)
+pub closing : (d c : List ℕ) (start : ℕ) → (gate_at d start ≡ Other → ⊥) → PartWritten start 1 d c → (slot_at c start ≡ None) ⊎ (slot_at c start ≡ slot_at d start)
 closing d c start not_other torn = elim (which d start) [
-  | at_missing short ↦ inl (shut_by_end c start (omega (arith, torn.no_longer, short)))
+  | at_missing short ↦ inl (shut_by_end c start (omega (arith, torn.end, torn.reach, short)))
   | at_one there one ↦ elim (cases_lt (start + 1) (length d)) [
     | inl more ↦
         let yes : is_open d start ≡ true = and_from (byte_at d start == 1) (nat_lt (start + 1) (length d)) (eq-eqb (byte_at d start) 1 one) (lt-ltb (start + 1) (length d) more) in
@@ -108,10 +108,10 @@ closed d new start written =
 -- ---- the rest
 
 -- a closed gate stays closed in each outcome of a write after it
-pub stays_shut : (d c : List ℕ) (start n : ℕ) → IsShut start d → Torn (start + 1) n d c → IsShut start c
+pub stays_shut : (d c : List ℕ) (start n : ℕ) → IsShut start d → PartWritten (start + 1) n d c → IsShut start c
 stays_shut d c start n shut torn =
-    let same : byte_at c start ≡ byte_at d start = torn.below start shut.reaches (omega arith) in
-    record { reaches = omega (arith, shut.reaches, torn.no_shorter); not_one = λ one. shut.not_one (sym same ∙ one) }
+    let same : byte_at c start ≡ byte_at d start = torn.others start shut.reaches (inl (omega arith)) in
+    record { reaches = omega (arith, shut.reaches, torn.end); not_one = λ one. shut.not_one (sym same ∙ one) }
 
 pub length-rest_of : (saved : Saved) → length (rest_of saved) ≡ 12 + length saved.text
 length-rest_of saved =
@@ -146,13 +146,13 @@ filled d new start saved number_fits text_fits written =
 
 pub filled_shut : (d new : List ℕ) (start : ℕ) (piece : List ℕ) → IsShut start d → Written (start + 1) piece d new → IsShut start new
 filled_shut d new start piece shut written =
-    let same : byte_at new start ≡ byte_at d start = written.below start (omega arith) in
+    let same : byte_at new start ≡ byte_at d start = written.others start (inl (omega arith)) in
     record { reaches = omega (arith, shut.reaches, written.long); not_one = λ one. shut.not_one (sym same ∙ one) }
 
 -- ---- opening
 
 -- the gate of a whole slot opens it or does not
-pub opening : (d c : List ℕ) (start : ℕ) (saved : Saved) → IsFilled start saved d → Torn start 1 d c → (slot_at c start ≡ None) ⊎ (slot_at c start ≡ Some saved)
+pub opening : (d c : List ℕ) (start : ℕ) (saved : Saved) → IsFilled start saved d → PartWritten start 1 d c → (slot_at c start ≡ None) ⊎ (slot_at c start ≡ Some saved)
 opening d c start saved filled torn =
     ⊎_elim inl (λ is. inr (is ∙ ap Some filled.is)) (gate_torn d c start torn (omega (arith, filled.within)))
 
@@ -161,13 +161,13 @@ opened_slot d new start saved filled written =
     let here : start + 0 ≡ start = omega arith in
     let one : byte_at new start ≡ 1 = ap (λ (n : ℕ). byte_at new n) (sym here) ∙ written.piece_is 0 (omega arith) in
     let yes : is_open new start ≡ true = and_from (byte_at new start == 1) (nat_lt (start + 1) (length new)) (eq-eqb (byte_at new start) 1 one) (lt-ltb (start + 1) (length new) (omega (arith, written.long, filled.within))) in
-    open_slot new start yes ∙ ap Some (saved_same d new start (λ i past end. written.above i (omega (arith, past))) ∙ filled.is)
+    open_slot new start yes ∙ ap Some (saved_same d new start (λ i past end. written.others i (inr (omega (arith, past)))) ∙ filled.is)
 
--- a whole write is one of the outcomes of a torn one
-pub written_torn : (at : ℕ) (piece old new : List ℕ) → Written at piece old new → Torn at (length piece) old new
+-- what is written whole is written in part
+pub written_torn : (at : ℕ) (piece old new : List ℕ) → Written at piece old new → PartWritten at (length piece) old new
 written_torn at piece old new written = record {
-  no_shorter = omega (arith, written.long);
-  no_longer = omega (arith, written.long);
-  below = λ i inside low. written.below i low;
-  above = λ i inside high. written.above i high;
+  growth = length new - length old;
+  end = omega (arith, written.long);
+  reach = omega (arith, written.long);
+  others = λ i inside out. written.others i out;
 }

@@ -4,7 +4,7 @@ use Rattle.std.proofs.lemmas.Bool.{cases_lt, cases_Bool, lt-ltb, le-ltb, cond-tr
 use Rattle.std.proofs.lemmas.List.{get_or_past}
 use Rattle.std.specs.Int.{w32, w64, from_be_bytes}
 use Rattle.cd_autosave.specs.Image.{byte_at, bytes_at, Saved, is_open, length_at, saved_at, slot_at}
-use Rattle.cd_autosave.specs.Disk.{Torn}
+use Rattle.cd_autosave.specs.Disk.{PartWritten}
 use Rattle.cd_autosave.specs.declared.limits.TheConstants.{SECOND_START}
 
 -- ---- ranges
@@ -71,19 +71,19 @@ slot_same a b start gates agree = elim (cases_Bool (is_open a start)) [
   | inr is_shut_here ↦ shut_slot b start (gates ∙ is_shut_here) ∙ sym (shut_slot a start is_shut_here)
 ]
 
--- ---- a torn write below a place
+-- ---- a write in part below a place
 
-module _ (d c : List ℕ) (at n k : ℕ) (torn : Torn at n d c) (low : at + n ≤ k) where
+module _ (d c : List ℕ) (at n k : ℕ) (torn : PartWritten at n d c) (low : at + n ≤ k) where
   pub byte_above : (i : ℕ) → k ≤ i → byte_at c i ≡ byte_at d i
   byte_above i past = elim (cases_lt i (length d)) [
-    | inl inside ↦ torn.above i inside (omega (arith, low, past))
-    | inr outside ↦ get_or_past c i 0 (omega (arith, torn.no_longer, low, past, outside)) ∙ sym (get_or_past d i 0 outside)
+    | inl inside ↦ torn.others i inside (inr (omega (arith, low, past)))
+    | inr outside ↦ get_or_past c i 0 (omega (arith, torn.end, torn.reach, low, past, outside)) ∙ sym (get_or_past d i 0 outside)
   ]
 
   pub reach_above : (j : ℕ) → nat_lt (k + j) (length c) ≡ nat_lt (k + j) (length d)
   reach_above j = elim (cases_lt (k + j) (length d)) [
-    | inl inside ↦ lt-ltb (k + j) (length c) (omega (arith, torn.no_shorter, inside)) ∙ sym (lt-ltb (k + j) (length d) inside)
-    | inr outside ↦ le-ltb (k + j) (length c) (omega (arith, torn.no_longer, low, outside)) ∙ sym (le-ltb (k + j) (length d) outside)
+    | inl inside ↦ lt-ltb (k + j) (length c) (omega (arith, torn.end, inside)) ∙ sym (lt-ltb (k + j) (length d) inside)
+    | inr outside ↦ le-ltb (k + j) (length c) (omega (arith, torn.end, torn.reach, low, outside)) ∙ sym (le-ltb (k + j) (length d) outside)
   ]
 
   pub open_above : is_open c k ≡ is_open d k
@@ -95,11 +95,11 @@ module _ (d c : List ℕ) (at n k : ℕ) (torn : Torn at n d c) (low : at + n �
   pub slot_above : slot_at c k ≡ slot_at d k
   slot_above = slot_same d c k open_above (λ is_open_here i past end. byte_above i (omega (arith, past)))
 
--- ---- a torn write above a whole slot
+-- ---- a write in part above a whole slot
 
-module _ (d c : List ℕ) (at n : ℕ) (saved : Saved) (torn : Torn at n d c) (high : SECOND_START ≤ at) (is : slot_at d 0 ≡ Some saved) (within : 13 + length saved.text ≤ length d) (short : length saved.text ≤ 8388608) where
+module _ (d c : List ℕ) (at n : ℕ) (saved : Saved) (torn : PartWritten at n d c) (high : SECOND_START ≤ at) (is : slot_at d 0 ≡ Some saved) (within : 13 + length saved.text ≤ length d) (short : length saved.text ≤ 8388608) where
   byte_low : (i : ℕ) → i < 13 + length saved.text → byte_at c i ≡ byte_at d i
-  byte_low i inside = torn.below i (omega (arith, within, inside)) (omega (arith, high, short, inside))
+  byte_low i inside = torn.others i (omega (arith, within, inside)) (inl (omega (arith, high, short, inside)))
 
   long : length_at d 0 ≡ length saved.text
   long = sym (length-bytes_at d 13 (length_at d 0)) ∙ ap (λ (s : Saved). length s.text) (opened d 0 saved is).1
@@ -107,5 +107,5 @@ module _ (d c : List ℕ) (at n : ℕ) (saved : Saved) (torn : Torn at n d c) (h
   pub slot_low : slot_at c 0 ≡ slot_at d 0
   slot_low =
       let byte = byte_low 0 (omega arith) in
-      let reach : nat_lt 1 (length c) ≡ nat_lt 1 (length d) = lt-ltb 1 (length c) (omega (arith, within, torn.no_shorter)) ∙ sym (lt-ltb 1 (length d) (omega (arith, within))) in
+      let reach : nat_lt 1 (length c) ≡ nat_lt 1 (length d) = lt-ltb 1 (length c) (omega (arith, within, torn.end)) ∙ sym (lt-ltb 1 (length d) (omega (arith, within))) in
       slot_same d c 0 (λ i. (byte i == 1) && reach i) (λ is_open_here i past end. byte_low i (omega (arith, long, end)))

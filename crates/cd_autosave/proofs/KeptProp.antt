@@ -1,5 +1,5 @@
 -- Two proofs of what a saver keeps are the same, so its ghost field may hold it truncated.
-use Rattle.std.proofs.Common.{◌≡◌, ℕ, ◌+◌, ◌<◌, ◌≤◌, ◌^◌, List, length, Option, Some, None, IfSome, option_map}
+use Rattle.std.proofs.Common.{◌≡◌, ℕ, ◌+◌, ◌<◌, ◌≤◌, List, length, Option, Some, None, IfSome, option_map}
 use denote.Struct.Props.{props}
 use mathlib.Core.Logic.{∥∥₁_elim}
 use Rattle.cd_autosave.specs.Places.{start_of, other}
@@ -52,17 +52,17 @@ module _ {D : Type 0} where
         gate = λ settled. gate (x.gate settled) (y.gate settled) i;
       }
 
-  module _ (seen : D → Option (List ℕ)) (may_leave : D → List ℕ → Type 0) (slots : Slots D) where
-    pub IsKept-prop : IsProp (IsKept seen may_leave slots)
+  module _ (seen : D → Option (List ℕ)) (left_now : D → List ℕ → Type 0) (slots : Slots D) where
+    pub IsKept-prop : IsProp (IsKept seen left_now slots)
     IsKept-prop x y =
         let found : IsProp (slots.found ≤ MAX_NUMBER) = hlevel props in
-        let same : (c image : List ℕ) → IsProp (c ≡ image) = λ c image. hlevel props in
+        let same : (c : List ℕ) → IsProp (seen slots.disk ≡ Some c) = λ c. hlevel props in
         λ i. record {
           images = λ c left. Keeps-prop (other slots.next) (held_of seen slots) c (x.images c left) (y.images c left) i;
           notes = λ image is. Notes-prop slots (held_of seen slots) image (x.notes image is) (y.notes image is) i;
-          settled = λ now image c is left. same c image (x.settled now image c is left) (y.settled now image c is left) i;
+          settled = λ now c left. same c (x.settled now c left) (y.settled now c left) i;
           found = found x.found y.found i;
         }
 
-    pub kept_at : ∥ IsKept seen may_leave slots ∥₁ → IsKept seen may_leave slots
+    pub kept_at : ∥ IsKept seen left_now slots ∥₁ → IsKept seen left_now slots
     kept_at kept = ∥∥₁_elim kept IsKept-prop (λ k. k)

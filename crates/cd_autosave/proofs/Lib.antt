@@ -1,13 +1,14 @@
 mod Beginnings
 mod Choices
+mod Clock
 mod Examples
 mod Gating
 mod Images
 mod Keeping
 mod KeptProp
-mod Moments
 mod Putting
 mod Recovered
+mod Remembering
 mod Surviving
 mod Turning
 mod Writes

@@ -3,7 +3,7 @@ use Rattle.std.proofs.Common.{◌≡◌, inl, inr, ℕ, ◌+◌, ◌<◌, ◌≤
 use Rattle.std.proofs.lemmas.Bool.{cases_lt, lt-ltb, le-ltb, cond-true, cond-false}
 use Rattle.cd_autosave.specs.Places.{start_of, other}
 use Rattle.cd_autosave.specs.Image.{byte_at, Saved, slot_at, gate_at, newer, recovered, rank}
-use Rattle.cd_autosave.specs.Disk.{Torn}
+use Rattle.cd_autosave.specs.Disk.{PartWritten}
 use Rattle.cd_autosave.specs.Saving.{Keeps}
 use Rattle.cd_autosave.specs.declared.slot.Slot.{Slot}
 use Rattle.cd_autosave.specs.declared.slot.Slot.TheVariants.{First, Second}
@@ -77,18 +77,18 @@ pub stands_above : (next : Slot) (held : Option Saved) (c : List ℕ) → slot_a
 stands_above First held c kept = subst (λ (h : Option Saved). rank h ≤ rank (recovered c)) kept (rank_right (slot_at c 0) (slot_at c SECOND_START))
 stands_above Second held c kept = subst (λ (h : Option Saved). rank h ≤ rank (recovered c)) kept (rank_left (slot_at c 0) (slot_at c SECOND_START))
 
--- ---- a torn write in the next slot's room
+-- ---- a write in part in the next slot's room
 
 -- the write begins in the slot's room and ends in it
 pub record InRoom (slot : Slot) (at n : ℕ) : Type 0 where
   pub low : start_of slot ≤ at
   pub high : at + n ≤ start_of slot + 13 + MAX_KEPT_BYTES
 
-pub keeps_torn : (next : Slot) (held : Option Saved) (d c : List ℕ) (at n : ℕ) → InRoom next at n → Keeps (other next) held d → Torn at n d c → Keeps (other next) held c
+pub keeps_torn : (next : Slot) (held : Option Saved) (d c : List ℕ) (at n : ℕ) → InRoom next at n → Keeps (other next) held d → PartWritten at n d c → Keeps (other next) held c
 keeps_torn Second None d c at n room keeps torn = absurd (omega (arith, keeps.some refl))
 keeps_torn Second (Some saved) d c at n room keeps torn = record {
   same = slot_low d c at n saved torn room.low keeps.same keeps.whole.within keeps.whole.short ∙ keeps.same;
-  whole = record { within = omega (arith, keeps.whole.within, torn.no_shorter); short = keeps.whole.short };
+  whole = record { within = omega (arith, keeps.whole.within, torn.end); short = keeps.whole.short };
   some = keeps.some;
 }
 keeps_torn First None d c at n room keeps torn = record {
@@ -98,16 +98,16 @@ keeps_torn First None d c at n room keeps torn = record {
 }
 keeps_torn First (Some saved) d c at n room keeps torn = record {
   same = slot_above d c at n SECOND_START torn (omega (arith, room.high)) ∙ keeps.same;
-  whole = record { within = omega (arith, keeps.whole.within, torn.no_shorter); short = keeps.whole.short };
+  whole = record { within = omega (arith, keeps.whole.within, torn.end); short = keeps.whole.short };
   some = keeps.some;
 }
 
 -- the kept gate stays as it is
-pub gate_kept : (next : Slot) (held : Option Saved) (d c : List ℕ) (at n : ℕ) → InRoom next at n → Keeps (other next) held d → Torn at n d c → gate_at c (start_of (other next)) ≡ gate_at d (start_of (other next))
+pub gate_kept : (next : Slot) (held : Option Saved) (d c : List ℕ) (at n : ℕ) → InRoom next at n → Keeps (other next) held d → PartWritten at n d c → gate_at c (start_of (other next)) ≡ gate_at d (start_of (other next))
 gate_kept Second None d c at n room keeps torn = absurd (omega (arith, keeps.some refl))
 gate_kept Second (Some saved) d c at n room keeps torn =
-    let byte : byte_at c 0 ≡ byte_at d 0 = torn.below 0 (omega (arith, keeps.whole.within)) (omega (arith, room.low)) in
-    let reach : nat_lt 0 (length c) ≡ nat_lt 0 (length d) = lt-ltb 0 (length c) (omega (arith, keeps.whole.within, torn.no_shorter)) ∙ sym (lt-ltb 0 (length d) (omega (arith, keeps.whole.within))) in
+    let byte : byte_at c 0 ≡ byte_at d 0 = torn.others 0 (omega (arith, keeps.whole.within)) (inl (omega (arith, room.low))) in
+    let reach : nat_lt 0 (length c) ≡ nat_lt 0 (length d) = lt-ltb 0 (length c) (omega (arith, keeps.whole.within, torn.end)) ∙ sym (lt-ltb 0 (length d) (omega (arith, keeps.whole.within))) in
     λ i. if reach i then (if byte i == 1 then One else Other) else Missing
 gate_kept First held d c at n room keeps torn =
     let byte = byte_above d c at n SECOND_START torn (omega (arith, room.high)) SECOND_START (omega arith) in

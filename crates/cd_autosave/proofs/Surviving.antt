@@ -1,14 +1,13 @@
 -- What a crash leaves after saves one after another.
-use Rattle.std.proofs.Common.{◌≡◌, inl, inr, ⊎_elim, ◌⊎◌, ℕ, suc, ◌+◌, ◌<◌, ◌≤◌, ◌^◌, List, [], ◌∷◌, length, All, refl, sym, ◌∙◌, ap, subst, arith, Option, Some, None}
+use Rattle.std.proofs.Common.{◌≡◌, inl, inr, ⊎_elim, ◌⊎◌, ℕ, ◌<◌, ◌≤◌, ◌^◌, List, [], ◌∷◌, length, All, refl, sym, ◌∙◌, ap, subst, arith, Option, Some, None}
 use Rattle.std.proofs.lemmas.Bool.{cases_lt}
 use Rattle.std.proofs.lemmas.List.Elements.{All-nil, All-cons, All-head, All-tail, All-weaker}
 use Rattle.cd_outside.specs.declared.given.Given.{Given}
 use Rattle.cd_outside.specs.declared.given.Given.TheVariants as given
 use Rattle.cd_outside.specs.declared.limits.TheConstants.{MAX_KEPT_BYTES}
 use Rattle.cd_tree.specs.declared.tree.Tree.{Tree}
-use Rattle.cd_autosave.specs.Places.{start_of}
-use Rattle.cd_autosave.specs.Image.{Saved, slot_at, newer, recovered, rank}
-use Rattle.cd_autosave.specs.Disk.{LeavesOnly}
+use Rattle.cd_autosave.specs.Image.{Saved, newer, recovered, rank}
+use Rattle.cd_autosave.specs.Disk.{IsPresent, Throughout}
 use Rattle.cd_autosave.specs.Opening.{IsInvalid, IsDamagedAt, IsDamaged, IsOpened, IsTreeOf, IsTreeText}
 use Rattle.cd_autosave.specs.Saving.{IsKnownAt, MidSave, StaysTold, held_of, held_after}
 use Rattle.cd_autosave.specs.Saves.{IsUndamaged, Attempt, IsSave, Saves, IsBegun, IsOneOf, Survives}
@@ -16,7 +15,7 @@ use Rattle.cd_autosave.specs.declared.limits.TheConstants.{MAX_NUMBER}
 use Rattle.cd_autosave.specs.declared.slot.Slot.{Slot}
 use Rattle.cd_autosave.specs.declared.slot.Slot.TheVariants.{First, Second}
 use Rattle.cd_autosave.specs.declared.slots.Slots.{Slots}
-use Rattle.cd_autosave.proofs.Moments.{weakens}
+use Rattle.cd_autosave.proofs.Clock.{loosened, at_the_end}
 use Rattle.cd_autosave.proofs.Recovered.{newer_below, newer_above, rank_left, rank_right}
 
 -- ---- damage
@@ -35,6 +34,9 @@ some≢none saved is = cc is
 
 some_is : {x y : Saved} → Some x ≡ Some y → x ≡ y
 some_is same = cc same
+
+same_image : {x y : List ℕ} → Some x ≡ Some y → x ≡ y
+same_image same = cc same
 
 -- a slot whose record is known is not damaged, where the save's is valid and no image before was damaged
 sound_slot : (before : List ℕ → Type 0) (saved : Saved) (slot : Slot) (c : List ℕ) → (IsInvalid saved → ⊥) → ((d : List ℕ) → before d → IsUndamaged d) → IsKnownAt before saved c slot → IsDamagedAt slot c → ⊥
@@ -91,19 +93,19 @@ pub resumed : (first : Option Saved) (begun earlier : List Attempt) (image : Lis
 resumed first begun earlier image held number tree survives opened =
     (subst (Survives first begun earlier) (sym opened.held_is) survives, subst (λ found. IsTreeOf found tree) (sym opened.held_is) opened.tree_is)
 
-module _ {D : Type 0} (seen : D → Option (List ℕ)) (may_leave : D → List ℕ → Type 0) (moment : D → ℕ) (left_since : D → ℕ → List ℕ → Type 0)
-    (counts_now : (disk : D) (t : ℕ) (c : List ℕ) → t ≤ moment disk → may_leave disk c → left_since disk t c) where
+module _ {D : Type 0} (seen : D → Option (List ℕ)) (left_now : D → List ℕ → Type 0) (clock : D → ℕ) (left_at : D → ℕ → List ℕ → Type 0)
+    (present : (disk : D) → IsPresent left_now clock left_at disk) where
   abbrev Save : Attempt → Slots D → Slots D → Type 0
-  Save = IsSave seen may_leave moment left_since
+  Save = IsSave seen left_now clock left_at
 
   pub is_save : (old new : Slots D) (saved : Saved) (answer : Given) → length saved.text ≤ MAX_KEPT_BYTES → (old.found ≤ 2 ^ 62 → saved.number ≤ MAX_NUMBER)
-      → LeavesOnly moment left_since old.disk new.disk (MidSave (may_leave old.disk) (held_of seen old) saved)
-      → (answer ≡ given.All → (image : List ℕ) → may_leave new.disk image → saved.number < rank (recovered image))
+      → Throughout clock left_at old.disk new.disk (MidSave (left_now old.disk) (held_of seen old) saved)
+      → (answer ≡ given.All → (image : List ℕ) → left_now new.disk image → saved.number < rank (recovered image))
       → ((image : List ℕ) → seen new.disk ≡ Some image → held_of seen new ≡ held_after answer (held_of seen old) saved)
       → new.found ≡ old.found → StaysTold (seen old.disk) (seen new.disk) → Save (record { saved = saved; answer = answer }) old new
   is_save old new saved answer short small run reaches held found told = record {
-    any_moment = run;
-    undamaged = λ few text sound. weakens moment left_since old.disk new.disk _ _ run (λ image mid. undamaged_mid (may_leave old.disk) (held_of seen old) saved image (valid saved short (small few) text) sound mid);
+    meanwhile = run;
+    undamaged = λ few text sound. loosened clock left_at old.disk new.disk _ _ run (λ image mid. undamaged_mid (left_now old.disk) (held_of seen old) saved image (valid saved short (small few) text) sound mid);
     acknowledged = reaches;
     held = held;
     found = found;
@@ -113,19 +115,19 @@ module _ {D : Type 0} (seen : D → Option (List ℕ)) (may_leave : D → List �
   -- what is known between two saves
   record Reached (first : Option Saved) (attempts : List Attempt) (slots : Slots D) : Type 0 where
     told : (image : List ℕ) × (seen slots.disk ≡ Some image)
-    images : (c : List ℕ) → may_leave slots.disk c → (recovered c ≡ first) ⊎ IsOneOf attempts (recovered c)
+    images : (c : List ℕ) → left_now slots.disk c → (recovered c ≡ first) ⊎ IsOneOf attempts (recovered c)
     held : (held_of seen slots ≡ first) ⊎ IsOneOf attempts (held_of seen slots)
     acknowledged : All (Acknowledged (held_of seen slots)) attempts
 
-  reached_first : (slots : Slots D) → IsBegun seen may_leave slots → Reached (held_of seen slots) [] slots
+  reached_first : (slots : Slots D) → IsBegun seen left_now slots → Reached (held_of seen slots) [] slots
   reached_first slots begun = record {
     told = (begun.image, begun.seen_is);
-    images = λ c left. inl (ap recovered (begun.durable begun.image c begun.seen_is left) ∙ sym begun.opened.held_is);
+    images = λ c left. inl (ap recovered (same_image (sym (begun.durable c left) ∙ begun.seen_is)) ∙ sym begun.opened.held_is);
     held = inl refl;
     acknowledged = All-nil (Acknowledged (held_of seen slots));
   }
 
-  survives_image : (first : Option Saved) (earlier : List Attempt) (last : Attempt) (before : Slots D) (c : List ℕ) → Reached first earlier before → MidSave (may_leave before.disk) (held_of seen before) last.saved c → Survives first (last ∷ earlier) earlier (recovered c)
+  survives_image : (first : Option Saved) (earlier : List Attempt) (last : Attempt) (before : Slots D) (c : List ℕ) → Reached first earlier before → MidSave (left_now before.disk) (held_of seen before) last.saved c → Survives first (last ∷ earlier) earlier (recovered c)
   survives_image first earlier last before c reached mid = record {
     known = ⊎_elim
         (λ from. one_more first earlier last (recovered c) (one_of first earlier (recovered from.0) (recovered c) from.2 (reached.images from.0 from.1)))
@@ -137,8 +139,8 @@ module _ {D : Type 0} (seen : D → Option (List ℕ)) (may_leave : D → List �
     not_older = still_acknowledged earlier (held_of seen before) (recovered c) mid.not_below reached.acknowledged;
   }
 
-  survives_save : (first : Option Saved) (earlier : List Attempt) (last : Attempt) (before now : Slots D) → Reached first earlier before → Save last before now → LeavesOnly moment left_since before.disk now.disk (λ c. Survives first (last ∷ earlier) earlier (recovered c))
-  survives_save first earlier last before now reached save = weakens moment left_since before.disk now.disk _ _ save.any_moment (λ c mid. survives_image first earlier last before c reached mid)
+  survives_save : (first : Option Saved) (earlier : List Attempt) (last : Attempt) (before now : Slots D) → Reached first earlier before → Save last before now → Throughout clock left_at before.disk now.disk (λ c. Survives first (last ∷ earlier) earlier (recovered c))
+  survives_save first earlier last before now reached save = loosened clock left_at before.disk now.disk _ _ save.meanwhile (λ c mid. survives_image first earlier last before c reached mid)
 
   reached_next : (first : Option Saved) (earlier : List Attempt) (last : Attempt) (before now : Slots D) → Reached first earlier before → Save last before now → Reached first (last ∷ earlier) now
   reached_next first earlier last before now reached save =
@@ -147,7 +149,7 @@ module _ {D : Type 0} (seen : D → Option (List ℕ)) (may_leave : D → List �
       let run = survives_save first earlier last before now reached save in
       record {
         told = told;
-        images = λ c left. (run.each c (counts_now now.disk (moment before.disk) c run.later left)).known;
+        images = λ c left. (at_the_end clock left_at left_now present before.disk now.disk _ run c left).known;
         held = ⊎_elim
             (λ is. one_more first earlier last (held_of seen now) (one_of first earlier (held_of seen before) (held_of seen now) (held_is ∙ is) reached.held))
             (λ is. inr (inl (held_is ∙ is)))
@@ -157,21 +159,21 @@ module _ {D : Type 0} (seen : D → Option (List ℕ)) (may_leave : D → List �
             (still_acknowledged earlier (held_of seen before) (held_of seen now) (subst (λ held. rank (held_of seen before) ≤ rank held) (sym held_is) (held_later last.answer (held_of seen before) last.saved)) reached.acknowledged);
       }
 
-  reached : (earlier : List Attempt) (first before : Slots D) → IsBegun seen may_leave first → Saves Save earlier first before → Reached (held_of seen first) earlier before
+  reached : (earlier : List Attempt) (first before : Slots D) → IsBegun seen left_now first → Saves Save earlier first before → Reached (held_of seen first) earlier before
   reached [] first before begun is = subst (λ slots. Reached (held_of seen first) [] slots) (sym is) (reached_first first begun)
   reached (attempt ∷ earlier) first before begun from = reached_next (held_of seen first) earlier attempt from.0 before (reached earlier first from.0 begun from.1) from.2
 
-  pub survives : (first before now : Slots D) (earlier : List Attempt) (last : Attempt) → IsBegun seen may_leave first → Saves Save earlier first before → Save last before now
-      → LeavesOnly moment left_since before.disk now.disk (λ c. Survives (held_of seen first) (last ∷ earlier) earlier (recovered c))
+  pub survives : (first before now : Slots D) (earlier : List Attempt) (last : Attempt) → IsBegun seen left_now first → Saves Save earlier first before → Save last before now
+      → Throughout clock left_at before.disk now.disk (λ c. Survives (held_of seen first) (last ∷ earlier) earlier (recovered c))
   survives first before now earlier last begun saves save = survives_save (held_of seen first) earlier last before now (reached earlier first before begun saves) save
 
-  not_older_now : (earlier : List Attempt) (first now : Slots D) → IsBegun seen may_leave first → Saves Save earlier first now → (c : List ℕ) → may_leave now.disk c → All (Acknowledged (recovered c)) earlier
+  not_older_now : (earlier : List Attempt) (first now : Slots D) → IsBegun seen left_now first → Saves Save earlier first now → (c : List ℕ) → left_now now.disk c → All (Acknowledged (recovered c)) earlier
   not_older_now [] first now begun is c left = All-nil (Acknowledged (recovered c))
   not_older_now (attempt ∷ earlier) first now begun from c left =
       let run = survives_save (held_of seen first) earlier attempt from.0 now (reached earlier first from.0 begun from.1) from.2 in
-      All-cons (Acknowledged (recovered c)) attempt earlier (λ all. from.2.acknowledged all c left) (run.each c (counts_now now.disk (moment from.0.disk) c run.later left)).not_older
+      All-cons (Acknowledged (recovered c)) attempt earlier (λ all. from.2.acknowledged all c left) (at_the_end clock left_at left_now present from.0.disk now.disk _ run c left).not_older
 
-  pub survives_between : (first now : Slots D) (earlier : List Attempt) → IsBegun seen may_leave first → Saves Save earlier first now → (c : List ℕ) → may_leave now.disk c → Survives (held_of seen first) earlier earlier (recovered c)
+  pub survives_between : (first now : Slots D) (earlier : List Attempt) → IsBegun seen left_now first → Saves Save earlier first now → (c : List ℕ) → left_now now.disk c → Survives (held_of seen first) earlier earlier (recovered c)
   survives_between first now earlier begun saves c left = record {
     known = (reached earlier first now begun saves).images c left;
     not_older = not_older_now earlier first now begun saves c left;
@@ -189,16 +191,16 @@ module _ {D : Type 0} (seen : D → Option (List ℕ)) (may_leave : D → List �
   small_before : (earlier : List Attempt) (first before : Slots D) → Saves Save earlier first before → first.found ≤ 2 ^ 62 → before.found ≤ 2 ^ 62
   small_before earlier first before saves small = subst (λ n. n ≤ 2 ^ 62) (sym (found_same earlier first before saves)) small
 
-  sound : (earlier : List Attempt) (first before : Slots D) → IsBegun seen may_leave first → Saves Save earlier first before → first.found ≤ 2 ^ 62 → All IsOfTree earlier
-      → (c : List ℕ) → may_leave before.disk c → IsUndamaged c
+  sound : (earlier : List Attempt) (first before : Slots D) → IsBegun seen left_now first → Saves Save earlier first before → first.found ≤ 2 ^ 62 → All IsOfTree earlier
+      → (c : List ℕ) → left_now before.disk c → IsUndamaged c
   sound [] first before begun is small texts c left =
-      let left_first = subst (λ slots. may_leave slots.disk c) is left in
-      subst IsUndamaged (sym (begun.durable begun.image c begun.seen_is left_first)) begun.opened.sound
+      let left_first = subst (λ slots. left_now slots.disk c) is left in
+      subst IsUndamaged (same_image (sym begun.seen_is ∙ begun.durable c left_first)) begun.opened.sound
   sound (attempt ∷ earlier) first before begun from small texts c left =
       let run = from.2.undamaged (small_before earlier first from.0 from.1 small) (All-head IsOfTree attempt earlier texts) (sound earlier first from.0 begun from.1 small (All-tail IsOfTree attempt earlier texts)) in
-      run.each c (counts_now before.disk (moment from.0.disk) c run.later left)
+      at_the_end clock left_at left_now present from.0.disk before.disk _ run c left
 
-  pub undamaged : (first before now : Slots D) (earlier : List Attempt) (last : Attempt) → IsBegun seen may_leave first → Saves Save earlier first before → Save last before now
-      → first.found ≤ 2 ^ 62 → All IsOfTree (last ∷ earlier) → LeavesOnly moment left_since before.disk now.disk IsUndamaged
+  pub undamaged : (first before now : Slots D) (earlier : List Attempt) (last : Attempt) → IsBegun seen left_now first → Saves Save earlier first before → Save last before now
+      → first.found ≤ 2 ^ 62 → All IsOfTree (last ∷ earlier) → Throughout clock left_at before.disk now.disk IsUndamaged
   undamaged first before now earlier last begun saves save small texts =
       save.undamaged (small_before earlier first before saves small) (All-head IsOfTree last earlier texts) (sound earlier first before begun saves small (All-tail IsOfTree last earlier texts))

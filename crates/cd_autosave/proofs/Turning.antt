@@ -20,11 +20,10 @@ other_other Second = refl
 pub gate_room : (slot : Slot) → InRoom slot (start_of slot) 1
 gate_room slot = record { low = omega arith; high = omega arith }
 
-module _ {D : Type 0} (seen : D → Option (List ℕ)) (may_leave : D → List ℕ → Type 0) where
-  module _ (old : Slots D) (disk : D) (saved : Saved) (kept : IsKept seen may_leave old) (short : length saved.text ≤ MAX_KEPT_BYTES)
+module _ {D : Type 0} (seen : D → Option (List ℕ)) (left_now : D → List ℕ → Type 0) where
+  module _ (old : Slots D) (disk : D) (saved : Saved) (kept : IsKept seen left_now old) (short : length saved.text ≤ MAX_KEPT_BYTES)
       (filled : (image : List ℕ) → seen old.disk ≡ Some image → IsFilled (start_of old.next) saved image)
-      (steps : Steps (Written (start_of old.next) (1 ∷ [])) (seen old.disk) (seen disk)) (only : IsDurable (seen disk) (may_leave disk))
-      (told : (c : List ℕ) → may_leave disk c → (image : List ℕ) × (seen disk ≡ Some image)) where
+      (steps : Steps (Written (start_of old.next) (1 ∷ [])) (seen old.disk) (seen disk)) (only : IsDurable (seen disk) (left_now disk)) where
     abbrev turned : Slots D
     turned = record { disk = disk; found = old.found; held = Some saved.number; next = other old.next; gate = old.kept_gate; kept_gate = One; settled = true }
 
@@ -54,7 +53,7 @@ module _ {D : Type 0} (seen : D → Option (List ℕ)) (may_leave : D → List �
         }
 
     pub held_turned : (image : List ℕ) → seen disk ≡ Some image → held_of seen turned ≡ Some saved
-    held_turned image is = held_at seen may_leave turned image is ∙ ap (λ (s : Slot). slot_at image (start_of s)) (other_other old.next) ∙ (turned_image image is).keeps.same
+    held_turned image is = held_at seen left_now turned image is ∙ ap (λ (s : Slot). slot_at image (start_of s)) (other_other old.next) ∙ (turned_image image is).keeps.same
 
     turned_keeps : (image : List ℕ) → seen disk ≡ Some image → Keeps (other (other old.next)) (held_of seen turned) image
     turned_keeps image is =
@@ -69,10 +68,8 @@ module _ {D : Type 0} (seen : D → Option (List ℕ)) (may_leave : D → List �
       gate = λ settled_now. (turned_image image is).kept_gate;
     }
 
-    turned_images : (c : List ℕ) → may_leave disk c → Keeps (other (other old.next)) (held_of seen turned) c
-    turned_images c left =
-        let now = told c left in
-        subst (λ (image : List ℕ). Keeps (other (other old.next)) (held_of seen turned) image) (sym (only now.0 c now.1 left)) (turned_keeps now.0 now.1)
+    turned_images : (c : List ℕ) → left_now disk c → Keeps (other (other old.next)) (held_of seen turned) c
+    turned_images c left = turned_keeps c (only c left)
 
-    pub kept_turned : IsKept seen may_leave turned
+    pub kept_turned : IsKept seen left_now turned
     kept_turned = record { images = turned_images; notes = turned_notes; settled = λ settled_now. only; found = kept.found }

@@ -4,7 +4,7 @@ use Rattle.cd_tree.specs.declared.tree.Tree.{Tree}
 use Rattle.cd_outside.specs.declared.given.Given.{Given}
 use Rattle.cd_outside.specs.declared.given.Given.TheVariants as given
 use Rattle.cd_autosave.specs.Image.{Saved, recovered, rank}
-use Rattle.cd_autosave.specs.Disk.{IsDurable, LeavesOnly}
+use Rattle.cd_autosave.specs.Disk.{IsDurable, Throughout}
 use Rattle.cd_autosave.specs.Saving.{MidSave, StaysTold, held_of, held_after}
 use Rattle.cd_autosave.specs.Opening.{IsDamaged, IsOpened, IsTreeText}
 use Rattle.cd_autosave.specs.declared.slots.Slots.{Slots}
@@ -19,13 +19,13 @@ pub record Attempt : Type 0 where
   pub answer : Given
 
 -- One save.
-pub record IsSave {D : Type 0} (seen : D → Option (List ℕ)) (may_leave : D → List ℕ → Type 0) (moment : D → ℕ) (left_since : D → ℕ → List ℕ → Type 0) (attempt : Attempt) (old new : Slots D) : Type 0 where
+pub record IsSave {D : Type 0} (seen : D → Option (List ℕ)) (left_now : D → List ℕ → Type 0) (clock : D → ℕ) (left_at : D → ℕ → List ℕ → Type 0) (attempt : Attempt) (old new : Slots D) : Type 0 where
   -- at each moment of the call each image is one in the middle of it
-  pub any_moment : LeavesOnly moment left_since old.disk new.disk (MidSave (may_leave old.disk) (held_of seen old) attempt.saved)
+  pub meanwhile : Throughout clock left_at old.disk new.disk (MidSave (left_now old.disk) (held_of seen old) attempt.saved)
   -- none is damaged, where none was, and a tree's text was to be saved
-  pub undamaged : old.found ≤ 2 ^ 62 → IsTreeText attempt.saved.text → ((image : List ℕ) → may_leave old.disk image → IsUndamaged image) → LeavesOnly moment left_since old.disk new.disk IsUndamaged
+  pub undamaged : old.found ≤ 2 ^ 62 → IsTreeText attempt.saved.text → ((image : List ℕ) → left_now old.disk image → IsUndamaged image) → Throughout clock left_at old.disk new.disk IsUndamaged
   -- after it each image has a number that is not below this save's
-  pub acknowledged : attempt.answer ≡ given.All → (image : List ℕ) → may_leave new.disk image → attempt.saved.number < rank (recovered image)
+  pub acknowledged : attempt.answer ≡ given.All → (image : List ℕ) → left_now new.disk image → attempt.saved.number < rank (recovered image)
   -- the record that is held then, where the disk tells its bytes
   pub held : (image : List ℕ) → seen new.disk ≡ Some image → held_of seen new ≡ held_after attempt.answer (held_of seen old) attempt.saved
   pub found : new.found ≡ old.found
@@ -37,11 +37,11 @@ Saves {D = D} save [] first now = now ≡ first
 Saves {D = D} save (attempt ∷ earlier) first now = (before : Slots D) × Saves save earlier first before × save attempt before now
 
 -- the slots as a disk that tells its bytes is opened
-pub record IsBegun {D : Type 0} (seen : D → Option (List ℕ)) (may_leave : D → List ℕ → Type 0) (slots : Slots D) : Type 0 where
+pub record IsBegun {D : Type 0} (seen : D → Option (List ℕ)) (left_now : D → List ℕ → Type 0) (slots : Slots D) : Type 0 where
   pub image : List ℕ
   pub tree : Option Tree
   pub seen_is : seen slots.disk ≡ Some image
-  pub durable : IsDurable (seen slots.disk) (may_leave slots.disk)
+  pub durable : IsDurable (seen slots.disk) (left_now slots.disk)
   pub opened : IsOpened (held_of seen slots) slots.found tree image
 
 -- this is the record of one of these saves

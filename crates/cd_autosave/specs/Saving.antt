@@ -1,5 +1,5 @@
 -- What a saver keeps, and what a crash during a save may leave.
-use Rattle.std.specs.Prelude.{◌≡◌, ◌⊎◌, ℕ, ◌+◌, ◌<◌, ◌≤◌, ◌^◌, true, List, length, Option, Some, None, IfSome, option_map, option_and_then}
+use Rattle.std.specs.Prelude.{◌≡◌, ◌⊎◌, ℕ, ◌+◌, ◌<◌, ◌≤◌, true, List, length, Option, Some, None, IfSome, option_map, option_and_then}
 use Rattle.cd_outside.specs.declared.given.Given.{Given}
 use Rattle.cd_outside.specs.declared.given.Given.TheVariants as given
 use Rattle.cd_outside.specs.declared.limits.TheConstants.{MAX_KEPT_BYTES}
@@ -61,10 +61,10 @@ pub record Notes {D : Type 0} (slots : Slots D) (held : Option Saved) (image : L
   pub gate : slots.settled ≡ true → gate_at image (start_of slots.next) ≡ slots.gate
 
 -- what holds between two calls of a saver
-pub record IsKept {D : Type 0} (seen : D → Option (List ℕ)) (may_leave : D → List ℕ → Type 0) (slots : Slots D) : Type 0 where
-  pub images : (image : List ℕ) → may_leave slots.disk image → Keeps (other slots.next) (held_of seen slots) image
+pub record IsKept {D : Type 0} (seen : D → Option (List ℕ)) (left_now : D → List ℕ → Type 0) (slots : Slots D) : Type 0 where
+  pub images : (image : List ℕ) → left_now slots.disk image → Keeps (other slots.next) (held_of seen slots) image
   pub notes : (image : List ℕ) → seen slots.disk ≡ Some image → Notes slots (held_of seen slots) image
-  pub settled : slots.settled ≡ true → IsDurable (seen slots.disk) (may_leave slots.disk)
+  pub settled : slots.settled ≡ true → IsDurable (seen slots.disk) (left_now slots.disk)
   pub found : slots.found ≤ MAX_NUMBER
 
 -- the record that is held, the slots and the number found stay

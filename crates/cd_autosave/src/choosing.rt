@@ -91,11 +91,11 @@ pub struct Arranged<D> {
 
 // Keeps the slot with the greater number, so that the next save takes the other.
 pub fn arrange<D: Disk>(disk: D, both: FoundSlots) -> Arranged<D>
-    requires durable { IsDurable (D.seen disk) (D.may_leave disk) }
+    requires durable { IsDurable (D.seen disk) (D.left_now disk) }
     requires first { IfSome (D.seen disk) (λ image. IsFound slot.First image both.first) }
     requires second { IfSome (D.seen disk) (λ image. IsFound slot.Second image both.second) }
     ensures disk { result.slots.disk ≡ disk }
-    ensures kept { IsKept D.seen D.may_leave result.slots }
+    ensures kept { IsKept D.seen D.left_now result.slots }
     ensures sound { IfSome result.tree IsSound }
     ensures opened { IfSome (D.seen disk) (λ image. IsOpened (held_of D.seen result.slots) result.slots.found result.tree image) }
 {

@@ -21,7 +21,7 @@ pub struct Head {
 // Reads the head of the slot that begins there. `None` says that a call failed.
 pub fn read_head<D: Disk>(disk: &mut D, start: u64) -> Option<Head>
     requires { start < 2 ^ 32 }
-    ensures unchanged { IsUnchanged D.seen D.may_leave D.moment D.left_since disk.old disk.new }
+    ensures unchanged { IsUnchanged D.seen D.left_now D.clock D.left_at disk.old disk.new }
     ensures head { IfSome result (λ head. IfSome (D.seen disk.old) (λ image. IsHead start image head)) }
     ensures cause { Rises (D.faults disk.old) (D.faults disk.new) (result ≡ None) }
 {

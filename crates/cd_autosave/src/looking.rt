@@ -9,9 +9,9 @@ use cd_outside::{Given, Taken};
 // Syncs, and looks at a gate. `None` says that a call failed.
 pub fn look_at_gate<D: Disk>(disk: &mut D, start: u64) -> Option<Gate>
     requires { start < 2 ^ 32 }
-    ensures unchanged { IsUnchanged D.seen D.may_leave D.moment D.left_since disk.old disk.new }
+    ensures unchanged { IsUnchanged D.seen D.left_now D.clock D.left_at disk.old disk.new }
     ensures gate { IfSome result (λ gate. (image : List ℕ) → D.seen disk.old ≡ Some image → gate_at image start ≡ gate) }
-    ensures durable { IfSome result (λ gate. IsDurable (D.seen disk.new) (D.may_leave disk.new)) }
+    ensures durable { IfSome result (λ gate. IsDurable (D.seen disk.new) (D.left_now disk.new)) }
     ensures cause { Rises (D.faults disk.old) (D.faults disk.new) (result ≡ None) }
 {
     match disk.sync() {

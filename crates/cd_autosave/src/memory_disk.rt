@@ -3,8 +3,8 @@ ghost use Rattle.cd_outside.specs.declared.taken.Taken.TheVariants as taken;
 ghost use Rattle.cd_outside.specs.Taken.{IsTakenWithin};
 ghost use Rattle.cd_autosave.specs.declared.disk_call.DiskCall.TheVariants.{Wrote};
 ghost use Rattle.cd_autosave.specs.Disk.{ReadsAt};
-ghost use Rattle.cd_autosave.specs.Memory.{now_or, put, after_all, begun, IsImage, LeftSince};
-ghost use Rattle.cd_autosave.specs.MemoryLaws.{told_law, now_law, only_law};
+ghost use Rattle.cd_autosave.specs.Memory.{now_or, put, after_all, begun, IsImage, LeftAt};
+ghost use Rattle.cd_autosave.specs.MemoryLaws.{told_law, present_law};
 
 use crate::{Disk, DiskCall};
 use cd_outside::{Faults, Given, Taken};
@@ -112,17 +112,15 @@ impl Disk for MemoryDisk {
 
     ghost seen = { λ disk. Some (now_or disk.changed disk.first) };
 
-    ghost may_leave = { λ disk c. IsImage (after_all (begun disk.first) disk.calls) c };
+    ghost left_now = { λ disk c. IsImage (after_all (begun disk.first) disk.calls) c };
 
-    ghost moment = { λ disk. length disk.calls };
+    ghost clock = { λ disk. length disk.calls };
 
-    ghost left_since = { λ disk t c. LeftSince disk.first disk.calls t c };
+    ghost left_at = { λ disk n c. LeftAt disk.first disk.calls n c };
 
     ghost tells = { λ disk c left. told_law (now_or disk.changed disk.first) };
 
-    ghost counts_now = { λ disk t c le left. now_law disk.first disk.calls t c le left };
-
-    ghost only_now = { λ disk c left. only_law disk.first disk.calls c left };
+    ghost present = { λ disk. present_law disk.first disk.calls };
 
     fn read_at(&mut self, at: u64, into: &mut [u8]) -> Taken {
         if self.faults.fails() {

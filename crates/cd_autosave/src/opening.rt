@@ -50,7 +50,7 @@ fn read_tree<D: Disk>(
     room: &mut [u8],
 ) -> Result<Tree, SaveFault>
     requires { at + length room.old < 2 ^ 63 }
-    ensures unchanged { IsUnchanged D.seen D.may_leave D.moment D.left_since disk.old disk.new }
+    ensures unchanged { IsUnchanged D.seen D.left_now D.clock D.left_at disk.old disk.new }
     ensures long { length room.new ≡ length room.old }
     ensures sound { IfOk result IsSound }
     ensures tree { IfOk result (λ tree. IfSome (D.seen disk.old) (λ image. (at + length room.old ≤ length image) × (tree_of (bytes_at image at (length room.old)) ≡ Ok tree))) }
@@ -85,7 +85,7 @@ fn read_text<D: Disk>(
     requires small { head.number ≤ MAX_NUMBER }
     requires head { IfSome (D.seen disk.old) (λ image. IsHead (start_of slot) image head) }
     requires opens { head.open_slot ≡ true }
-    ensures unchanged { IsUnchanged D.seen D.may_leave D.moment D.left_since disk.old disk.new }
+    ensures unchanged { IsUnchanged D.seen D.left_now D.clock D.left_at disk.old disk.new }
     ensures record { IfOk result (λ found. IfSome (D.seen disk.old) (λ image. IsRecord slot image (saved_at image (start_of slot)) found)) }
     ensures damaged { result ≡ Err fault.Damaged → IfSome (D.seen disk.old) (λ image. IsInvalid (saved_at image (start_of slot))) }
     ensures cause { Rises (D.faults disk.old) (D.faults disk.new) (result ≡ Err fault.DiskFault) }
@@ -109,7 +109,7 @@ fn read_record<D: Disk>(
 ) -> Result<Record, SaveFault>
     requires head { IfSome (D.seen disk.old) (λ image. IsHead (start_of slot) image head) }
     requires opens { head.open_slot ≡ true }
-    ensures unchanged { IsUnchanged D.seen D.may_leave D.moment D.left_since disk.old disk.new }
+    ensures unchanged { IsUnchanged D.seen D.left_now D.clock D.left_at disk.old disk.new }
     ensures record { IfOk result (λ found. IfSome (D.seen disk.old) (λ image. IsRecord slot image (saved_at image (start_of slot)) found)) }
     ensures damaged { result ≡ Err fault.Damaged → IfSome (D.seen disk.old) (λ image. IsInvalid (saved_at image (start_of slot))) }
     ensures cause { Rises (D.faults disk.old) (D.faults disk.new) (result ≡ Err fault.DiskFault) }
@@ -128,7 +128,7 @@ fn read_record<D: Disk>(
 
 // Reads what a slot holds.
 fn look_at_slot<D: Disk>(alloc: Global, disk: &mut D, slot: Slot) -> Result<Found, SaveFault>
-    ensures unchanged { IsUnchanged D.seen D.may_leave D.moment D.left_since disk.old disk.new }
+    ensures unchanged { IsUnchanged D.seen D.left_now D.clock D.left_at disk.old disk.new }
     ensures found { IfOk result (λ found. IfSome (D.seen disk.old) (λ image. IsFound slot image found)) }
     ensures damaged { result ≡ Err fault.Damaged → IfSome (D.seen disk.old) (λ image. IsDamagedAt slot image) }
     ensures cause { Rises (D.faults disk.old) (D.faults disk.new) (result ≡ Err fault.DiskFault) }
@@ -154,8 +154,8 @@ fn look_at_slot<D: Disk>(alloc: Global, disk: &mut D, slot: Slot) -> Result<Foun
 
 // Syncs, and reads what both slots hold.
 pub fn look_at_both<D: Disk>(alloc: Global, disk: &mut D) -> Result<FoundSlots, SaveFault>
-    ensures unchanged { IsUnchanged D.seen D.may_leave D.moment D.left_since disk.old disk.new }
-    ensures durable { IfOk result (λ both. IsDurable (D.seen disk.new) (D.may_leave disk.new)) }
+    ensures unchanged { IsUnchanged D.seen D.left_now D.clock D.left_at disk.old disk.new }
+    ensures durable { IfOk result (λ both. IsDurable (D.seen disk.new) (D.left_now disk.new)) }
     ensures first { IfOk result (λ both. IfSome (D.seen disk.old) (λ image. IsFound slots.First image both.first)) }
     ensures second { IfOk result (λ both. IfSome (D.seen disk.old) (λ image. IsFound slots.Second image both.second)) }
     ensures damaged { result ≡ Err fault.Damaged → IfSome (D.seen disk.old) IsDamaged }
@@ -169,7 +169,7 @@ pub fn look_at_both<D: Disk>(alloc: Global, disk: &mut D) -> Result<FoundSlots, 
 
 // Reads what both slots hold.
 fn look_at_all<D: Disk>(alloc: Global, disk: &mut D) -> Result<FoundSlots, SaveFault>
-    ensures unchanged { IsUnchanged D.seen D.may_leave D.moment D.left_since disk.old disk.new }
+    ensures unchanged { IsUnchanged D.seen D.left_now D.clock D.left_at disk.old disk.new }
     ensures first { IfOk result (λ both. IfSome (D.seen disk.old) (λ image. IsFound slots.First image both.first)) }
     ensures second { IfOk result (λ both. IfSome (D.seen disk.old) (λ image. IsFound slots.Second image both.second)) }
     ensures damaged { result ≡ Err fault.Damaged → IfSome (D.seen disk.old) IsDamaged }
@@ -187,7 +187,7 @@ fn look_at_other<D: Disk>(
     disk: &mut D,
     first: Found,
 ) -> Result<FoundSlots, SaveFault>
-    ensures unchanged { IsUnchanged D.seen D.may_leave D.moment D.left_since disk.old disk.new }
+    ensures unchanged { IsUnchanged D.seen D.left_now D.clock D.left_at disk.old disk.new }
     ensures first { IfOk result (λ both. both.first ≡ first) }
     ensures second { IfOk result (λ both. IfSome (D.seen disk.old) (λ image. IsFound slots.Second image both.second)) }
     ensures damaged { result ≡ Err fault.Damaged → IfSome (D.seen disk.old) (λ image. IsDamagedAt slots.Second image) }

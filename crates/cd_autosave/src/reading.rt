@@ -9,7 +9,7 @@ use cd_outside::Taken;
 // `None` where a call failed.
 pub fn read_whole<D: Disk>(disk: &mut D, at: u64, into: &mut [u8]) -> Option<usize>
     requires { at + length into.old < 2 ^ 63 }
-    ensures unchanged { IsUnchanged D.seen D.may_leave D.moment D.left_since disk.old disk.new }
+    ensures unchanged { IsUnchanged D.seen D.left_now D.clock D.left_at disk.old disk.new }
     ensures long { length into.new ≡ length into.old }
     ensures bytes { IfSome result (λ count. IfSome (D.seen disk.old) (λ image. IsRead at into.new count image)) }
     ensures cause { Rises (D.faults disk.old) (D.faults disk.new) (result ≡ None) }

@@ -27,7 +27,7 @@ use std::alloc::Global;
 pub struct Saver<D: Disk> {
     slots: Slots<D>,
     rest: Vec<u8>,
-    ghost kept: { ∥ IsKept D.seen D.may_leave slots ∥₁ },
+    ghost kept: { ∥ IsKept D.seen D.left_now slots ∥₁ },
     ghost bound: { slots.found ≤ MAX_NUMBER },
     ghost room: { 12 + MAX_KEPT_BYTES ≤ vec_capacity rest },
 }
@@ -41,7 +41,7 @@ fn with_room(alloc: Global) -> Result<Vec<u8>, NoMemory>
 
 // The saver of a disk of which this was found, and the tree that was saved last.
 fn opened<D: Disk>(disk: D, both: FoundSlots, room: Vec<u8>) -> (Saver<D>, Option<Tree>)
-    requires durable { IsDurable (D.seen disk) (D.may_leave disk) }
+    requires durable { IsDurable (D.seen disk) (D.left_now disk) }
     requires first { IfSome (D.seen disk) (λ image. IsFound slot.First image both.first) }
     requires second { IfSome (D.seen disk) (λ image. IsFound slot.Second image both.second) }
     requires room { 12 + MAX_KEPT_BYTES ≤ vec_capacity room }
@@ -62,9 +62,9 @@ impl<D: Disk> Saver<D> {
     /// `Damaged` where a slot is open whose text is longer than `MAX_KEPT_BYTES`, whose number is above `MAX_NUMBER`, or whose
     /// text is no tree; `DiskFault` where a call on the disk failed; `NoMemory` out of memory.
     pub fn open(alloc: Global, disk: D) -> Result<(Saver<D>, Option<Tree>), (D, SaveFault)>
-        ensures unchanged { MatchResult result (λ r. IsUnchanged D.seen D.may_leave D.moment D.left_since disk r.0.slots.disk) (λ e. IsUnchanged D.seen D.may_leave D.moment D.left_since disk e.0) }
+        ensures unchanged { MatchResult result (λ r. IsUnchanged D.seen D.left_now D.clock D.left_at disk r.0.slots.disk) (λ e. IsUnchanged D.seen D.left_now D.clock D.left_at disk e.0) }
         ensures sound { IfOk result (λ r. IfSome r.1 IsSound) }
-        ensures durable { IfOk result (λ r. IsDurable (D.seen r.0.slots.disk) (D.may_leave r.0.slots.disk)) }
+        ensures durable { IfOk result (λ r. IsDurable (D.seen r.0.slots.disk) (D.left_now r.0.slots.disk)) }
         ensures opened { IfOk result (λ r. IfSome (D.seen disk) (λ image. IsOpened (held_of D.seen r.0.slots) r.0.slots.found r.1 image)) }
         ensures damaged { IfErr result (λ e. e.1 ≡ SaveFault.Damaged → IfSome (D.seen disk) IsDamaged) }
         ensures cause { MatchResult result (λ r. D.faults disk ≤ D.faults r.0.slots.disk) (λ e. Rises (D.faults disk) (D.faults e.0) (e.1 ≡ SaveFault.DiskFault)) }
@@ -81,7 +81,7 @@ impl<D: Disk> Saver<D> {
 
     // Over slots of which all this is known, with room for the rest of a slot.
     pub(crate) fn over(slots: Slots<D>, rest: Vec<u8>) -> Saver<D>
-        requires kept { IsKept D.seen D.may_leave slots }
+        requires kept { IsKept D.seen D.left_now slots }
         requires room { 12 + MAX_KEPT_BYTES ≤ vec_capacity rest }
         ensures { result.slots ≡ slots }
     {
@@ -95,7 +95,7 @@ impl<D: Disk> Saver<D> {
     /// The law `a_crash_leaves_what_was_saved` says what follows for many saves.
     pub fn save(&mut self, serial: u32, text: &[u8]) -> Given
         requires short { length text.now ≤ MAX_KEPT_BYTES }
-        ensures save { IsSave D.seen D.may_leave D.moment D.left_since (record { saved = record { number = self.old.slots.found + serial; text = text.now }; answer = result }) self.old.slots self.new.slots }
+        ensures save { IsSave D.seen D.left_now D.clock D.left_at (record { saved = record { number = self.old.slots.found + serial; text = text.now }; answer = result }) self.old.slots self.new.slots }
         ensures nothing { (held : ℕ) → self.old.slots.held ≡ Some held → self.old.slots.found + serial ≤ held → (result ≡ given.All) × (self.new.slots ≡ self.old.slots) }
         ensures cause { Rises (D.faults self.old.slots.disk) (D.faults self.new.slots.disk) (result ≡ given.Failed) }
     {

@@ -42,7 +42,7 @@ impl<D: Disk, K: SavingRun> SharedSaver<D, K> {
     pub(crate) fn save(&mut self, share: &mut Share<K>, serial: u32, text: &[u8]) -> Given
         requires part { share.old.parts ≡ 1 }
         requires short { length text.now ≤ MAX_KEPT_BYTES }
-        ensures save { IsSave D.seen D.may_leave D.moment D.left_since (record { saved = record { number = self.old.saver.slots.found + serial; text = text.now }; answer = result }) self.old.saver.slots self.new.saver.slots }
+        ensures save { IsSave D.seen D.left_now D.clock D.left_at (record { saved = record { number = self.old.saver.slots.found + serial; text = text.now }; answer = result }) self.old.saver.slots self.new.saver.slots }
         ensures nothing { (held : ℕ) → self.old.saver.slots.held ≡ Some held → self.old.saver.slots.found + serial ≤ held → (result ≡ given.All) × (self.new.saver.slots ≡ self.old.saver.slots) }
         ensures parts { share.new.parts ≡ 1 }
         ensures all { result ≡ given.All → share.new.amount ≡ share.old.amount }

@@ -3,14 +3,14 @@ use Rattle.std.proofs.Common.{◌≡◌, inl, inr, ℕ, ◌+◌, ◌-◌, ◌<�
 use Rattle.std.proofs.lemmas.Bool.{cases_lt}
 use Rattle.std.proofs.lemmas.List.{get_or_append_left, get_or-append-add}
 use Rattle.cd_autosave.specs.Image.{byte_at}
-use Rattle.cd_autosave.specs.Disk.{Written, Steps}
+use Rattle.cd_autosave.specs.Disk.{IsOutside, Written, Steps}
 use Rattle.cd_disk.specs.RawFile.{Writes}
 
 module _ (at : ℕ) (p q old mid new : List ℕ) (one : Written at p old mid) (two : Written (at + length p) q mid new) where
   byte_of : (i : ℕ) → i < length (p ++ q) → byte_at new (at + i) ≡ byte_at (p ++ q) i
   byte_of i low = elim (cases_lt i (length p)) [
     | inl first ↦
-        two.below (at + i) (omega (arith, first))
+        two.others (at + i) (inl (omega (arith, first)))
         ∙ one.piece_is i first
         ∙ sym (get_or_append_left p q 0 i first)
     | inr then' ↦
@@ -23,14 +23,19 @@ module _ (at : ℕ) (p q old mid new : List ℕ) (one : Written at p old mid) (t
         ∙ ap (λ (n : ℕ). byte_at (p ++ q) n) (sym split)
   ]
 
+  other_byte : (i : ℕ) → IsOutside at (length (p ++ q)) i → byte_at new i ≡ byte_at old i
+  other_byte i (inl low) = two.others i (inl (omega (arith, low))) ∙ one.others i (inl low)
+  other_byte i (inr high) =
+      two.others i (inr (omega (arith, length-append p q, high)))
+      ∙ one.others i (inr (omega (arith, length-append p q, high)))
+
   pub written_more : Written at (p ++ q) old new
   written_more =
       let both : length (p ++ q) ≡ length p + length q = length-append p q in
       record {
         long = omega (arith, both, one.long, two.long);
         piece_is = byte_of;
-        below = λ i low. two.below i (omega (arith, low)) ∙ one.below i low;
-        above = λ i high. two.above i (omega (arith, both, high)) ∙ one.above i (omega (arith, both, high));
+        others = other_byte;
       }
 
 -- two pieces, one after another

@@ -9,6 +9,6 @@ untold = None
 abbrev pub no_image : List ℕ → Type 0
 no_image image = ⊥
 
--- nor one that a crash might have left since a moment
-abbrev pub no_image_since : ℕ → List ℕ → Type 0
-no_image_since moment image = ⊥
+-- nor one that a crash leaves at a moment
+abbrev pub no_image_at : ℕ → List ℕ → Type 0
+no_image_at n image = ⊥

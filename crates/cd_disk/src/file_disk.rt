@@ -1,11 +1,11 @@
-ghost use Rattle.std.specs.Prelude.{◌≡◌, ◌<◌, ◌≤◌, ◌+◌, ◌^◌, true, false, List, ℕ, length, take, IsOk, IfOk, IfSome};
+ghost use Rattle.std.specs.Prelude.{◌≡◌, ◌⊎◌, ◌<◌, ◌≤◌, ◌+◌, ◌^◌, true, false, List, ℕ, length, take, IsOk, IfOk, IfSome};
 ghost use Rattle.cd_outside.specs.declared.taken.Taken.TheVariants as taken;
 ghost use Rattle.cd_outside.specs.declared.given.Given.TheVariants as given;
 ghost use Rattle.cd_outside.specs.Counts.{Rises};
 ghost use Rattle.cd_outside.specs.Taken.{IsTakenWithin};
-ghost use Rattle.cd_autosave.specs.Disk.{Torn, Written, ReadsAt, Steps, After, IsDurable, Elapses};
+ghost use Rattle.cd_autosave.specs.Disk.{PartWritten, Written, ReadsAt, Steps, MadeOf, IsAmong, IsDurable, IsUnchanged, Throughout};
 ghost use Rattle.cd_disk.specs.RawFile.{Writes};
-ghost use Rattle.cd_disk.specs.Untold.{untold, no_image, no_image_since};
+ghost use Rattle.cd_disk.specs.Untold.{untold, no_image, no_image_at};
 
 use crate::{RawFile, Warns};
 use cd_autosave::Disk;
@@ -132,25 +132,22 @@ impl<F: RawFile> Disk for FileDisk<F> {
 
     ghost seen = { λ _. untold };
 
-    ghost may_leave = { λ _. no_image };
+    ghost left_now = { λ _. no_image };
 
-    ghost moment = { λ _. 0 };
+    ghost clock = { λ _. 0 };
 
-    ghost left_since = { λ _. no_image_since };
+    ghost left_at = { λ _. no_image_at };
 
     ghost tells = { λ _ _ left. absurd left };
 
-    ghost counts_now = { λ _ _ _ _ left. absurd left };
+    ghost present = { λ _ _. (λ left. left, λ left. left) };
 
-    ghost only_now = { λ _ _ left. left };
-
+    #[tactic(auto, using(crate::proofs::Telling::nothing_changes))]
     fn read_at(&mut self, at: u64, into: &mut [u8]) -> Taken
         requires { 0 < length into.old }
         ensures bound { IsTakenWithin result (length into.new) }
         ensures bytes { IfSome untold (λ image. ReadsAt result at into.new image) }
-        ensures seen { untold ≡ untold }
-        ensures crash { (image : List ℕ) → no_image image → no_image image }
-        ensures time { Elapses 0 0 no_image_since no_image_since no_image }
+        ensures unchanged { IsUnchanged (λ _. untold) (λ _. no_image) (λ _. 0) (λ _. no_image_at) self.old self.new }
         ensures cause { Rises self.old.faults self.new.faults (result ≡ taken.Failed) }
 
         // of a file that tells its bytes they are those of the place
@@ -174,13 +171,14 @@ impl<F: RawFile> Disk for FileDisk<F> {
         }
     }
 
+    #[tactic(auto, using(crate::proofs::Telling::nothing_left))]
     fn write_at(&mut self, at: u64, piece: &[u8]) -> Given
         requires some { 0 < length piece.now }
         requires fits { at + length piece.now < 2 ^ 63 }
         ensures written { result ≡ given.All → Steps (Written at piece.now) untold untold }
-        ensures torn { Steps (Torn at (length piece.now)) untold untold }
-        ensures crash { (image : List ℕ) → no_image image → After (Torn at (length piece.now)) no_image image }
-        ensures time { Elapses 0 0 no_image_since no_image_since no_image }
+        ensures torn { Steps (PartWritten at (length piece.now)) untold untold }
+        ensures left { IsAmong no_image (MadeOf (PartWritten at (length piece.now)) no_image) }
+        ensures meanwhile { Throughout (λ _. 0) (λ _. no_image_at) self.old self.new (λ image. no_image image ⊎ no_image image) }
         ensures cause { Rises self.old.faults self.new.faults (result ≡ given.Failed) }
 
         // a file that tells its bytes has all of the piece
@@ -203,11 +201,10 @@ impl<F: RawFile> Disk for FileDisk<F> {
         }
     }
 
+    #[tactic(auto, using(crate::proofs::Telling::nothing_changes))]
     fn sync(&mut self) -> Given
         ensures durable { result ≡ given.All → IsDurable untold no_image }
-        ensures seen { untold ≡ untold }
-        ensures crash { (image : List ℕ) → no_image image → no_image image }
-        ensures time { Elapses 0 0 no_image_since no_image_since no_image }
+        ensures unchanged { IsUnchanged (λ _. untold) (λ _. no_image) (λ _. 0) (λ _. no_image_at) self.old self.new }
         ensures cause { Rises self.old.faults self.new.faults (result ≡ given.Failed) }
 
         ensures file { F.bytes self.new.file ≡ F.bytes self.old.file }

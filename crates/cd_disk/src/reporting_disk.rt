@@ -89,17 +89,15 @@ impl<'m, R: Wait, D: Disk + Explains + Warns, W: TakesNow> Disk for ReportingDis
 
     ghost seen = { λ one. D.seen one.disk };
 
-    ghost may_leave = { λ one. D.may_leave one.disk };
+    ghost left_now = { λ one. D.left_now one.disk };
 
-    ghost moment = { λ one. D.moment one.disk };
+    ghost clock = { λ one. D.clock one.disk };
 
-    ghost left_since = { λ one. D.left_since one.disk };
+    ghost left_at = { λ one. D.left_at one.disk };
 
     ghost tells = { λ one. D.tells one.disk };
 
-    ghost counts_now = { λ one. D.counts_now one.disk };
-
-    ghost only_now = { λ one. D.only_now one.disk };
+    ghost present = { λ one. D.present one.disk };
 
     fn read_at(&mut self, at: u64, into: &mut [u8]) -> Taken {
         let taken = self.disk.read_at(at, into);

@@ -15,9 +15,9 @@ returns-clause-kept g c =
     let next_too = c.other-2.ensures ∙ ap other c.choose-slot.ensures.slot in
     let gate_is = c.gate_of_slot.ensures ∙ ap (λ k. gate_for k first.gate second.gate) next_too in
     let kept_is = c.gate_of_slot-2.ensures ∙ ap (λ k. gate_for k first.gate second.gate) c.choose-slot.ensures.slot in
-    arranged_kept g.D.Disk.seen g.D.Disk.may_leave c.args.disk first second c.number_in-number.result held_r c.requires.first c.requires.second _
+    arranged_kept g.D.Disk.seen g.D.Disk.left_now c.args.disk first second c.number_in-number.result held_r c.requires.first c.requires.second _
     (slots_equal c.args.disk (kept_of first.held second.held) c.number_in-number.result first.gate second.gate _ _ _ _ found_is next_is gate_is kept_is)
-    c.requires.durable (g.met.D.Disk.tells c.args.disk) (small_count c.number_in-number.result c.number_in-number.ensures.small)
+    c.requires.durable (small_count c.number_in-number.result c.number_in-number.ensures.small)
 
 pub returns-clause-opened : goal.returns-clause-opened
 returns-clause-opened g c =
@@ -29,6 +29,6 @@ returns-clause-opened g c =
     let next_too = c.other-2.ensures ∙ ap other c.choose-slot.ensures.slot in
     let gate_is = c.gate_of_slot.ensures ∙ ap (λ k. gate_for k first.gate second.gate) next_too in
     let kept_is = c.gate_of_slot-2.ensures ∙ ap (λ k. gate_for k first.gate second.gate) c.choose-slot.ensures.slot in
-    arranged_opened g.D.Disk.seen g.D.Disk.may_leave c.args.disk first second c.number_in-number.result held_r c.requires.first c.requires.second _ _
+    arranged_opened g.D.Disk.seen g.D.Disk.left_now c.args.disk first second c.number_in-number.result held_r c.requires.first c.requires.second _ _
     (slots_equal c.args.disk (kept_of first.held second.held) c.number_in-number.result first.gate second.gate _ _ _ _ found_is next_is gate_is kept_is)
     (c.tree_in.ensures.tree ∙ ap (option_map (λ (f : Record). f.tree)) c.choose-slot.ensures.held)

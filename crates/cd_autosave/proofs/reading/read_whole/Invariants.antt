@@ -6,7 +6,7 @@ abbrev pub invariant-loop-done : goal.invariant-loop-done
 invariant-loop-done g l = record {
   inside : l.done ≤ length l.into;
   long : length l.into ≡ length l.initial.into;
-  unchanged : IsUnchanged g.D.Disk.seen g.D.Disk.may_leave g.D.Disk.moment g.D.Disk.left_since l.initial.disk l.disk;
+  unchanged : IsUnchanged g.D.Disk.seen g.D.Disk.left_now g.D.Disk.clock g.D.Disk.left_at l.initial.disk l.disk;
   each : (image : List ℕ) → g.D.Disk.seen l.initial.disk ≡ Some image → (i : ℕ) → i < l.done → slice_index l.into i ≡ slice_index image (l.at + i);
   there : (image : List ℕ) → g.D.Disk.seen l.initial.disk ≡ Some image → 0 < l.done → l.at + l.done ≤ length image;
   faults : g.D.Disk.faults l.initial.disk ≤ g.D.Disk.faults l.disk;

@@ -5,45 +5,45 @@ use Rattle.cd_autosave.proofs.Keeping.{then_told}
 use Rattle.cd_autosave.proofs.Writes.{not_held, rank_kept, begun_still, then_stands, held_newest}
 use Rattle.cd_autosave.proofs.slots.Slots.save.Goals as goal
 
-pub returns-then-has-clause-any_moment : goal.returns-then-has-clause-any_moment
-returns-then-has-clause-any_moment g c =
+pub returns-then-has-clause-meanwhile : goal.returns-then-has-clause-meanwhile
+returns-then-has-clause-meanwhile g c =
     let saved : Saved = record { number = c.args.number; text = c.args.text.now } in
-    begun_still g.D.Disk.seen g.D.Disk.may_leave g.D.Disk.moment g.D.Disk.left_since g.met.D.Disk.tells g.met.D.Disk.only_now c.args.self.now saved c.requires.kept
+    begun_still g.D.Disk.seen g.D.Disk.left_now g.D.Disk.clock g.D.Disk.left_at g.met.D.Disk.tells g.met.D.Disk.present c.args.self.now saved c.requires.kept
 
 pub returns-then-has-clause-acknowledged : goal.returns-then-has-clause-acknowledged
 returns-then-has-clause-acknowledged g c = λ all.
     let had = c.has.ensures.yes c.if-has.true in
-    rank_kept g.D.Disk.seen g.D.Disk.may_leave g.D.Disk.moment g.D.Disk.left_since g.met.D.Disk.tells c.args.self.now c.args.number had.0 c.requires.kept had.1 had.2
+    rank_kept g.D.Disk.seen g.D.Disk.left_now g.D.Disk.clock g.D.Disk.left_at g.met.D.Disk.tells c.args.self.now c.args.number had.0 c.requires.kept had.1 had.2
 
-pub returns-in-Failed-clause-any_moment : goal.returns-in-Failed-clause-any_moment
-returns-in-Failed-clause-any_moment g c =
+pub returns-in-Failed-clause-meanwhile : goal.returns-in-Failed-clause-meanwhile
+returns-in-Failed-clause-meanwhile g c =
     let saved : Saved = record { number = c.args.number; text = c.args.text.now } in
-    c.settle.ensures.any_moment saved
+    c.settle.ensures.meanwhile saved
 
-pub returns-in-Failed-shut-clause-any_moment : goal.returns-in-Failed-shut-clause-any_moment
-returns-in-Failed-shut-clause-any_moment g c =
+pub returns-in-Failed-shut-clause-meanwhile : goal.returns-in-Failed-shut-clause-meanwhile
+returns-in-Failed-shut-clause-meanwhile g c =
     let saved : Saved = record { number = c.args.number; text = c.args.text.now } in
-    then_stands g.D.Disk.seen g.D.Disk.may_leave g.D.Disk.moment g.D.Disk.left_since g.met.D.Disk.tells g.met.D.Disk.counts_now c.args.self.now c.settle.new.self c.shut.new.self.disk saved c.settle.ensures.stays.record_is
-    (c.settle.ensures.any_moment saved) (c.shut.ensures.any_moment saved)
+    then_stands g.D.Disk.seen g.D.Disk.left_now g.D.Disk.clock g.D.Disk.left_at g.met.D.Disk.tells g.met.D.Disk.present c.args.self.now c.settle.new.self c.shut.new.self.disk saved c.settle.ensures.stays.record_is
+    (c.settle.ensures.meanwhile saved) (c.shut.ensures.meanwhile saved)
 
-pub returns-in-Failed-fill-clause-any_moment : goal.returns-in-Failed-fill-clause-any_moment
-returns-in-Failed-fill-clause-any_moment g c =
+pub returns-in-Failed-fill-clause-meanwhile : goal.returns-in-Failed-fill-clause-meanwhile
+returns-in-Failed-fill-clause-meanwhile g c =
     let saved : Saved = record { number = c.args.number; text = c.args.text.now } in
-    let first = then_stands g.D.Disk.seen g.D.Disk.may_leave g.D.Disk.moment g.D.Disk.left_since g.met.D.Disk.tells g.met.D.Disk.counts_now c.args.self.now c.settle.new.self c.shut.new.self.disk saved c.settle.ensures.stays.record_is (c.settle.ensures.any_moment saved) (c.shut.ensures.any_moment saved) in
-    then_stands g.D.Disk.seen g.D.Disk.may_leave g.D.Disk.moment g.D.Disk.left_since g.met.D.Disk.tells g.met.D.Disk.counts_now c.args.self.now c.shut.new.self c.fill.new.self.disk saved (c.shut.ensures.stays.record_is ∙ c.settle.ensures.stays.record_is)
-    first c.fill.ensures.any_moment
+    let first = then_stands g.D.Disk.seen g.D.Disk.left_now g.D.Disk.clock g.D.Disk.left_at g.met.D.Disk.tells g.met.D.Disk.present c.args.self.now c.settle.new.self c.shut.new.self.disk saved c.settle.ensures.stays.record_is (c.settle.ensures.meanwhile saved) (c.shut.ensures.meanwhile saved) in
+    then_stands g.D.Disk.seen g.D.Disk.left_now g.D.Disk.clock g.D.Disk.left_at g.met.D.Disk.tells g.met.D.Disk.present c.args.self.now c.shut.new.self c.fill.new.self.disk saved (c.shut.ensures.stays.record_is ∙ c.settle.ensures.stays.record_is)
+    first c.fill.ensures.meanwhile
 
-pub returns-clause-any_moment : goal.returns-clause-any_moment
-returns-clause-any_moment g c =
+pub returns-clause-meanwhile : goal.returns-clause-meanwhile
+returns-clause-meanwhile g c =
     let saved : Saved = record { number = c.args.number; text = c.args.text.now } in
-    let first = then_stands g.D.Disk.seen g.D.Disk.may_leave g.D.Disk.moment g.D.Disk.left_since g.met.D.Disk.tells g.met.D.Disk.counts_now c.args.self.now c.settle.new.self c.shut.new.self.disk saved c.settle.ensures.stays.record_is (c.settle.ensures.any_moment saved) (c.shut.ensures.any_moment saved) in
-    let second = then_stands g.D.Disk.seen g.D.Disk.may_leave g.D.Disk.moment g.D.Disk.left_since g.met.D.Disk.tells g.met.D.Disk.counts_now c.args.self.now c.shut.new.self c.fill.new.self.disk saved (c.shut.ensures.stays.record_is ∙ c.settle.ensures.stays.record_is) first c.fill.ensures.any_moment in
-    then_stands g.D.Disk.seen g.D.Disk.may_leave g.D.Disk.moment g.D.Disk.left_since g.met.D.Disk.tells g.met.D.Disk.counts_now c.args.self.now c.fill.new.self c.open_gate.new.self.disk saved (c.fill.ensures.stays.record_is ∙ c.shut.ensures.stays.record_is ∙ c.settle.ensures.stays.record_is)
-    second c.open_gate.ensures.any_moment
+    let first = then_stands g.D.Disk.seen g.D.Disk.left_now g.D.Disk.clock g.D.Disk.left_at g.met.D.Disk.tells g.met.D.Disk.present c.args.self.now c.settle.new.self c.shut.new.self.disk saved c.settle.ensures.stays.record_is (c.settle.ensures.meanwhile saved) (c.shut.ensures.meanwhile saved) in
+    let second = then_stands g.D.Disk.seen g.D.Disk.left_now g.D.Disk.clock g.D.Disk.left_at g.met.D.Disk.tells g.met.D.Disk.present c.args.self.now c.shut.new.self c.fill.new.self.disk saved (c.shut.ensures.stays.record_is ∙ c.settle.ensures.stays.record_is) first c.fill.ensures.meanwhile in
+    then_stands g.D.Disk.seen g.D.Disk.left_now g.D.Disk.clock g.D.Disk.left_at g.met.D.Disk.tells g.met.D.Disk.present c.args.self.now c.fill.new.self c.open_gate.new.self.disk saved (c.fill.ensures.stays.record_is ∙ c.shut.ensures.stays.record_is ∙ c.settle.ensures.stays.record_is)
+    second c.open_gate.ensures.meanwhile
 
 pub returns-clause-acknowledged : goal.returns-clause-acknowledged
 returns-clause-acknowledged g c = λ all.
-    rank_kept g.D.Disk.seen g.D.Disk.may_leave g.D.Disk.moment g.D.Disk.left_since g.met.D.Disk.tells c.open_gate.new.self c.args.number c.args.number c.open_gate.ensures.kept (c.open_gate.ensures.number all) (omega arith)
+    rank_kept g.D.Disk.seen g.D.Disk.left_now g.D.Disk.clock g.D.Disk.left_at g.met.D.Disk.tells c.open_gate.new.self c.args.number c.args.number c.open_gate.ensures.kept (c.open_gate.ensures.number all) (omega arith)
 
 pub returns-in-Failed-clause-nothing : goal.returns-in-Failed-clause-nothing
 returns-in-Failed-clause-nothing g c = λ held is low. absurd (not_held c.args.self.now.held c.args.number held (c.has.ensures.no c.if-has.false) is low)
@@ -61,7 +61,7 @@ pub returns-then-has-clause-held : goal.returns-then-has-clause-held
 returns-then-has-clause-held g c = λ image is.
     let saved : Saved = record { number = c.args.number; text = c.args.text.now } in
     let had = c.has.ensures.yes c.if-has.true in
-    held_newest g.D.Disk.seen g.D.Disk.may_leave g.D.Disk.moment g.D.Disk.left_since g.met.D.Disk.tells c.args.self.now saved had.0 c.requires.kept had.1 had.2 image is
+    held_newest g.D.Disk.seen g.D.Disk.left_now g.D.Disk.clock g.D.Disk.left_at g.met.D.Disk.tells c.args.self.now saved had.0 c.requires.kept had.1 had.2 image is
 
 pub returns-in-Failed-clause-held : goal.returns-in-Failed-clause-held
 returns-in-Failed-clause-held g c = λ image is. c.settle.ensures.stays.record_is
