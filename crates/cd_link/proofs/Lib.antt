@@ -1,1 +1,4 @@
+pub mod LaneLemmas
+pub mod LifeLemmas
+pub mod StreamLemmas
 pub mod ToldLemmas

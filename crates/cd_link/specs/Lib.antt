@@ -1,1 +1,5 @@
 pub mod Came
+pub mod Lanes
+pub mod Life
+pub mod Links
+pub mod Streams
