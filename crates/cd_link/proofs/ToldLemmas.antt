@@ -1,28 +1,18 @@
 -- What is told of a call is what its clause allows.
-use Rattle.std.proofs.Common.{◌≡◌, ◌<◌, ◌++◌, ◌∙◌, ℕ, List, [], ◌∷◌, length, drop, Some, refl, sym, ap, subst}
-use Rattle.std.proofs.lemmas.List.{append-nil}
+use Rattle.std.proofs.Common.{◌≡◌, ◌<◌, ◌++◌, ◌∙◌, ℕ, List, [], ◌∷◌, length, take, drop, Some, refl, sym, ap, subst}
 use Rattle.cd_outside.specs.declared.past.Past.{Past}
-use Rattle.cd_outside.specs.declared.past.Connection.{Connection}
 use Rattle.cd_outside.specs.declared.received.Received.{Received}
 use Rattle.cd_outside.specs.declared.received.Received.TheVariants as received
-use Rattle.cd_outside.specs.declared.given.Given.TheVariants as given
+use Rattle.cd_outside.specs.declared.given.Given.{Given}
 use Rattle.cd_outside.specs.Given.{IsGivenOf}
-use Rattle.cd_outside.specs.Past.{with_last, after_put}
+use Rattle.cd_outside.specs.Past.{after_put}
 use Rattle.cd_outside.specs.Received.{IsReceived, after_receipt}
 use Rattle.cd_link.specs.Came.{came}
 
-with_same : (f : Connection → Connection) → ((c : Connection) → f c ≡ c) → (cs : List Connection) → with_last f cs ≡ cs
-with_same f is [] = refl
-with_same f is (c ∷ []) = ap (λ (x : Connection). x ∷ []) (is c)
-with_same f is (c ∷ d ∷ cs) = ap (λ (xs : List Connection). c ∷ xs) (with_same f is (d ∷ cs))
-
-put_none : (past : Past) → after_put [] past ≡ past
-put_none past = ap (λ (cs : List Connection). record past { connections = cs })
-    (with_same _ (λ c. ap (λ (p : List ℕ). record c { put = p }) (append-nil c.put)) past.connections)
-
--- to put nothing changes nothing, and a write that failed may have put nothing
-pub nothing_put : (piece : List ℕ) (told : Past) → 0 < length piece → (part : List ℕ) × IsGivenOf given.Failed part piece × (Some told ≡ Some (after_put part told))
-nothing_put piece told some = ([], (0, some, refl), ap Some (sym (put_none told)))
+-- a part that was given is reported
+pub tells_part : (r : Given) (n : ℕ) (piece : List ℕ) (told after : Past) → after ≡ after_put (take n piece) told → IsGivenOf r (take n piece) piece
+    → (part : List ℕ) × IsGivenOf r part piece × (Some after ≡ Some (after_put part told))
+tells_part r n piece told after is given = (take n piece, given, ap Some is)
 
 -- what follows a front
 behind : (xs ys : List ℕ) → drop (length xs) (xs ++ ys) ≡ ys

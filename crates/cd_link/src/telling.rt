@@ -3,13 +3,14 @@ ghost use Rattle.std.specs.Prelude.{◌≡◌, [], Some, None};
 use crate::Told;
 use crate::notes::{Accepts, GoesOn, Keeps, Logs, Puts, Reads, Receives};
 use cd_outside::{Accepted, Given, Key, Lane, Past, Received, Taken};
+use cd_stdio::{Gives, given_of};
 use cd_text::{List, Text};
 use cd_wire::Intake;
 use std::alloc::Global;
 use std::sync::Wait;
 
-/// A lane that reports what the calls of another have answered. Of a write that failed it reports that nothing was written, and of
-/// bytes that were lost as memory ran out that none came.
+/// A lane that reports what the calls of another have answered. Of a write that failed it reports the bytes that the other lane says
+/// were given, and of bytes that were lost as memory ran out that none came.
 pub struct Telling<L> {
     lane: L,
     told: Told<Past>,
@@ -47,7 +48,7 @@ impl<L> Telling<L> {
     }
 }
 
-impl<L: Lane> Lane for Telling<L> {
+impl<L: Gives> Lane for Telling<L> {
     ghost faults = { λ t. L.faults t.lane };
 
     ghost busy = { λ t. L.busy t.lane };
@@ -84,15 +85,13 @@ impl<L: Lane> Lane for Telling<L> {
         self.lane.rest();
     }
 
-    #[tactic(auto, using(crate::proofs::ToldLemmas::nothing_put))]
+    #[tactic(auto, using(crate::proofs::ToldLemmas::tells_part, cd_stdio::proofs::GivenParts::rises_for))]
     fn write(&mut self, piece: &[u8]) -> Given {
-        match self.lane.write(piece) {
-            Given::All => {
-                self.told = self.told.then::<Puts, GoesOn>(&Puts { part: piece });
-                Given::All
-            }
-            Given::Failed => Given::Failed,
-        }
+        let count = self.lane.give(piece);
+        self.told = self.told.then::<Puts, GoesOn>(&Puts {
+            part: &piece[..count],
+        });
+        given_of(count, piece)
     }
 
     fn log(&mut self, key: &Key, line: &Text) -> Given {

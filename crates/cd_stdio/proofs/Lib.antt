@@ -1,2 +1,3 @@
+pub mod GivenParts
 pub mod TakingNothing
 pub mod TakingOut

@@ -1,5 +1,5 @@
 -- What is taken out of the open writers, by the place of the first one of a name.
-use Rattle.std.proofs.Common.{◌≡◌, ℕ, ◌+◌, ◌≤◌, Bool, false, cond, ltb, List, [], ◌++◌, length, take, drop, Option, None, Some, sym, ◌∙◌, ap, ap₂, arith, rules, option_map, add-one}
+use Rattle.std.proofs.Common.{◌≡◌, ℕ, ◌+◌, ◌≤◌, Bool, false, cond, ltb, List, ◌++◌, length, take, drop, None, Some, sym, ◌∙◌, ap, ap₂, arith, rules, option_map, add-one}
 use Rattle.std.specs.List.{position, position_or_len, slice_get, remove}
 use Rattle.std.specs.Str.{bytes_eq}
 use Rattle.std.proofs.lemmas.List.{take_all, append-nil}

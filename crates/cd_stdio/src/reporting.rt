@@ -1,6 +1,6 @@
 ghost use Rattle.std.specs.Prelude.{◌≡◌};
 
-use crate::{Explains, Messages, TakesNow, caused_line, key_line};
+use crate::{Explains, Gives, Messages, TakesNow, caused_line, key_line};
 use cd_outside::{Accepted, Given, Key, Lane, Received, Taken};
 use cd_text::{NoMemory, Text};
 use cd_wire::Intake;
@@ -157,5 +157,11 @@ impl<'m, R: Wait, L: Lane + Explains, W: TakesNow> Lane for Reporting<'m, R, L, 
 
     fn end(&mut self) {
         self.lane.end();
+    }
+}
+
+impl<'m, R: Wait, L: Gives + Explains, W: TakesNow> Gives for Reporting<'m, R, L, W> {
+    fn give(&mut self, piece: &[u8]) -> usize {
+        self.lane.give(piece)
     }
 }

@@ -1,4 +1,4 @@
-ghost use Rattle.std.specs.Prelude.{◌≡◌, ◌<◌, List, ℕ, true, false, length, None, Some, IsTrue, option_map};
+ghost use Rattle.std.specs.Prelude.{◌≡◌, ◌<◌, ◌≤◌, List, ℕ, true, false, length, take as front, None, Some, IsTrue, option_map};
 ghost use Rattle.std.specs.Io.KnownBytes.{Appends};
 ghost use Rattle.cd_outside.specs.declared.taken.Taken.TheVariants as taken;
 ghost use Rattle.cd_outside.specs.declared.given.Given.TheVariants as given;
@@ -7,11 +7,13 @@ ghost use Rattle.cd_outside.specs.Counts.{Rises};
 ghost use Rattle.cd_outside.specs.Taken.{IsTakenWithin};
 ghost use Rattle.cd_outside.specs.Given.{IsGivenOf};
 ghost use Rattle.cd_outside.specs.Past.{after_accept, after_read, after_put, after_line, is_connection};
-ghost use Rattle.cd_stdio.specs.Moving.{Takes};
+ghost use Rattle.cd_stdio.specs.Moving.{Takes, GivesFront};
 ghost use Rattle.cd_stdio.specs.Names.{stream_at, is_standard};
 ghost use Rattle.cd_stdio.specs.declared.names.Stream.TheVariants.{Nowhere};
 
-use crate::{LogFile, OpenWriters, Stream, filename_of, give, stream_of, take};
+use crate::{
+    Gives, LogFile, OpenWriters, Stream, filename_of, give, given_of, put, stream_of, take,
+};
 use cd_outside::{Accepted, Address, Given, Key, Lane, Taken};
 use cd_text::Text;
 use std::alloc::Global;
@@ -99,6 +101,23 @@ impl<'r, R: Wait + Files<File = File>, I, O, E: Write> StreamLane<'r, R, I, O, E
     }
 }
 
+impl<'r, R: Wait + Files<File = File>, I, O: Write, E> StreamLane<'r, R, I, O, E> {
+    // Writes the piece to the output, and says how many of its bytes were given. Fewer than all are a fault.
+    #[tactic(auto, using(crate::proofs::GivenParts::rises_for))]
+    fn put(&mut self, piece: &[u8]) -> usize
+        ensures connected { self.new.connected ≡ self.old.connected }
+        ensures bound { result ≤ length piece.now }
+        ensures cause { Rises self.old.faults self.new.faults (result < length piece.now) }
+        ensures written { GivesFront result piece.now (O.contents self.old.output) (O.contents self.new.output) }
+    {
+        let count = put(&mut self.output, piece);
+        if count < piece.len() {
+            self.faults = self.faults.saturating_add(1);
+        }
+        count
+    }
+}
+
 // Appends the line to the file, which is opened where it has had none.
 fn append<R: Wait + Files<File = File>>(
     rt: &R,
@@ -178,6 +197,7 @@ impl<'r, R: Wait + Files<File = File>, I: Read, O: Write, E: Write> Lane
         taken
     }
 
+    #[tactic(auto, using(crate::proofs::GivenParts::untold_part, crate::proofs::GivenParts::rises_for, crate::proofs::GivenParts::whole_given))]
     fn write(&mut self, piece: &[u8]) -> Given
         requires busy { self.old.connected ≡ true }
         requires some { 0 < length piece.now }
@@ -188,13 +208,7 @@ impl<'r, R: Wait + Files<File = File>, I: Read, O: Write, E: Write> Lane
         // an output that tells its bytes has all of them
         ensures written { result ≡ given.All → Appends (O.contents self.old.output) (O.contents self.new.output) piece.now }
     {
-        match give(&mut self.output, piece) {
-            Given::All => Given::All,
-            Given::Failed => {
-                self.faults = self.faults.saturating_add(1);
-                Given::Failed
-            }
-        }
+        given_of(self.put(piece), piece)
     }
 
     /// A line for `stdout` goes to standard error too, since standard output has the answers. A file is opened at its first line,
@@ -225,5 +239,22 @@ impl<'r, R: Wait + Files<File = File>, I: Read, O: Write, E: Write> Lane
 
     fn end(&mut self) {
         self.connected = false;
+    }
+}
+
+impl<'r, R: Wait + Files<File = File>, I: Read, O: Write, E: Write> Gives
+    for StreamLane<'r, R, I, O, E> {
+    fn give(&mut self, piece: &[u8]) -> usize
+        requires busy { self.old.connected ≡ true }
+        requires some { 0 < length piece.now }
+        ensures busy { self.new.connected ≡ true }
+        ensures bound { result ≤ length piece.now }
+        ensures past { None ≡ option_map (after_put (front result piece.now)) None }
+        ensures cause { Rises self.old.faults self.new.faults (result < length piece.now) }
+
+        // an output that tells its bytes has these at least, and no others
+        ensures written { GivesFront result piece.now (O.contents self.old.output) (O.contents self.new.output) }
+    {
+        self.put(piece)
     }
 }

@@ -1,7 +1,7 @@
 //! What the forms of `cd_stdio` make of devices that fail.
 use crate::device::{Device, Unflushed};
 use cd_outside::{Accepted, Given, Lane, Sink, Source, Taken};
-use cd_stdio::{ConfigFile, ConfigSource, Console, StreamLane};
+use cd_stdio::{ConfigFile, ConfigSource, Console, StreamLane, put};
 use std::alloc::Global;
 use std::fs::{File, Files};
 use std::sync::Wait;
@@ -49,4 +49,9 @@ pub fn a_connection_fails_in_the_middle<R: Wait + Files<File = File>>(
 pub fn an_output_fails_when_it_is_flushed() -> bool {
     let mut console = Console::new(Unflushed);
     console.write(b"abc") == Given::Failed && console.faults == 1
+}
+
+/// A piece that could not be written whole is given as far as it was written, and not at all where it could not be flushed.
+pub fn a_failed_write_says_how_much_it_gave() -> bool {
+    put(&mut Device::new(), b"abcd") == 3 && put(&mut Unflushed, b"abc") == 0
 }

@@ -23,7 +23,8 @@ use cd_disk::{AUTOSAVE_FILE, AutosaveFile, FileDisk};
 use cd_stdio::{StreamLane, Writers};
 use failing::{
     a_configuration_fails_in_the_middle, a_connection_fails_in_the_middle,
-    an_output_fails_in_the_middle, an_output_fails_when_it_is_flushed,
+    a_failed_write_says_how_much_it_gave, an_output_fails_in_the_middle,
+    an_output_fails_when_it_is_flushed,
 };
 use saving::{
     a_disk_goes_on_after_a_short_write, a_disk_leaves_messages, a_failed_sync_ends_a_disk,
@@ -76,7 +77,9 @@ fn tell_devices<R: Wait + Print + Files<File = File> + AllocGlobal>(rt: &R) -> i
     )?;
     tell(rt, "a connection fails in the middle", connection)?;
     let flushed = an_output_fails_when_it_is_flushed();
-    tell(rt, "an output fails when it is flushed", flushed)
+    tell(rt, "an output fails when it is flushed", flushed)?;
+    let counted = a_failed_write_says_how_much_it_gave();
+    tell(rt, "a failed write says how much it gave", counted)
 }
 
 fn tell_messages<R: Wait + Print + AllocGlobal>(rt: &R, output: Stdout) -> io::Result<()> {

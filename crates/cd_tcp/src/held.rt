@@ -1,4 +1,4 @@
-ghost use Rattle.std.specs.Prelude.{◌≡◌, ◌<◌, [], List, ℕ, length, IsTrue};
+ghost use Rattle.std.specs.Prelude.{◌≡◌, ◌<◌, ◌≤◌, [], List, ℕ, length, take};
 ghost use Rattle.std.specs.Io.KnownBytes.{Appends};
 ghost use Rattle.cd_outside.specs.Received.{IsReceived};
 ghost use Rattle.cd_outside.specs.Taken.{IsTakenWithin};
@@ -70,9 +70,11 @@ impl<S: Patient> Held<S> {
         self.whole && self.connection.drained && self.connection.waiting.is_empty()
     }
 
-    /// Writes the whole piece, and says whether it was written: of a stream that tells its bytes, these are then its last ones.
-    pub fn write<R: Clock>(&mut self, rt: &R, reactor: &Reactor, piece: &[u8]) -> bool
-        ensures { IsTrue result → Appends (S.contents self.old.connection.stream) (S.contents self.new.connection.stream) piece.now }
+    /// Writes the piece, and says how many of its bytes were written, from its front: all of them, unless the write failed. Of a
+    /// stream that tells its bytes, these are then its last ones.
+    pub fn write<R: Clock>(&mut self, rt: &R, reactor: &Reactor, piece: &[u8]) -> usize
+        ensures bound { result ≤ length piece.now }
+        ensures bytes { Appends (S.contents self.old.connection.stream) (S.contents self.new.connection.stream) (take result piece.now) }
     {
         self.parting = Parting::Linger;
         write_whole(rt, reactor, &mut self.connection.stream, piece)

@@ -1,9 +1,11 @@
-ghost use Rattle.std.specs.Prelude.{◌≡◌, None, is_some};
+ghost use Rattle.std.specs.Prelude.{◌≡◌, ◌<◌, ◌≤◌, None, is_some, length};
+ghost use Rattle.cd_outside.specs.Counts.{Rises};
 
 use crate::connection::Connection;
 use crate::reactor::Next;
 use crate::{Held, Parting, Reactor};
 use cd_outside::{Accepted, Address, Given, Key, Lane, Received, Taken};
+use cd_stdio::{Gives, given_of};
 use cd_text::Text;
 use cd_wire::Intake;
 use std::alloc::Global;
@@ -91,6 +93,22 @@ impl<'d, R: Wait + Clock> TcpLane<'d, R> {
         unreachable!()
     }
 
+    // Writes the piece, and says how many of its bytes were given. Fewer than all are a fault.
+    fn put(&mut self, piece: &[u8]) -> usize
+        ensures busy { is_some self.new.held ≡ is_some self.old.held }
+        ensures bound { result ≤ length piece.now }
+        ensures cause { Rises self.old.faults self.new.faults (result < length piece.now) }
+    {
+        let Some(held) = &mut self.held else {
+            return piece.len();
+        };
+        let count = held.write(self.rt, self.reactor, piece);
+        if count < piece.len() {
+            self.faults = self.faults.saturating_add(1);
+        }
+        count
+    }
+
     fn try_log(&self, key: &Key, line: &Text) -> io::Result<()> {
         match key {
             Key::Listen(_) => Err(io::Error::from(ErrorKind::InvalidInput)),
@@ -157,16 +175,9 @@ impl<'d, R: Wait + Clock> Lane for TcpLane<'d, R> {
         }
     }
 
+    #[tactic(auto, using(cd_stdio::proofs::GivenParts::untold_part, cd_stdio::proofs::GivenParts::rises_for))]
     fn write(&mut self, piece: &[u8]) -> Given {
-        let Some(held) = &mut self.held else {
-            return Given::All;
-        };
-        if held.write(self.rt, self.reactor, piece) {
-            Given::All
-        } else {
-            self.faults = self.faults.saturating_add(1);
-            Given::Failed
-        }
+        given_of(self.put(piece), piece)
     }
 
     fn log(&mut self, key: &Key, line: &Text) -> Given {
@@ -189,6 +200,12 @@ impl<'d, R: Wait + Clock> Lane for TcpLane<'d, R> {
         if let Some(held) = self.held.take() {
             self.back = part(self.rt, self.reactor, held);
         }
+    }
+}
+
+impl<'d, R: Wait + Clock> Gives for TcpLane<'d, R> {
+    fn give(&mut self, piece: &[u8]) -> usize {
+        self.put(piece)
     }
 }
 

@@ -13,8 +13,8 @@
 //! `TcpPeers` are the way of a lane to upstreams: a connection for each exchange, which the lane waits for itself.
 //!
 //! The forms tell nothing of content. Proved is that each counts its faults and answers `Failed` only where the count rose,
-//! that a read never answers more bytes than there was room for, how long a client may be slow, how much is kept, and that nothing
-//! panics. What sockets and files do is tested.
+//! that a read never answers more bytes than there was room for, that a write says how many bytes a stream took that records its own, how
+//! long a client may be slow, how much is kept, and that nothing panics. What sockets and files do is tested.
 //!
 //! limits.rt has the numbers. Reading order: waiting, connection, sockets, events, turns, reactor, held, lane.
 #![tactic(auto)]

@@ -113,7 +113,7 @@ impl<'d, R: Net<Stream = TcpStream> + Clock> Peers for TcpPeers<'d, R> {
         let Some(stream) = &mut self.held else {
             return Given::All;
         };
-        if write_whole(self.rt, self.reactor, stream, piece) {
+        if write_whole(self.rt, self.reactor, stream, piece) == piece.len() {
             Given::All
         } else {
             self.cause = Some(io::Error::new(

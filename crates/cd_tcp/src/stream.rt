@@ -1,4 +1,4 @@
-ghost use Rattle.std.specs.Prelude.{◌≡◌, ◌<◌, ◌≤◌, length, take, drop, IsTrue, IfSome};
+ghost use Rattle.std.specs.Prelude.{◌≡◌, ◌<◌, ◌≤◌, [], length, take, drop, IfSome, IfNone};
 ghost use Rattle.std.specs.Io.KnownBytes.{Appends};
 ghost use Rattle.cd_tcp.specs.Got.{IsGotWithin, GetsBytes};
 
@@ -68,28 +68,32 @@ pub fn read_once<S: Read>(stream: &mut S, into: &mut [u8]) -> Got
     }
 }
 
-/// Writes the whole piece, and says whether it was written: of a stream that tells its bytes, these are then its last ones. A
-/// client that takes it too slowly is given up (pacing.rt). The clock is read only where the first write was not enough.
+/// Writes the piece, and says how many of its bytes were written, from its front: all of them, unless the write failed. Of a stream
+/// that tells its bytes, these are then its last ones. A client that takes it too slowly is given up (pacing.rt). The clock is read
+/// only where the first write was not enough.
+#[tactic(auto, using(cd_stdio::proofs::GivenParts::given_still, cd_stdio::proofs::GivenParts::nothing_given))]
 pub fn write_whole<R: Clock, S: Patient>(
     rt: &R,
     reactor: &Reactor,
     stream: &mut S,
     piece: &[u8],
-) -> bool
-    ensures { IsTrue result → Appends (S.contents stream.old) (S.contents stream.new) piece.now }
+) -> usize
+    ensures bound { result ≤ length piece.now }
+    ensures bytes { Appends (S.contents stream.old) (S.contents stream.new) (take result piece.now) }
 {
-    let mut left = piece;
+    let mut count = 0;
     let mut pace = Pace::new();
     for _ in 0..u64::MAX {
+        let left = rest_from(piece, count);
         if left.is_empty() {
-            return true;
+            return count;
         }
         match write_turn(rt, reactor, stream, left, &mut pace) {
-            Some(count) => left = rest_from(left, count),
-            None => return false,
+            Some(more) => count += more,
+            None => return count,
         }
     }
-    false
+    count
 }
 
 // Writes once, where the client has time left, and says how many bytes. After a first write that was not enough the others wait.
@@ -103,6 +107,7 @@ fn write_turn<R: Clock, S: Patient>(
     requires { 0 < length piece.now }
     ensures bound { IfSome result (λ count. count ≤ length piece.now) }
     ensures bytes { IfSome result (λ count. Appends (S.contents stream.old) (S.contents stream.new) (take count piece.now)) }
+    ensures none { IfNone result (Appends (S.contents stream.old) (S.contents stream.new) []) }
 {
     if pace.is_over(reactor.is_full()) {
         return None;
@@ -119,11 +124,12 @@ fn write_turn<R: Clock, S: Patient>(
 }
 
 // Writes once, and says how many bytes: none after a signal, and where none were taken for as long as a write waits.
-#[tactic(auto, using(crate::proofs::KeptBytes::kept_appends))]
+#[tactic(auto, using(cd_stdio::proofs::GivenParts::kept_given))]
 fn write_once<S: Write>(stream: &mut S, piece: &[u8]) -> Option<usize>
     requires { 0 < length piece.now }
     ensures bound { IfSome result (λ count. count ≤ length piece.now) }
     ensures bytes { IfSome result (λ count. Appends (S.contents stream.old) (S.contents stream.new) (take count piece.now)) }
+    ensures none { IfNone result (Appends (S.contents stream.old) (S.contents stream.new) []) }
 {
     match stream.write(piece) {
         Ok(0) => None,
