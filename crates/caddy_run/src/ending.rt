@@ -1,24 +1,43 @@
 //! What standard error says at the end.
+use crate::placed::Placed;
 use crate::words::config_name;
 use cd_stdio::{ConfigSource, Messages, TakesNow, caused_line, give};
 use cd_text::{NoMemory, Text};
+use cd_tree::JsonPlace;
 use std::alloc::Global;
 use std::io;
 use std::io::Write;
 use std::sync::Wait;
 
-/// Says why the file of the configuration could not be read, where that is so: its name, and the words of the system.
+/// Says why the file of the configuration could not be read, or where it stops being JSON, where that is so: its name, and the words
+/// of the system, or the place.
 pub fn tell_cause<W: Write, F>(
     alloc: Global,
     error: &mut W,
     words: &[Text],
-    config: &ConfigSource<F>,
+    config: &Placed<ConfigSource<F>>,
 ) {
-    if let (Some(name), Some(cause)) = (config_name(words), config.cause)
-        && let Ok(line) = cause_line(alloc, name, cause)
-    {
+    let Some(name) = config_name(words) else {
+        return;
+    };
+    if let Some(cause) = config.source.cause {
+        say(error, cause_line(alloc, name, cause));
+    }
+    if let Some(place) = config.place {
+        say(error, place_line(alloc, name, place));
+    }
+}
+
+fn say<W: Write>(error: &mut W, line: Result<Text, NoMemory>) {
+    if let Ok(line) = line {
         let _ = give(error, line.as_str().as_bytes());
     }
+}
+
+fn place_line(alloc: Global, name: &Text, place: JsonPlace) -> Result<Text, NoMemory> {
+    let JsonPlace { line, column } = place;
+    let words = format!(in alloc; "it is not JSON from line {line}, column {column} on")?;
+    caused_line(alloc, name.as_str(), words.as_str())
 }
 
 fn cause_line(alloc: Global, name: &Text, cause: io::Error) -> Result<Text, NoMemory> {

@@ -1,15 +1,17 @@
 //! The program: it gives `caddy_main` of `cd_program`, or `caddy_saved` of `cd_saved`, the real forms of the outside.
 //!
 //! `run` serves the lanes of a reactor, over TCP, by the forms of `cd_tcp`, and saves in a file of the current folder, by those of
-//! `cd_disk`. `reverse-proxy` relays what comes to such lanes, by `proxy_main` of `cd_reverse_proxy` (proxying.rt). `stdio` serves standard input and output, by those of
-//! `cd_stdio`; words that serve nothing get the same lane, and it comes back untouched. lanes.rt says how many lanes there are,
-//! words.rt reads the words and finds the file of the configuration, serving.rt calls `caddy_main`, and ending.rt says on standard
-//! error what has failed. Each lane reports what its calls have answered (`Telling` of `cd_link`), so the contract of `caddy_main` speaks
-//! of that. No contract speaks of what a stream, a socket or a file holds: tests/loopback looks at the program from outside.
+//! `cd_disk`. `reverse-proxy` relays what comes to such lanes, by `proxy_main` of `cd_reverse_proxy` (proxying.rt). `stdio` serves
+//! standard input and output, by those of `cd_stdio`; words that serve nothing get the same lane, and it comes back untouched.
+//! lanes.rt says how many lanes there are, words.rt reads the words and finds the file of the configuration, placed.rt says where
+//! that stops being JSON, serving.rt calls `caddy_main`, and ending.rt says on standard error what has failed. Each lane reports
+//! what its calls have answered (`Telling` of `cd_link`), so the contract of `caddy_main` speaks of that. No contract speaks of
+//! what a stream, a socket or a file holds: tests/loopback looks at the program from outside.
 #![tactic(auto)]
 
 mod ending;
 mod lanes;
+mod placed;
 mod proxying;
 mod serving;
 mod words;
@@ -20,10 +22,11 @@ use cd_stdio::{AfterMessages, Announced, Console, Messages, StreamLane, Watched}
 use cd_tcp::{Reactor, TcpFixtures};
 use ending::{tell_cause, tell_cut};
 use lanes::tcp_lanes;
+use placed::Placed;
 use proxying::{over_peers, tcp_peers};
 use serving::{over_disk, over_streams};
 use std::process::ExitCode;
-use words::{begins_with, config_source, words_of};
+use words::{begins_with, config_source, looks_for_json, words_of};
 
 fn main(rt: HostRuntime) -> ExitCode {
     let alloc = rt.alloc();
@@ -31,7 +34,7 @@ fn main(rt: HostRuntime) -> ExitCode {
         return ExitCode::from(5);
     };
     let words = words.as_slice();
-    let mut config = config_source(&rt, words);
+    let mut config = Placed::new(alloc, config_source(&rt, words), looks_for_json(words));
     let status = if begins_with(words, "run") {
         let Ok(error) = Watched::new(&rt, alloc, rt.stderr()) else {
             return ExitCode::from(5);

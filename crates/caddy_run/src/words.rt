@@ -35,6 +35,12 @@ pub fn config_name(words: &[Text]) -> Option<&Text> {
     }
 }
 
+/// Whether standard error is to say where the configuration stops being JSON. Under `adapt` it never is, and under `stdio` nothing is
+/// added.
+pub fn looks_for_json(words: &[Text]) -> bool {
+    begins_with(words, "run") || begins_with(words, "validate")
+}
+
 /// The file of the configuration.
 pub fn config_source<R: Files>(rt: &R, words: &[Text]) -> ConfigSource<R::File> {
     match config_name(words) {
