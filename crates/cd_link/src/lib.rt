@@ -1,7 +1,7 @@
 //! Connections that wait for nobody, and lanes that report what happened.
 //!
 //! A socket reports nothing of its past, so what is promised of a lane that reports says nothing of it. Two kinds of lanes here report,
-//! whatever is below them. `Telling` is a lane over any other (telling.rt). `LinkLane` is a lane over connections of the type `Link`
+//! whatever is below them. `Telling` is a lane over any other that says how much of a piece it gave (telling.rt). `LinkLane` is a lane over connections of the type `Link`
 //! (link.rt): such a connection receives and sends without waiting, keeps what has come until a lane takes it and what was written until
 //! its stream takes it, and its own type promises that no byte is lost, invented or swapped on the way. A `Doorway` gives connections to
 //! lanes and takes them back, so that many lanes serve a connection in turn. How slow a client may be is left to the doorway: a

@@ -2,14 +2,16 @@
 //! log writers over standard streams and a real file; and disks over files that do little, that are full, and real ones.
 //!
 //! device.rt has the devices. failing.rt has what the forms of `cd_stdio` make of them, telling.rt what becomes of messages, and
-//! appending.rt what log writers do with their lines. slow_file.rt has a file that does little at a time, and saving.rt what disks
-//! make of it and of real files. Each scene says whether all of it came out as it has to. Its
-//! name is printed, with `differs` where it did not. Lines that begin with two spaces are what the scenes themselves have written.
+//! appending.rt what log writers do with their lines. handing_on.rt has what a lane over another hands on to it. slow_file.rt has a
+//! file that does little at a time, and saving.rt what disks make of it and of real files. Each scene says whether all of it came out
+//! as it has to. Its name is printed, with `differs` where it did not. Lines that begin with two spaces are what the scenes themselves
+//! have written.
 #![tactic(auto)]
 
 mod appending;
 mod device;
 mod failing;
+mod handing_on;
 mod saving;
 mod slow_file;
 mod telling;
@@ -26,6 +28,7 @@ use failing::{
     a_failed_write_says_how_much_it_gave, an_output_fails_in_the_middle,
     an_output_fails_when_it_is_flushed,
 };
+use handing_on::a_lane_that_reports_hands_on;
 use saving::{
     a_disk_goes_on_after_a_short_write, a_disk_leaves_messages, a_failed_sync_ends_a_disk,
     a_file_has_what_was_saved, a_file_is_made_by_the_first_write, a_file_is_open_once,
@@ -39,7 +42,8 @@ use std::process::ExitCode;
 use std::sync::Wait;
 use std::thread::Threads;
 use telling::{
-    a_line_comes_after_messages, fixtures_leave_messages, messages_wait_for_their_writer,
+    a_line_comes_after_messages, a_name_is_shown, fixtures_leave_messages,
+    messages_wait_for_their_writer,
 };
 
 fn main(rt: HostRuntime) -> ExitCode {
@@ -88,7 +92,15 @@ fn tell_messages<R: Wait + Print + AllocGlobal>(rt: &R, output: Stdout) -> io::R
     let left = fixtures_leave_messages(rt, rt.alloc(), output);
     tell(rt, "fixtures leave messages", left == Ok(true))?;
     let after = a_line_comes_after_messages(rt, rt.alloc(), output);
-    tell(rt, "a line comes after messages", after == Ok(true))
+    tell(rt, "a line comes after messages", after == Ok(true))?;
+    let named = a_name_is_shown(rt, rt.alloc(), output);
+    tell(
+        rt,
+        "a name is shown without its control characters",
+        named == Ok(true),
+    )?;
+    let handed = a_lane_that_reports_hands_on(rt, rt.alloc(), output);
+    tell(rt, "a lane that reports hands on", handed)
 }
 
 fn tell_writers<R: Threads + Wait + Sync + Print + Files<File = File> + AllocGlobal>(

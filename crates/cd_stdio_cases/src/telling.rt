@@ -61,3 +61,14 @@ pub fn a_line_comes_after_messages<R: Wait>(
     messages.leave(rt, Text::from_str(alloc, "  a message\n")?);
     Ok(sink.write(b"  a line of the program\n") == Given::All)
 }
+
+/// Whether the name of a log writer is shown with its control characters as escapes, and all else as it is.
+pub fn a_name_is_shown<R: Wait>(rt: &R, alloc: Global, out: Stdout) -> Result<bool, NoMemory> {
+    let messages = Messages::new(alloc, Busy::new(0, out));
+    let mut fixtures = Announced::new(rt, alloc, OnePort::new(80), &messages);
+    let name = "file:\u{1b}[31m \r\n\u{0}\u{7f}\u{9b} \\x1b é 漢 \u{a0}|";
+    let writer = Key::Writer(Text::from_str(alloc, name)?);
+    let unopened = fixtures.open_key(&writer) == Opened::Failed;
+    messages.send(rt);
+    Ok(unopened)
+}
