@@ -1,5 +1,5 @@
 -- What is left to note after an object's own id, and before and after one element or member.
-use Rattle.std.proofs.Common.{◌≡◌, ℕ, ◌+◌, ◌<◌, List, [], ◌∷◌, ◌++◌, true, false, Ok, Err, length, map, get_or, drop, sym, ap, ◌∙◌, add-one}
+use Rattle.std.proofs.Common.{◌≡◌, ℕ, ◌+◌, ◌<◌, List, [], ◌∷◌, ◌++◌, Bool, false, Result, Ok, Err, length, map, get_or, drop, sym, ap, ap₂, ◌∙◌, add-one}
 use Rattle.std.specs.Prelude.{decimal, if◌then◌else◌}
 use Rattle.std.proofs.lemmas.List.{drop_more}
 use Rattle.cd_tree.specs.Path.{◌▸◌}
@@ -18,34 +18,39 @@ from_here xs i x within is = drop_more xs i x within ∙ ap (λ y. y ∷ drop (i
 
 -- ---- an object
 
-pub object_noted : (known more : List (List ℕ × Path)) (t : Tree) (members : List Member) (at : Path) → t ≡ Object members
-    → noted known (own (map walk_member members) at) ≡ Ok more → noted known ((walk t).inside at) ≡ noted more (in_members (map walk_member members) at)
-object_noted known more t members at is e = ap (λ u. noted known ((walk u).inside at)) is ∙ ap (noted known) (walk-Object members at) ∙ first_noted known more _ _ e
+module _ {K : Type 0} (step : K → List ℕ → Path → Result K IdFault) where
+  pub object_noted : (known more : K) (t : Tree) (members : List Member) (at : Path) → t ≡ Object members
+      → noted step known (own (map walk_member members) at) ≡ Ok more → noted step known ((walk t).inside at) ≡ noted step more (in_members (map walk_member members) at)
+  object_noted known more t members at is e = ap (λ u. noted step known ((walk u).inside at)) is ∙ ap (noted step known) (walk-Object members at) ∙ first_noted step known more _ _ e
 
-pub object_refused : (known : List (List ℕ × Path)) (fault : IdFault) (t : Tree) (members : List Member) (at : Path) → t ≡ Object members
-    → noted known (own (map walk_member members) at) ≡ Err fault → noted known ((walk t).inside at) ≡ Err fault
-object_refused known fault t members at is e = ap (λ u. noted known ((walk u).inside at)) is ∙ ap (noted known) (walk-Object members at) ∙ first_refused known fault _ _ e
+  pub object_refused : (known : K) (fault : IdFault) (t : Tree) (members : List Member) (at : Path) → t ≡ Object members
+      → noted step known (own (map walk_member members) at) ≡ Err fault → noted step known ((walk t).inside at) ≡ Err fault
+  object_refused known fault t members at is e = ap (λ u. noted step known ((walk u).inside at)) is ∙ ap (noted step known) (walk-Object members at) ∙ first_refused step known fault _ _ e
 
 -- ---- elements
 
 abbrev pub elements_left : List Tree → ℕ → Path → List Mark
 elements_left items i at = in_elements i (map walk (drop i items)) at
 
-split_elements : (items : List Tree) (i : ℕ) (t : Tree) (at : Path) → i < length items → t ≡ get_or items i t
-    → elements_left items i at ≡ (walk t).inside (at ▸ decimal i) ++ elements_left items (i + 1) at
-split_elements items i t at within is =
+split_elements : (items : List Tree) (i : ℕ) (t : Tree) (at here : Path) → i < length items → t ≡ get_or items i t → here ≡ at ▸ decimal i
+    → elements_left items i at ≡ (walk t).inside here ++ elements_left items (i + 1) at
+split_elements items i t at here within is place =
     ap (λ ts. in_elements i (map walk ts) at) (from_here items i t within is)
-    ∙ ap (λ n. (walk t).inside (at ▸ decimal i) ++ in_elements n (map walk (drop (i + 1) items)) at) (sym (add-one i))
+    ∙ ap₂ (λ path n. (walk t).inside path ++ in_elements n (map walk (drop (i + 1) items)) at) (sym place) (sym (add-one i))
 
-pub element_noted : (known more : List (List ℕ × Path)) (items : List Tree) (i : ℕ) (t : Tree) (at : Path) → i < length items → t ≡ get_or items i t
-    → noted known ((walk t).inside (at ▸ decimal i)) ≡ Ok more → noted more (elements_left items (i + 1) at) ≡ noted known (elements_left items i at)
-element_noted known more items i t at within is e =
-    sym (ap (noted known) (split_elements items i t at within is) ∙ first_noted known more _ _ e)
+module _ {K : Type 0} (step : K → List ℕ → Path → Result K IdFault) where
+  -- `whole` is what all elements come to
+  pub element_noted : (known more : K) (items : List Tree) (i : ℕ) (t : Tree) (at here : Path) (whole : Result K IdFault) → i < length items → t ≡ get_or items i t → here ≡ at ▸ decimal i
+      → noted step known ((walk t).inside here) ≡ Ok more → noted step known (elements_left items i at) ≡ whole → noted step more (elements_left items (i + 1) at) ≡ whole
+  element_noted known more items i t at here whole within is place e left =
+      sym (ap (noted step known) (split_elements items i t at here within is place) ∙ first_noted step known more _ _ e) ∙ left
 
-pub element_refused : (known : List (List ℕ × Path)) (fault : IdFault) (items : List Tree) (i : ℕ) (t : Tree) (at : Path) → i < length items → t ≡ get_or items i t
-    → noted known ((walk t).inside (at ▸ decimal i)) ≡ Err fault → noted known (elements_left items i at) ≡ Err fault
-element_refused known fault items i t at within is e =
-    ap (noted known) (split_elements items i t at within is) ∙ first_refused known fault _ _ e
+  pub element_refused : (known first : K) (fault : IdFault) (items given : List Tree) (i : ℕ) (t : Tree) (at here : Path) → items ≡ given → i < length items → t ≡ get_or items i t → here ≡ at ▸ decimal i
+      → noted step known ((walk t).inside here) ≡ Err fault → noted step known (elements_left items i at) ≡ noted step first (elements_left items 0 at)
+      → noted step first (in_elements 0 (map walk given) at) ≡ Err fault
+  element_refused known first fault items given i t at here same within is place e left =
+      ap (λ ts. noted step first (in_elements 0 (map walk ts) at)) (sym same) ∙ sym left
+      ∙ ap (noted step known) (split_elements items i t at here within is place) ∙ first_refused step known fault _ _ e
 
 -- ---- members
 
@@ -56,21 +61,25 @@ split_members : (members : List Member) (i : ℕ) (m : Member) (at : Path) → i
     → members_left members i at ≡ (if is_id_key (out-Member m).key then [] else (walk (out-Member m).value).inside (at ▸ (out-Member m).key)) ++ members_left members (i + 1) at
 split_members members i m at within is = ap (λ ms. in_members (map walk_member ms) at) (from_here members i m within is)
 
-pub member_skipped : (known : List (List ℕ × Path)) (members : List Member) (i : ℕ) (m : Member) (at : Path) → i < length members → m ≡ get_or members i m
-    → is_id_key (out-Member m).key ≡ true → noted known (members_left members (i + 1) at) ≡ noted known (members_left members i at)
-member_skipped known members i m at within is e =
-    sym (ap (noted known) (split_members members i m at within is ∙ ap (λ b. (if b then [] else (walk (out-Member m).value).inside (at ▸ (out-Member m).key)) ++ members_left members (i + 1) at) e))
+-- a member that is no `@id`
+split_other : (members : List Member) (i : ℕ) (m : Member) (at here : Path) (part : List ℕ) (is_id : Bool) → i < length members → m ≡ get_or members i m
+    → is_id ≡ is_id_key (out-Member m).key → is_id ≡ false → here ≡ at ▸ part → part ≡ (out-Member m).key
+    → members_left members i at ≡ (walk (out-Member m).value).inside here ++ members_left members (i + 1) at
+split_other members i m at here part is_id within is tested other place key =
+    split_members members i m at within is
+    ∙ ap₂ (λ b path. (if b then [] else (walk (out-Member m).value).inside path) ++ members_left members (i + 1) at) (sym tested ∙ other) (sym (place ∙ ap (λ name. at ▸ name) key))
 
-pub member_noted : (known more : List (List ℕ × Path)) (members : List Member) (i : ℕ) (m : Member) (at : Path) → i < length members → m ≡ get_or members i m
-    → is_id_key (out-Member m).key ≡ false → noted known ((walk (out-Member m).value).inside (at ▸ (out-Member m).key)) ≡ Ok more
-    → noted more (members_left members (i + 1) at) ≡ noted known (members_left members i at)
-member_noted known more members i m at within is key e =
-    sym (ap (noted known) (split_members members i m at within is ∙ ap (λ b. (if b then [] else (walk (out-Member m).value).inside (at ▸ (out-Member m).key)) ++ members_left members (i + 1) at) key)
-    ∙ first_noted known more _ _ e)
+module _ {K : Type 0} (step : K → List ℕ → Path → Result K IdFault) where
+  -- `whole` is what all members come to
+  pub member_noted : (known more : K) (members : List Member) (i : ℕ) (m : Member) (at here : Path) (part : List ℕ) (is_id : Bool) (whole : Result K IdFault) → i < length members → m ≡ get_or members i m
+      → is_id ≡ is_id_key (out-Member m).key → is_id ≡ false → here ≡ at ▸ part → part ≡ (out-Member m).key → noted step known ((walk (out-Member m).value).inside here) ≡ Ok more
+      → noted step known (members_left members i at) ≡ whole → noted step more (members_left members (i + 1) at) ≡ whole
+  member_noted known more members i m at here part is_id whole within is tested other place key e left =
+      sym (ap (noted step known) (split_other members i m at here part is_id within is tested other place key) ∙ first_noted step known more _ _ e) ∙ left
 
-pub member_refused : (known : List (List ℕ × Path)) (fault : IdFault) (members : List Member) (i : ℕ) (m : Member) (at : Path) → i < length members → m ≡ get_or members i m
-    → is_id_key (out-Member m).key ≡ false → noted known ((walk (out-Member m).value).inside (at ▸ (out-Member m).key)) ≡ Err fault
-    → noted known (members_left members i at) ≡ Err fault
-member_refused known fault members i m at within is key e =
-    ap (noted known) (split_members members i m at within is ∙ ap (λ b. (if b then [] else (walk (out-Member m).value).inside (at ▸ (out-Member m).key)) ++ members_left members (i + 1) at) key)
-    ∙ first_refused known fault _ _ e
+  pub member_refused : (known first : K) (fault : IdFault) (members given : List Member) (i : ℕ) (m : Member) (at here : Path) (part : List ℕ) (is_id : Bool) → members ≡ given → i < length members → m ≡ get_or members i m
+      → is_id ≡ is_id_key (out-Member m).key → is_id ≡ false → here ≡ at ▸ part → part ≡ (out-Member m).key → noted step known ((walk (out-Member m).value).inside here) ≡ Err fault
+      → noted step known (members_left members i at) ≡ noted step first (members_left members 0 at) → noted step first (in_members (map walk_member given) at) ≡ Err fault
+  member_refused known first fault members given i m at here part is_id same within is tested other place key e left =
+      ap (λ ms. noted step first (in_members (map walk_member ms) at)) (sym same) ∙ sym left
+      ∙ ap (noted step known) (split_other members i m at here part is_id within is tested other place key) ∙ first_refused step known fault _ _ e

@@ -15,8 +15,12 @@ with_id (Some first) known name at = Err (Repeated name first at)
 abbrev pub note : List (List ℕ × Path) → List ℕ → Path → Result (List (List ℕ × Path)) IdFault
 note known name at = with_id (path_of name known) known name at
 
--- one after another, until there is a fault
-abbrev pub noted : List (List ℕ × Path) → List Mark → Result (List (List ℕ × Path)) IdFault
-noted known [] = Ok known
-noted known (wrong at ∷ rest) = Err (BadKind at)
-noted known (named name at ∷ rest) = note known name at ▷ λ more. noted more rest
+-- one more id, which may be known already, without its path
+abbrev pub note_name : List (List ℕ) → List ℕ → Path → Result (List (List ℕ)) IdFault
+note_name known name at = Ok (known ++ name ∷ [])
+
+-- one after another, each by this step, until there is a fault
+abbrev pub noted : {K : Type 0} → (K → List ℕ → Path → Result K IdFault) → K → List Mark → Result K IdFault
+noted step known [] = Ok known
+noted step known (wrong at ∷ rest) = Err (BadKind at)
+noted step known (named name at ∷ rest) = step known name at ▷ λ more. noted step more rest

@@ -6,9 +6,10 @@ ghost use Rattle.cd_ids.specs.Ids.{path_of, index_of};
 ghost use Rattle.cd_ids.specs.Noting.{note};
 
 use crate::fault::IdFault;
+use crate::notes::Notes;
 use crate::walk::walk;
 use cd_text::Text;
-use cd_tree::{Path, Place, Tree};
+use cd_tree::{Path, Place, SharedText, Tree};
 use indexmap::IndexMap;
 use std::alloc::Global;
 use std::marker::Model;
@@ -61,7 +62,7 @@ impl Index {
     }
 
     /// Notes an id, unless it is there already.
-    pub(crate) fn note(&mut self, alloc: Global, id: Text, at: &Place<'_>) -> Result<(), IdFault>
+    fn add(&mut self, alloc: Global, id: Text, at: &Place<'_>) -> Result<(), IdFault>
         ensures { Gives IdFault.NoMemory (result_map_both (λ _. self.new) (λ fault. fault) result)
             (note self.old id at.now) }
     {
@@ -71,5 +72,15 @@ impl Index {
         }
         self.paths.insert(id.into_string(), at)?;
         Ok(())
+    }
+}
+
+impl Notes for Index {
+    ghost use Rattle.cd_ids.specs.Noting.{note};
+
+    ghost with = { note };
+
+    fn note(&mut self, alloc: Global, id: SharedText, at: &Place<'_>) -> Result<(), IdFault> {
+        self.add(alloc, id.copy(alloc)?, at)
     }
 }

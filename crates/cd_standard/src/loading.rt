@@ -9,7 +9,7 @@ use crate::judging::judge;
 use crate::listening::apps_of;
 use crate::planning::modules_of;
 use cd_admin::Admin;
-use cd_ids::{IdFault, Index};
+use cd_ids::IdFault;
 use cd_legal::Plan;
 use cd_log::Logs;
 use cd_module::{LoadFault, LoadKind, Settings};
@@ -69,8 +69,8 @@ fn load_settings(alloc: Global, tree: &Tree) -> Result<Configured, LoadFault>
 fn check_ids(alloc: Global, tree: &Tree) -> Result<(), LoadFault>
     ensures { Gives LoadFault.NoMemory result (of_ids (id_fault tree.now)) }
 {
-    match Index::build(alloc, tree) {
-        Ok(_) => Ok(()),
+    match cd_ids::check(alloc, tree) {
+        Ok(()) => Ok(()),
         Err(IdFault::Repeated(id, first, second)) => {
             Err(LoadFault::repeated_id(alloc, id.as_str(), &first, &second))
         }

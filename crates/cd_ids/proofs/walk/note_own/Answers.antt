@@ -6,11 +6,11 @@ use Rattle.cd_ids.proofs.Walks.{own_is, own_found}
 use Rattle.cd_ids.proofs.walk.note_own.Goals as goal
 
 pub returns-in-None : goal.returns-in-None
-returns-in-None c =
+returns-in-None g c =
     let at = c.args.at.now in
-    ap (noted c.args.index.now) (own_is c.args.members.now at ∙ ap (λ found. own_found found at) (ap (get id_key) (sym c.of_any.ensures) ∙ sym c.in-None.ensures.exact))
+    ap (noted g.N.Notes.with c.args.notes.now) (own_is c.args.members.now at ∙ ap (λ found. own_found found at) (ap (get id_key) (sym c.of_any.ensures) ∙ sym c.in-None.ensures.exact))
 
 pub returns-in-Some : goal.returns-in-Some
-returns-in-Some c =
+returns-in-Some g c =
     let at = c.args.at.now in
     rw (own_is c.args.members.now at ∙ ap (λ found. own_found found at) (ap (get id_key) (sym c.of_any.ensures) ∙ sym c.in-Some.ensures.exact)) c.note_claim.ensures

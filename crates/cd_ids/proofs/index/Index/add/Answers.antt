@@ -2,7 +2,7 @@ use Rattle.std.proofs.Common.{string_bytes, sym, ap, ap₂, ◌∙◌}
 use Rattle.cd_ids.specs.Ids.{path_of}
 use Rattle.cd_ids.specs.Noting.{note}
 use Rattle.cd_ids.proofs.Entries.{seen, noted_new}
-use Rattle.cd_ids.proofs.index.Index.note.Goals as goal
+use Rattle.cd_ids.proofs.index.Index.add.Goals as goal
 
 pub returns : goal.returns
 returns c =
