@@ -10,7 +10,7 @@ use std::sync::{Mutex, Wait};
 
 /// A lane that saves what it keeps, by a saver that it shares with others.
 ///
-/// Its past is that of the lane that it holds. Its faults are those of that lane and the ones that its own saves met.
+/// Its past is that of the lane that it holds, and so is what that tells of the time before. Its faults are those of that lane and the ones that its own saves met.
 pub struct SavingLane<'a, L: Lane, D: Disk, K: SavingRun> {
     pub lane: L,
     saver: &'a Mutex<SharedSaver<D, K>>,
@@ -54,6 +54,8 @@ impl<'a, L: Lane, D: Disk, K: SavingRun> Lane for SavingLane<'a, L, D, K> {
 
     ghost past = { λ one. L.past one.lane };
 
+    ghost since = { λ one. L.since one.lane };
+
     fn accept(&mut self) -> Accepted {
         self.lane.accept()
     }
@@ -84,6 +86,10 @@ impl<'a, L: Lane, D: Disk, K: SavingRun> Lane for SavingLane<'a, L, D, K> {
             Given::Failed => Given::Failed,
             Given::All => lane.keep(rt, serial, text),
         }
+    }
+
+    fn seen(&mut self, serial: u32) -> Given {
+        self.lane.seen(serial)
     }
 
     fn end(&mut self) {

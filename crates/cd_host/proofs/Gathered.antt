@@ -131,7 +131,7 @@ module _ (m : Meaning) (start found history : List Signed) where
   over-at how.Halted before now p past seen halted within running is = absurd (let e : true ≡ false = sym (halted-stays seen found within (halted refl)) ∙ running in cc)
 
   at-end-of : (k : ℕ) (s : ServedLane) (old new : Option Past) → IsLane m start found history k s → (own : List Placed) → (state_at found).halted ≡ false
-      → TellsOn (IsServed m k s.seen_now own s.lane.failed_before s.lane.failed_now s.end) old new → IfSome new (EndsAccepting s.lane.failed_before s.lane.failed_now)
+      → TellsOn (IsServed m k s.seen_now own s.lane.failed_before s.lane.failed_now s.end s.lane.since_before s.lane.since_now) old new → IfSome new (EndsAccepting s.lane.failed_before s.lane.failed_now)
   at-end-of k s None None l own running told = tt
   at-end-of k s (Some p) (Some past) l own running told = over-at s.end.how s.lane.failed_before s.lane.failed_now p past s.seen_now l.halted l.over running told.over
   at-end-of k s (Some p) None l own running told = absurd told

@@ -71,15 +71,15 @@ left-gone m served start lanes passes answered cut left none number same unanswe
 
 -- ---- lanes between two moments
 
-module _ {L : Type 0} (faults : L → ℕ) (past : L → Option Past) where
-  pub spans-length : (olds news : List L) → length news ≡ length olds → length (spans faults past olds news) ≡ length olds
+module _ {L : Type 0} (faults : L → ℕ) (past : L → Option Past) (since : L → Option (List ℕ)) where
+  pub spans-length : (olds news : List L) → length news ≡ length olds → length (spans faults past since olds news) ≡ length olds
   spans-length [] news same = refl
   spans-length (x ∷ xs) [] same = absurd (omega (arith, same))
   spans-length (x ∷ xs) (y ∷ ys) same = let rest = spans-length xs ys (omega (arith, same)) in omega (arith, rest)
 
-  pub spans-untouched : (lanes : List L) → AreUntouched (spans faults past lanes lanes)
+  pub spans-untouched : (lanes : List L) → AreUntouched (spans faults past since lanes lanes)
   spans-untouched [] = tt
-  spans-untouched (x ∷ xs) = (refl, refl, spans-untouched xs)
+  spans-untouched (x ∷ xs) = (refl, refl, refl, spans-untouched xs)
 
 -- ---- passes
 

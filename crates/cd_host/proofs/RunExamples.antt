@@ -32,13 +32,15 @@ abbrev lane_of : Option Accepted → ℕ → ℕ → Span
 lane_of last before now = record {
   told_before = Some (record { accept_faults = 0; last = None; connections = [] });
   told_now = Some (record { accept_faults = 0; last = last; connections = [] });
+  since_before = None;
+  since_now = None;
   failed_before = before;
   failed_now = now;
 }
 
 -- a lane that tells nothing
 abbrev silent : Span
-silent = record { told_before = None; told_now = None; failed_before = 0; failed_now = 0 }
+silent = record { told_before = None; told_now = None; since_before = None; since_now = None; failed_before = 0; failed_now = 0 }
 
 at_end : AreAtEnd (lane_of (Some accepted.Ended) 0 0 ∷ (silent ∷ (lane_of (Some accepted.Failed) 0 1 ∷ [])))
 at_end = (inl refl, (tt, (inr (refl, omega arith), tt)))
@@ -148,12 +150,12 @@ no_last : (m : Meaning) (t : Tree) (start : Start) (served : Bool) (given : Obse
 no_last m t start served given none ran = let e = sym none ∙ ran.last in cc
 
 stops_telling : (m : Meaning) (history : List Signed) (p : Past) (before now : ℕ) (ts : List (Option LaneReport))
-    → ReportsFrom m history 1 (record { told_before = Some p; told_now = None; failed_before = before; failed_now = now } ∷ []) ts → ⊥
+    → ReportsFrom m history 1 (record { told_before = Some p; told_now = None; since_before = None; since_now = None; failed_before = before; failed_now = now } ∷ []) ts → ⊥
 stops_telling m history p before now [] told = told
 stops_telling m history p before now (None ∷ ts) told = let e = told.0.0 in cc
 stops_telling m history p before now (Some t ∷ ts) told = let e = told.0.3 in cc
 
 no_silence : (m : Meaning) (t : Tree) (start : Start) (served : Bool) (given : Observed) (p : Past) (before now : ℕ)
-    → given.lanes ≡ record { told_before = Some p; told_now = None; failed_before = before; failed_now = now } ∷ [] → Ran m t start served given → ⊥
+    → given.lanes ≡ record { told_before = Some p; told_now = None; since_before = None; since_now = None; failed_before = before; failed_now = now } ∷ [] → Ran m t start served given → ⊥
 no_silence m t start served given p before now are ran =
     stops_telling m ran.history p before now ran.lanes.reports (rw are at ran.lanes.told)

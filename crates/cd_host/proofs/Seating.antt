@@ -52,39 +52,39 @@ module _ {A F B : Type 0} {g : _} (h : Hall A F B g) {L : Type 0} (seen : List S
 
 -- ---- slots that were served
 
-module _ {A F B : Type 0} {g : _} (h : Hall A F B g) {L : Type 0} (m : Meaning) (busy : L → Bool) (faults : L → ℕ) (past : L → Option Past) where
+module _ {A F B : Type 0} {g : _} (h : Hall A F B g) {L : Type 0} (m : Meaning) (busy : L → Bool) (faults : L → ℕ) (past : L → Option Past) (since : L → Option (List ℕ)) where
   abbrev S : Type 0
   S = Slot A F L B g
 
   -- a served slot by other names
-  pub served-as : (s t u v : S) → s ≡ u → t ≡ v → IsServedSlot h m busy faults past s t → IsServedSlot h m busy faults past u v
-  served-as s t u v before after served = subst (λ (x : S). IsServedSlot h m busy faults past x v) before (subst (λ (x : S). IsServedSlot h m busy faults past s x) after served)
+  pub served-as : (s t u v : S) → s ≡ u → t ≡ v → IsServedSlot h m busy faults past since s t → IsServedSlot h m busy faults past since u v
+  served-as s t u v before after served = subst (λ (x : S). IsServedSlot h m busy faults past since x v) before (subst (λ (x : S). IsServedSlot h m busy faults past since s x) after served)
 
   -- each slot with the one that it has become
   abbrev pub AllServed : List S → List S → Type 0
   AllServed [] [] = Unit {0}
-  AllServed (s ∷ ss) (t ∷ ts) = IsServedSlot h m busy faults past s t × AllServed ss ts
+  AllServed (s ∷ ss) (t ∷ ts) = IsServedSlot h m busy faults past since s t × AllServed ss ts
   AllServed [] (t ∷ ts) = ⊥
   AllServed (s ∷ ss) [] = ⊥
 
-  pub all-served : (ss ts : List S) → length ts ≡ length ss → ((i : ℕ) (d : S) → i < length ss → IsServedSlot h m busy faults past (get_or ss i d) (get_or ts i d)) → AllServed ss ts
+  pub all-served : (ss ts : List S) → length ts ≡ length ss → ((i : ℕ) (d : S) → i < length ss → IsServedSlot h m busy faults past since (get_or ss i d) (get_or ts i d)) → AllServed ss ts
   all-served [] [] same each = tt
   all-served (s ∷ ss) (t ∷ ts) same each = (each 0 s (omega arith), all-served ss ts (omega (arith, same)) (λ i d lt. each (suc i) d (omega (arith, lt))))
   all-served [] (t ∷ ts) same each = absurd (omega (arith, same))
   all-served (s ∷ ss) [] same each = absurd (omega (arith, same))
 
   abbrev served_of : S → S → Served
-  served_of s t = record { lane = span_of faults past s.lane t.lane; seen_before = (view s.pass).seen; seen_now = (view t.pass).seen; end = t.end }
+  served_of s t = record { lane = span_of faults past since s.lane t.lane; seen_before = (view s.pass).seen; seen_now = (view t.pass).seen; end = t.end }
 
   abbrev pub serveds : List S → List S → List Served
   serveds [] ts = []
   serveds (s ∷ ss) [] = []
   serveds (s ∷ ss) (t ∷ ts) = served_of s t ∷ serveds ss ts
 
-  serveds-lanes : (ss ts : List S) → lanes_of (serveds ss ts) ≡ spans faults past (map (λ slot. slot.lane) ss) (map (λ slot. slot.lane) ts)
+  serveds-lanes : (ss ts : List S) → lanes_of (serveds ss ts) ≡ spans faults past since (map (λ slot. slot.lane) ss) (map (λ slot. slot.lane) ts)
   serveds-lanes [] ts = refl
   serveds-lanes (s ∷ ss) [] = refl
-  serveds-lanes (s ∷ ss) (t ∷ ts) = ap (λ (l : List Span). span_of faults past s.lane t.lane ∷ l) (serveds-lanes ss ts)
+  serveds-lanes (s ∷ ss) (t ∷ ts) = ap (λ (l : List Span). span_of faults past since s.lane t.lane ∷ l) (serveds-lanes ss ts)
 
   serveds-length : (ss ts : List S) → AllServed ss ts → length (serveds ss ts) ≡ length ts
   serveds-length [] [] all = refl
@@ -107,7 +107,7 @@ module _ {A F B : Type 0} {g : _} (h : Hall A F B g) {L : Type 0} (m : Meaning) 
   serveds-cut (s ∷ ss) [] all = absurd all
 
   -- the pass of a slot
-  pub pass-idle : (k : ℕ) (s t : S) (seen : List Signed) → IsReady h seen k s → IsServedSlot h m busy faults past s t → IsIdleAt h k t.pass
+  pub pass-idle : (k : ℕ) (s t : S) (seen : List Signed) → IsReady h seen k s → IsServedSlot h m busy faults past since s t → IsIdleAt h k t.pass
   pass-idle k s t seen ready served = record { is = served.is; number = served.number ∙ ready.unused.idle.number; free = served.free }
 
   pub passes-idle : (k : ℕ) (ss ts : List S) (seen : List Signed) → AllFrom (IsReady h seen) k ss → AllServed ss ts → AllFrom (λ j slot. IsIdleAt h j slot.pass) k ts
@@ -117,7 +117,7 @@ module _ {A F B : Type 0} {g : _} (h : Hall A F B g) {L : Type 0} (m : Meaning) 
   passes-idle k (s ∷ ss) [] seen ready all = absurd all
 
   module _ (start found log : List Signed) where
-    lane-is : (k : ℕ) (s t : S) → IsReady h start k s → IsServedSlot h m busy faults past s t → IsPrefix (view t.pass).seen found → mine k log ≡ (view t.pass).mine → IsLane m start found log k (served_of s t)
+    lane-is : (k : ℕ) (s t : S) → IsReady h start k s → IsServedSlot h m busy faults past since s t → IsPrefix (view t.pass).seen found → mine k log ≡ (view t.pass).mine → IsLane m start found log k (served_of s t)
     lane-is k s t ready served within theirs =
         let number : (view s.pass).number ≡ k = ready.unused.idle.number in
         record {
@@ -128,7 +128,7 @@ module _ {A F B : Type 0} {g : _} (h : Hall A F B g) {L : Type 0} (m : Meaning) 
           own = served.own;
           added = subst (λ (n : ℕ). placed n (view t.pass).seen ≡ placed n (view s.pass).seen ++ served.own) number served.added;
           only = theirs ∙ served.adds ∙ ap (λ (l : List Signed). l ++ all_signed (view s.pass).number (placed_entries served.own)) ready.unused.mine ∙ ap (λ (n : ℕ). all_signed n (placed_entries served.own)) number;
-          served = subst (λ (n : ℕ). TellsOn (IsServed m n (view t.pass).seen served.own (faults s.lane) (faults t.lane) t.end) (past s.lane) (past t.lane)) number served.served;
+          served = subst (λ (n : ℕ). TellsOn (IsServed m n (view t.pass).seen served.own (faults s.lane) (faults t.lane) t.end (since s.lane) (since t.lane)) (past s.lane) (past t.lane)) number served.served;
           halted = served.halted;
         }
 
@@ -142,10 +142,10 @@ module _ {A F B : Type 0} {g : _} (h : Hall A F B g) {L : Type 0} (m : Meaning) 
   pub are-served : (start found : List Signed) (ss ts : List S) (olds news : List L) (passes : List (Pass (Board A F B g))) (answered cut : ℕ)
       → AllFrom (IsReady h start) 1 ss → AllServed ss ts → map (λ slot. slot.lane) ss ≡ olds → news ≡ map (λ slot. slot.lane) ts → passes ≡ map (λ slot. slot.pass) ts
       → AllFrom (IsWithin found) 1 passes → answered ≡ min (sum_by (λ slot. slot.end.answered) ts) count_end → cut ≡ min (sum_by (λ slot. slot.end.cut) ts) count_end
-      → AreServed m start found (spans faults past olds news) passes answered cut
+      → AreServed m start found (spans faults past since olds news) passes answered cut
   are-served start found ss ts olds news passes answered cut ready all before after moved within answers cuts = record {
     slots = serveds ss ts;
-    are = serveds-lanes ss ts ∙ ap (λ (l : List L). spans faults past l (map (λ slot. slot.lane) ts)) before ∙ ap (λ (l : List L). spans faults past olds l) (sym after);
+    are = serveds-lanes ss ts ∙ ap (λ (l : List L). spans faults past since l (map (λ slot. slot.lane) ts)) before ∙ ap (λ (l : List L). spans faults past since olds l) (sym after);
     count = serveds-length ss ts all ∙ sym (length-map ts (λ slot. slot.pass)) ∙ ap length (sym moved);
     answers = answers ∙ ap (λ (n : ℕ). min n count_end) (sym (serveds-answered ss ts all));
     cuts = cuts ∙ ap (λ (n : ℕ). min n count_end) (sym (serveds-cut ss ts all));

@@ -45,14 +45,14 @@ HasSaid how.NoMemory old new = new ≡ old
 -- ---- what is seen of it from outside
 
 -- what the fixtures, which were `before` and are `now`, and the lanes, which were `olds` and are `news`, tell of a run
-module _ {F L : Type 0} (calls : F → Option (List FixtureCall)) (failed : F → ℕ) (faults : L → ℕ) (past : L → Option Past) where
+module _ {F L : Type 0} (calls : F → Option (List FixtureCall)) (failed : F → ℕ) (faults : L → ℕ) (past : L → Option Past) (since : L → Option (List ℕ)) where
   abbrev pub observed_of : F → F → List L → List L → ℕ → ℕ → ℕ → Option Conf → Observed
   observed_of before now olds news answered published cut last = record {
     calls_before = calls before;
     calls_now = calls now;
     failed_before = failed before;
     failed_now = failed now;
-    lanes = spans faults past olds news;
+    lanes = spans faults past since olds news;
     answered = answered;
     published = published;
     cut = cut;

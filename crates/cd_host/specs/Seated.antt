@@ -25,10 +25,10 @@ use Rattle.cd_host.specs.Seats.{AllFrom}
 
 -- ---- lanes between two moments
 
-module _ {L : Type 0} (faults : L → ℕ) (past : L → Option Past) where
+module _ {L : Type 0} (faults : L → ℕ) (past : L → Option Past) (since : L → Option (List ℕ)) where
   -- one that was this and is that now
   abbrev pub span_of : L → L → Span
-  span_of old new = record { told_before = past old; told_now = past new; failed_before = faults old; failed_now = faults new }
+  span_of old new = record { told_before = past old; told_now = past new; since_before = since old; since_now = since new; failed_before = faults old; failed_now = faults new }
 
   abbrev pub spans : List L → List L → List Span
   spans [] news = []
@@ -37,7 +37,7 @@ module _ {L : Type 0} (faults : L → ℕ) (past : L → Option Past) where
 
 -- ---- a slot that was served
 
-module _ {A F B : Type 0} {g : _} (h : Hall A F B g) {L : Type 0} (m : Meaning) (busy : L → Bool) (faults : L → ℕ) (past : L → Option Past) where
+module _ {A F B : Type 0} {g : _} (h : Hall A F B g) {L : Type 0} (m : Meaning) (busy : L → Bool) (faults : L → ℕ) (past : L → Option Past) (since : L → Option (List ℕ)) where
   -- its pass has served its lane to the end, made these entries for that, and owes nothing
   pub record IsServedSlot (s t : Slot A F L B g) : Type 0 where
     pub is : IsPassOf h t.pass
@@ -49,7 +49,7 @@ module _ {A F B : Type 0} {g : _} (h : Hall A F B g) {L : Type 0} (m : Meaning) 
     pub own : List Placed
     pub added : placed (view s.pass).number (view t.pass).seen ≡ placed (view s.pass).number (view s.pass).seen ++ own
     pub adds : (view t.pass).mine ≡ (view s.pass).mine ++ all_signed (view s.pass).number (placed_entries own)
-    pub served : TellsOn (IsServed m (view s.pass).number (view t.pass).seen own (faults s.lane) (faults t.lane) t.end) (past s.lane) (past t.lane)
+    pub served : TellsOn (IsServed m (view s.pass).number (view t.pass).seen own (faults s.lane) (faults t.lane) t.end (since s.lane) (since t.lane)) (past s.lane) (past t.lane)
     pub halted : t.end.how ≡ how.Halted → (state_at (view t.pass).seen).halted ≡ true
 
 -- ---- lanes that were served

@@ -31,10 +31,10 @@ abbrev pub AreAtEnd : List Span → Type 0
 AreAtEnd [] = Unit {0}
 AreAtEnd (lane ∷ lanes) = IsAtEnd lane × AreAtEnd lanes
 
--- these lanes tell what they told, and have failed as often as they had
+-- these lanes tell what they told, have failed as often as they had, and tell the same of the time before their connections came
 abbrev pub AreUntouched : List Span → Type 0
 AreUntouched [] = Unit {0}
-AreUntouched (lane ∷ lanes) = (lane.told_now ≡ lane.told_before) × (lane.failed_now ≡ lane.failed_before) × AreUntouched lanes
+AreUntouched (lane ∷ lanes) = (lane.told_now ≡ lane.told_before) × (lane.failed_now ≡ lane.failed_before) × (lane.since_now ≡ lane.since_before) × AreUntouched lanes
 
 -- ---- lanes that were served
 
@@ -48,7 +48,7 @@ pub record IsLane (m : Meaning) (start found history : List Signed) (k : ℕ) (s
   pub own : List Placed
   pub added : placed k s.seen_now ≡ placed k s.seen_before ++ own
   pub only : mine k history ≡ all_signed k (placed_entries own)
-  pub served : TellsOn (IsServed m k s.seen_now own s.lane.failed_before s.lane.failed_now s.end) s.lane.told_before s.lane.told_now
+  pub served : TellsOn (IsServed m k s.seen_now own s.lane.failed_before s.lane.failed_now s.end s.lane.since_before s.lane.since_now) s.lane.told_before s.lane.told_now
   pub halted : s.end.how ≡ how.Halted → (state_at s.seen_now).halted ≡ true
 
 -- lane after lane, of which the first was served by pass k

@@ -87,7 +87,7 @@ where
     ensures back { AreBack hall.now L.busy root.old root.new passes.old.items passes.new.items lanes.old.items lanes.new.items }
     ensures passes_room { vec_capacity passes.old ≤ vec_capacity passes.new }
     ensures empty { slots.new.items ≡ [] }
-    ensures gone { AreGone (record { acts = M.acts; plan = M.plan }) (is_served how.now) (view root.old).seen (view root.new).seen (spans L.faults L.past lanes.old.items lanes.new.items) passes.new.items result.answered result.cut }
+    ensures gone { AreGone (record { acts = M.acts; plan = M.plan }) (is_served how.now) (view root.old).seen (view root.new).seen (spans L.faults L.past L.since lanes.old.items lanes.new.items) passes.new.items result.answered result.cut }
     ensures untouched { is_served how.now ≡ false → (lanes.new ≡ lanes.old) × (result.answered ≡ 0) × (result.cut ≡ 0) }
 {
     match how {
@@ -139,7 +139,7 @@ where
     requires idle { All (λ lane. L.busy lane ≡ false) lanes.items }
     ensures count { length result.lanes.items ≡ length lanes.items }
     ensures idle { All (λ lane. L.busy lane ≡ false) result.lanes.items }
-    ensures promises { Promises (record { acts = M.acts; plan = M.plan }) first.tree result.how (observed_of F.calls F.faults L.faults L.past (opening_of hall.gate).desk.fixtures result.fixtures lanes.items result.lanes.items result.answered result.published result.cut (option_map (λ last. conf_in last) result.last)) }
+    ensures promises { Promises (record { acts = M.acts; plan = M.plan }) first.tree result.how (observed_of F.calls F.faults L.faults L.past L.since (opening_of hall.gate).desk.fixtures result.fixtures lanes.items result.lanes.items result.answered result.published result.cut (option_map (λ last. conf_in last) result.last)) }
     ensures said { HasSaid result.how (O.holds out.old) (O.holds out.new) }
     ensures write_fault { result.how ≡ how.WriteFault → Rose (O.faults out.old) (O.faults out.new) }
     ensures later { O.faults out.old ≤ O.faults out.new }
@@ -226,7 +226,7 @@ where
     requires idle { All (λ lane. L.busy lane ≡ false) lanes.items }
     ensures count { length result.lanes.items ≡ length lanes.items }
     ensures idle { All (λ lane. L.busy lane ≡ false) result.lanes.items }
-    ensures promises { Promises (record { acts = M.acts; plan = M.plan }) first.tree result.how (observed_of F.calls F.faults L.faults L.past fixtures result.fixtures lanes.items result.lanes.items result.answered result.published result.cut (option_map (λ last. conf_in last) result.last)) }
+    ensures promises { Promises (record { acts = M.acts; plan = M.plan }) first.tree result.how (observed_of F.calls F.faults L.faults L.past L.since fixtures result.fixtures lanes.items result.lanes.items result.answered result.published result.cut (option_map (λ last. conf_in last) result.last)) }
     ensures said { HasSaid result.how (O.holds out.old) (O.holds out.new) }
     ensures refused { (key : Key) → result.how ≡ how.FirstRefused key → Rose (F.faults fixtures) (F.faults result.fixtures) }
     ensures write_fault { result.how ≡ how.WriteFault → Rose (O.faults out.old) (O.faults out.new) }

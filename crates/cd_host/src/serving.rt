@@ -35,7 +35,7 @@ where
     requires idle { All (λ slot. L.busy slot.lane ≡ false) slots.old }
     ensures length { length slots.new ≡ length slots.old }
     ensures served { (i : ℕ) (d : _) → i < length slots.old
-        → IsServedSlot hall.now (record { acts = M.acts; plan = M.plan }) L.busy L.faults L.past (slice_index_or slots.old i d) (slice_index_or slots.new i d) }
+        → IsServedSlot hall.now (record { acts = M.acts; plan = M.plan }) L.busy L.faults L.past L.since (slice_index_or slots.old i d) (slice_index_or slots.new i d) }
 {
     let threads = slots.len();
     thread::for_each_mut(
@@ -44,7 +44,7 @@ where
         threads,
         &|_, slot: &mut Slot<M, F, L>|
             requires { IsPassOf hall.now slot.now.pass × IsFree slot.now.pass × (L.busy slot.now.lane ≡ false) }
-            ensures { IsServedSlot hall.entry.now (record { acts = M.acts; plan = M.plan }) L.busy L.faults L.past slot.entry.now slot.exit.now }
+            ensures { IsServedSlot hall.entry.now (record { acts = M.acts; plan = M.plan }) L.busy L.faults L.past L.since slot.entry.now slot.exit.now }
         { serve_slot(rt, alloc, hall, slot) },
     );
 }
@@ -65,7 +65,7 @@ where
     ensures length { length slots.new.items ≡ length slots.old.items }
     ensures capacity { vec_capacity slots.new ≡ vec_capacity slots.old }
     ensures served { (i : ℕ) (d : _) → i < length slots.old.items
-        → IsServedSlot hall.now (record { acts = M.acts; plan = M.plan }) L.busy L.faults L.past (slice_index_or slots.old.items i d) (slice_index_or slots.new.items i d) }
+        → IsServedSlot hall.now (record { acts = M.acts; plan = M.plan }) L.busy L.faults L.past L.since (slice_index_or slots.old.items i d) (slice_index_or slots.new.items i d) }
 {
     serve_slots(rt, alloc, hall, slots.as_mut_slice());
 }
@@ -95,7 +95,7 @@ where
     ensures back { AreBack hall.now L.busy root.old root.new passes.old.items passes.new.items lanes.old.items lanes.new.items }
     ensures passes_room { vec_capacity passes.old ≤ vec_capacity passes.new }
     ensures empty { slots.new.items ≡ [] }
-    ensures served { AreServed (record { acts = M.acts; plan = M.plan }) (view root.old).seen (view root.new).seen (spans L.faults L.past lanes.old.items lanes.new.items) passes.new.items result.answered result.cut }
+    ensures served { AreServed (record { acts = M.acts; plan = M.plan }) (view root.old).seen (view root.new).seen (spans L.faults L.past L.since lanes.old.items lanes.new.items) passes.new.items result.answered result.cut }
 {
     seat(hall, root, passes, slots, lanes);
     serve_seated(rt, alloc, hall, slots);

@@ -30,7 +30,7 @@ pub fn serve_slot<R: Wait, M: Administered, F: Fixtures, L: Lane>(
     requires pass { IsPassOf hall.now slot.old.pass }
     requires free { IsFree slot.old.pass }
     requires idle { L.busy slot.old.lane ≡ false }
-    ensures { IsServedSlot hall.now (record { acts = M.acts; plan = M.plan }) L.busy L.faults L.past slot.old slot.new }
+    ensures { IsServedSlot hall.now (record { acts = M.acts; plan = M.plan }) L.busy L.faults L.past L.since slot.old slot.new }
 {
     slot.end = serve_lane(rt, alloc, hall, &mut slot.pass, &mut slot.lane);
 }

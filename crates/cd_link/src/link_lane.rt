@@ -73,6 +73,8 @@ impl<S: Stream, D: Doorway<Link<S>>> Lane for LinkLane<S, D> {
 
     ghost past = { λ lane. Some (past_of lane.over.value (option_map (λ link. link.life.value) lane.held)) };
 
+    ghost since = { λ _. None };
+
     fn accept(&mut self) -> Accepted {
         let (accepted, held) = come(&mut self.door);
         self.over = self.over.then::<Answers, GoesOn>(&Answers {
@@ -141,6 +143,10 @@ impl<S: Stream, D: Doorway<Link<S>>> Lane for LinkLane<S, D> {
             unreachable!();
         };
         link.note_keep(Given::All, serial, text);
+        Given::All
+    }
+
+    fn seen(&mut self, _serial: u32) -> Given {
         Given::All
     }
 

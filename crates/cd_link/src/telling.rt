@@ -2,8 +2,7 @@ ghost use Rattle.std.specs.Prelude.{◌≡◌, [], Some, None};
 
 use crate::Told;
 use crate::notes::{Accepts, GoesOn, Keeps, Logs, Puts, Reads, Receives};
-use cd_outside::{Accepted, Given, Key, Lane, Past, Received, Taken};
-use cd_stdio::{Gives, given_of};
+use cd_outside::{Accepted, Given, Gives, Key, Lane, Past, Received, Taken, given_of};
 use cd_text::{List, Text};
 use cd_wire::Intake;
 use std::alloc::Global;
@@ -54,6 +53,8 @@ impl<L: Gives> Lane for Telling<L> {
     ghost busy = { λ t. L.busy t.lane };
 
     ghost past = { λ t. Some t.told.value };
+
+    ghost since = { λ t. L.since t.lane };
 
     fn accept(&mut self) -> Accepted {
         let accepted = self.lane.accept();
@@ -108,6 +109,10 @@ impl<L: Gives> Lane for Telling<L> {
             text,
         });
         given
+    }
+
+    fn seen(&mut self, serial: u32) -> Given {
+        self.lane.seen(serial)
     }
 
     fn end(&mut self) {

@@ -2,6 +2,7 @@ pub mod Counts
 pub mod Taken
 pub mod Given
 pub mod Past
+pub mod Since
 pub mod Keys
 pub mod FixtureCall
 pub mod Telling

@@ -1,3 +1,4 @@
+-- Part of the main theorem.
 -- What is told before and after.
 use Rattle.std.specs.Prelude.{Option, Some, None}
 

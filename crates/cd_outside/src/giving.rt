@@ -4,7 +4,7 @@ ghost use Rattle.cd_outside.specs.Counts.{Rises};
 ghost use Rattle.cd_outside.specs.Given.{IsGivenOf};
 ghost use Rattle.cd_outside.specs.Past.{after_put};
 
-use cd_outside::{Given, Lane};
+use crate::{Given, Lane};
 
 /// A lane that says how much of a piece was given, also where the write failed.
 pub trait Gives: Lane {

@@ -9,6 +9,7 @@ ghost use Rattle.cd_outside.specs.Received.{IsReceived, after_receipt};
 ghost use Rattle.cd_outside.specs.Taken.{IsTakenWithin};
 ghost use Rattle.cd_outside.specs.Given.{IsGivenOf};
 ghost use Rattle.cd_outside.specs.Past.{after_accept, after_read, after_put, after_line, after_keep, is_connection};
+ghost use Rattle.cd_outside.specs.Since.{SinceAccept, CameWith};
 
 use crate::limits::MAX_KEPT_BYTES;
 use crate::{Accepted, Given, Key, Received, Taken};
@@ -27,11 +28,15 @@ pub trait Lane {
     /// What has happened so far, where it tells it.
     ghost past: { Self → Option Told };
 
+    /// Of each connection that came, the serial under which a request had last begun on it before, 0 where none had, where it tells it.
+    ghost since: { Self → Option (List ℕ) };
+
     /// Waits for the next connection. None may be there.
     fn accept(&mut self) -> Accepted
         requires { busy self.old ≡ false }
         ensures busy { busy self.new ≡ is_connection result }
         ensures past { past self.new ≡ option_map (after_accept result) (past self.old) }
+        ensures since { SinceAccept (since self.old) result (since self.new) }
         ensures cause { Rises (faults self.old) (faults self.new) (result ≡ accepted.Failed) };
 
     /// Reads the next bytes of the connection into the front of `into`, which may not be empty.
@@ -41,6 +46,7 @@ pub trait Lane {
         ensures busy { busy self.new ≡ true }
         ensures bound { IsTakenWithin result (length into.new) }
         ensures past { past self.new ≡ option_map (after_read result into.new) (past self.old) }
+        ensures since { since self.new ≡ since self.old }
         ensures cause { Rises (faults self.old) (faults self.new) (result ≡ taken.Failed) };
 
     /// Reads the next bytes of the connection behind those that an intake has. A lane that has read them before gives them with what it
@@ -50,6 +56,7 @@ pub trait Lane {
         requires room { 0 < length room.old }
         ensures busy { busy self.new ≡ true }
         ensures past { (piece : List ℕ) × IsReceived result piece into.old into.new × (past self.new ≡ option_map (after_receipt result piece) (past self.old)) }
+        ensures since { since self.new ≡ since self.old }
         ensures cause { Rises (faults self.old) (faults self.new) (result ≡ received.Failed) }
     {
         match self.read(room) {
@@ -68,6 +75,7 @@ pub trait Lane {
         requires { busy self.old ≡ true }
         ensures busy { busy self.new ≡ true }
         ensures past { past self.new ≡ past self.old }
+        ensures since { since self.new ≡ since self.old }
         ensures faults { faults self.new ≡ faults self.old }
     {}
 
@@ -77,6 +85,7 @@ pub trait Lane {
         requires some { 0 < length piece.now }
         ensures busy { busy self.new ≡ true }
         ensures past { (part : List ℕ) × IsGivenOf result part piece.now × (past self.new ≡ option_map (after_put part) (past self.old)) }
+        ensures since { since self.new ≡ since self.old }
         ensures cause { Rises (faults self.old) (faults self.new) (result ≡ given.Failed) };
 
     /// Gives a line to the log writer of the key. At `Failed` it was not given.
@@ -84,6 +93,7 @@ pub trait Lane {
         requires { busy self.old ≡ true }
         ensures busy { busy self.new ≡ true }
         ensures past { past self.new ≡ option_map (after_line result key.now line.now) (past self.old) }
+        ensures since { since self.new ≡ since self.old }
         ensures cause { Rises (faults self.old) (faults self.new) (result ≡ given.Failed) };
 
     /// Keeps the configuration of this serial, by its compact text, so that it outlasts the program. At `Failed` it may have
@@ -93,6 +103,17 @@ pub trait Lane {
         requires short { length text.now ≤ MAX_KEPT_BYTES }
         ensures busy { busy self.new ≡ true }
         ensures past { past self.new ≡ option_map (after_keep result serial text.now) (past self.old) }
+        ensures since { since self.new ≡ since self.old }
+        ensures cause { Rises (faults self.old) (faults self.new) (result ≡ given.Failed) };
+
+    /// Tells the lane under which serial a request of the connection that is there has begun. `Failed` where one had begun on it under a
+    /// later serial before it came to this lane. The request is then ended without an answer.
+    fn seen(&mut self, serial: u32) -> Given
+        requires busy { busy self.old ≡ true }
+        ensures busy { busy self.new ≡ true }
+        ensures past { past self.new ≡ past self.old }
+        ensures since { since self.new ≡ since self.old }
+        ensures none_later { result ≡ given.All → (least : ℕ) → CameWith (since self.old) least → least ≤ serial }
         ensures cause { Rises (faults self.old) (faults self.new) (result ≡ given.Failed) };
 
     /// Ends the connection. It cannot fail.
@@ -100,5 +121,6 @@ pub trait Lane {
         requires { busy self.old ≡ true }
         ensures busy { busy self.new ≡ false }
         ensures past { past self.new ≡ past self.old }
+        ensures since { since self.new ≡ since self.old }
         ensures faults { faults self.new ≡ faults self.old };
 }

@@ -27,7 +27,7 @@ pub struct MemoryLane {
     /// What is left to be read from the connection that is there.
     pub current: Option<Pieces>,
     /// Which calls fail. `accept`, `read`, `write` and `log` are counted together, in the order in which they are made; `keep`
-    /// has no number, so it fails only where memory runs out.
+    /// has no number, so it fails only where memory runs out, and `seen` never fails.
     pub faults: Faults,
     /// What has happened so far.
     pub past: Past,
@@ -76,6 +76,8 @@ impl Lane for MemoryLane {
     ghost busy = { λ lane. is_some lane.current };
 
     ghost past = { λ lane. Some lane.past };
+
+    ghost since = { λ _. None };
 
     fn accept(&mut self) -> Accepted
         requires { is_some self.old.current ≡ false }
@@ -224,6 +226,20 @@ impl Lane for MemoryLane {
         ensures current { self.new.current ≡ self.old.current }
         ensures counted { self.new.faults ≡ self.old.faults }
     {}
+
+    fn seen(&mut self, serial: u32) -> Given
+        requires { is_some self.old.current ≡ true }
+        ensures busy { is_some self.new.current ≡ true }
+        ensures past { Some self.new.past ≡ Some self.old.past }
+        ensures cause { Rises self.old.faults.count self.new.faults.count (result ≡ given.Failed) }
+
+        // it tells nothing of the time before a connection came
+        ensures all { result ≡ given.All }
+        ensures same { self.new ≡ self.old }
+    {
+        let _ = serial;
+        Given::All
+    }
 
     fn end(&mut self)
         requires { is_some self.old.current ≡ true }

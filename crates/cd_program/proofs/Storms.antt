@@ -1,5 +1,5 @@
 -- A storm: its digits, and its line.
-use Rattle.std.proofs.Common.{◌≡◌, ◌≢◌, ◌<◌, ◌∙◌, ℕ, true, List, [], ◌∷◌, length, Option, Some, Ok, ap, refl, sym, subst, arith}
+use Rattle.std.proofs.Common.{◌≡◌, ◌≢◌, ◌<◌, ◌∙◌, ℕ, true, List, [], ◌∷◌, length, Option, Some, None, Ok, ap, refl, sym, subst, arith}
 use Rattle.std.proofs.lemmas.List.{length-map}
 use Rattle.std.proofs.lemmas.Slice.Eq.{bytes_eq-Decides}
 use Rattle.cd_outside.specs.declared.given.Given.{Given}
@@ -37,8 +37,8 @@ pub gave_all : (way : Given) → way ≡ given.All → way ≡ given.Failed → 
 gave_all way all failed = cc
 
 -- as many lanes are told of as there are
-module _ {L : Type 0} (faults : L → ℕ) (past : L → Option Past) where
-  told-of-each : (olds news : List L) → length news ≡ length olds → length (spans faults past olds news) ≡ length olds
+module _ {L : Type 0} (faults : L → ℕ) (past : L → Option Past) (since : L → Option (List ℕ)) where
+  told-of-each : (olds news : List L) → length news ≡ length olds → length (spans faults past since olds news) ≡ length olds
   told-of-each [] news same = refl
   told-of-each (x ∷ xs) [] same = absurd (omega (arith, same))
   told-of-each (x ∷ xs) (y ∷ ys) same = let rest = told-of-each xs ys (omega (arith, same)) in omega (arith, rest)
@@ -46,7 +46,7 @@ module _ {L : Type 0} (faults : L → ℕ) (past : L → Option Past) where
 pub each-lane : (m : Meaning) (number : ℕ) (run : Run) → IsStorm m number run → length run.lanes ≡ LANES
 each-lane m number run storm =
     ap length storm.seen
-    ∙ told-of-each (λ lane. lane.faults.count) (λ lane. Some lane.past) storm.lanes storm.ends storm.count
+    ∙ told-of-each (λ lane. lane.faults.count) (λ lane. Some lane.past) (λ lane. None) storm.lanes storm.ends storm.count
     ∙ sym (length-map storm.lanes (λ lane. lane.script))
     ∙ ap length storm.are.played
     ∙ refl

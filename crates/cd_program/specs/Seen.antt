@@ -11,7 +11,7 @@ use Rattle.cd_host.specs.Seated.{spans}
 use Rattle.cd_program.specs.declared.ended.Ended.{Ended}
 
 -- The source tells what it has left, the output what it was given, the fixtures what they were asked for, and each lane its
--- connections. The fixtures and the lanes stand here themselves too, as they were handed in and as they came back. Last is what was
+-- connections, and which serial each of them came with. The fixtures and the lanes stand here themselves too, as they were handed in and as they came back. Last is what was
 -- counted.
 pub record Seen (F L : Type 0) : Type 0 where
   pub source : Device (List ℕ)
@@ -65,13 +65,13 @@ module _ {F L : Type 0} (s : Seen F L) where
 
 -- what is seen of a call that was handed a source, an output, fixtures and lanes, and ended so
 module _ {S O F L : Type 0} (left : S → Option (List ℕ)) (source_faults : S → ℕ) (holds : O → Option (List ℕ)) (sink_faults : O → ℕ)
-    (calls : F → Option (List FixtureCall)) (fixture_faults : F → ℕ) (past : L → Option Past) (lane_faults : L → ℕ) where
+    (calls : F → Option (List FixtureCall)) (fixture_faults : F → ℕ) (past : L → Option Past) (since : L → Option (List ℕ)) (lane_faults : L → ℕ) where
   abbrev pub seen : S → S → O → O → F → List L → Ended F L → Seen F L
   seen source source_now out out_now fixtures lanes e = record {
     source = device left source_faults source source_now;
     output = device holds sink_faults out out_now;
     calls = device calls fixture_faults fixtures e.fixtures;
-    lanes = spans lane_faults past lanes e.lanes;
+    lanes = spans lane_faults past since lanes e.lanes;
     fixtures_before = fixtures;
     fixtures_now = e.fixtures;
     lanes_before = lanes;

@@ -1,6 +1,6 @@
 -- Part of the main theorem.
 -- What `storm N` does, and the line that it writes.
-use Rattle.std.specs.Prelude.{◌≡◌, ◌++◌, ◌==◌, ℕ, Bool, true, List, [], length, codes, decimal, map, All, Option, Some, Ok}
+use Rattle.std.specs.Prelude.{◌≡◌, ◌++◌, ◌==◌, ℕ, Bool, true, List, [], length, codes, decimal, map, All, Option, Some, None, Ok}
 use Rattle.std.specs.List.{list_all}
 use Rattle.cd_outside.specs.declared.memory_lane.MemoryLane.{MemoryLane}
 use Rattle.cd_tree.specs.declared.path.Path.{Path}
@@ -70,7 +70,7 @@ pub record IsStorm (m : Meaning) (number : ℕ) (run : Observed) : Type 0 where
   pub are : AreLanesOf number lanes
   pub ends : List MemoryLane
   pub count : length ends ≡ length lanes
-  pub seen : run.lanes ≡ spans (λ lane. lane.faults.count) (λ lane. Some lane.past) lanes ends
+  pub seen : run.lanes ≡ spans (λ lane. lane.faults.count) (λ lane. Some lane.past) (λ lane. None) lanes ends
   pub unfailing : have_no_fault ends ≡ true
   pub unasked : run.calls_before ≡ Some []
   pub unfailed : run.failed_before ≡ 0

@@ -45,10 +45,10 @@ where
     ensures idle { All (λ lane. L.busy lane ≡ false) result.lanes }
     ensures count { length result.lanes ≡ length lanes }
     ensures ends { NullMayRun M.plan → ExitsWith result.status (Serves (record { acts = M.acts; plan = M.plan }) initial
-        (seen S.left S.faults O.holds O.faults F.calls F.faults L.past L.faults config.old config.new out.old out.new fixtures lanes result)) }
+        (seen S.left S.faults O.holds O.faults F.calls F.faults L.past L.since L.faults config.old config.new out.old out.new fixtures lanes result)) }
     ensures unread { is_of_file initial ≡ false → config.new ≡ config.old }
     ensures unbegun { FellShort serving_line (O.holds out.old) (O.holds out.new)
-        → IsUnserved (seen S.left S.faults O.holds O.faults F.calls F.faults L.past L.faults config.old config.new out.old out.new fixtures lanes result) }
+        → IsUnserved (seen S.left S.faults O.holds O.faults F.calls F.faults L.past L.since L.faults config.old config.new out.old out.new fixtures lanes result) }
 {
     match load_initial::<M, S>(alloc, initial, config) {
         Ok(loaded) => {

@@ -60,13 +60,13 @@ pub fn caddy_main<R: Threads + Wait + Sync, S: Source, O: Sink, F: Fixtures + Se
     ensures unread { has_file (command words.now) ≡ false → config.new ≡ config.old }
 
     // How each command ends, by status.
-    ensures ends { EndsAs (seen S.left S.faults O.holds O.faults F.calls F.faults L.past L.faults config.old config.new out.old out.new fixtures lanes result)
+    ensures ends { EndsAs (seen S.left S.faults O.holds O.faults F.calls F.faults L.past L.since L.faults config.old config.new out.old out.new fixtures lanes result)
         result.status (command words.now) }
 
     // Completeness: where no call on a part of the outside has failed, and what is read may run, the status is 0 or 5; that of `adapt`
     // is 5, or 0 or 1 by its bytes. A run that ended with status 0, and lacked memory for no connection, has given each of them all
     // its answers, up to its own end.
-    ensures completes { CompletesAs (seen S.left S.faults O.holds O.faults F.calls F.faults L.past L.faults config.old config.new out.old out.new fixtures lanes result)
+    ensures completes { CompletesAs (seen S.left S.faults O.holds O.faults F.calls F.faults L.past L.since L.faults config.old config.new out.old out.new fixtures lanes result)
         result.status (command words.now) }
 {
     match Command::of(words) {

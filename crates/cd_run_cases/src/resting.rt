@@ -82,6 +82,8 @@ impl Lane for RestingLane {
 
     ghost past = { λ resting. ⟦<MemoryLane as Lane>⟧.past resting.lane };
 
+    ghost since = { λ _. None };
+
     fn accept(&mut self) -> Accepted {
         if let Some(meeting) = self.coming.take() {
             meeting.arrive();
@@ -125,6 +127,10 @@ impl Lane for RestingLane {
             return Given::Failed;
         }
         self.lane.keep(rt, serial, text)
+    }
+
+    fn seen(&mut self, serial: u32) -> Given {
+        self.lane.seen(serial)
     }
 
     fn end(&mut self) {

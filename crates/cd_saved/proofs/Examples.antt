@@ -57,7 +57,7 @@ begins_with_the_file tree = refl
 
 -- a lane whose own calls have failed once
 abbrev lane : ℕ → Span
-lane now = record { told_before = None; told_now = None; failed_before = 1; failed_now = now }
+lane now = record { told_before = None; told_now = None; since_before = None; since_now = None; failed_before = 1; failed_now = now }
 
 saves_count : with_shares (lane 2 ∷ lane 2 ∷ []) (3 ∷ 0 ∷ []) ≡ lane 5 ∷ lane 2 ∷ []
 saves_count = refl

@@ -37,7 +37,7 @@ same-lanes (lane ∷ lanes) [] none = refl
 same-lanes (lane ∷ lanes) (n ∷ ns) none =
     let all : n + sum ns ≡ 0 = sym (sum_by-cons (λ (k : ℕ). k) n ns) ∙ none in
     let now : lane.failed_now + n ≡ lane.failed_now = omega (arith, all) in
-    ap (λ (k : ℕ). record { told_before = lane.told_before; told_now = lane.told_now; failed_before = lane.failed_before; failed_now = k } ∷ with_shares lanes ns) now
+    ap (λ (k : ℕ). record { told_before = lane.told_before; told_now = lane.told_now; since_before = lane.since_before; since_now = lane.since_now; failed_before = lane.failed_before; failed_now = k } ∷ with_shares lanes ns) now
     ∙ ap (λ l. lane ∷ l) (same-lanes lanes ns (omega (arith, all)))
 
 pub nothing-failed : {F L : Type 0} (s : Seen F L) (shares : List ℕ) → sum shares ≡ 0 → NothingFailed s → NothingFailed (shared s shares)

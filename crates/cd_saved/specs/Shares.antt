@@ -8,7 +8,7 @@ abbrev pub with_shares : List Span → List ℕ → List Span
 with_shares [] shares = []
 with_shares (lane ∷ lanes) [] = lane ∷ lanes
 with_shares (lane ∷ lanes) (met ∷ shares) =
-    record { told_before = lane.told_before; told_now = lane.told_now; failed_before = lane.failed_before; failed_now = lane.failed_now + met }
+    record { told_before = lane.told_before; told_now = lane.told_now; since_before = lane.since_before; since_now = lane.since_now; failed_before = lane.failed_before; failed_now = lane.failed_now + met }
     ∷ with_shares lanes shares
 
 -- what is seen of a call, with these faults

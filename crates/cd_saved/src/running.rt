@@ -52,7 +52,7 @@ fn run_wrapped<
     ensures idle { All (λ lane. L.busy lane ≡ false) result.lanes }
     ensures parts { all.new.parts ≡ length lanes.items }
     ensures unread { is_of_file initial ≡ false → config.new ≡ config.old }
-    ensures ran { RanShared initial (seen S.left S.faults O.holds O.faults F.calls F.faults L.past L.faults config.old config.new out.old out.new fixtures lanes.items result) result.status all.new.amount }
+    ensures ran { RanShared initial (seen S.left S.faults O.holds O.faults F.calls F.faults L.past L.since L.faults config.old config.new out.old out.new fixtures lanes.items result) result.status all.new.amount }
 {
     let mut lanes = lanes;
     let mut wrapped = wrapped;
@@ -124,7 +124,7 @@ pub fn run_over<
     ensures idle { All (λ lane. L.busy lane ≡ false) result.ended.lanes }
     ensures unread { is_of_file initial ≡ false → config.new ≡ config.old }
     ensures ran { HasRunOver initial (device D.seen D.faults saver.slots.disk result.saver.slots.disk)
-        (seen S.left S.faults O.holds O.faults F.calls F.faults L.past L.faults config.old config.new out.old out.new fixtures lanes result.ended) result.ended.status }
+        (seen S.left S.faults O.holds O.faults F.calls F.faults L.past L.since L.faults config.old config.new out.old out.new fixtures lanes result.ended) result.ended.status }
 {
     match Vec::with_capacity(alloc, lanes.len()) {
         Err(_) => EndedOver {

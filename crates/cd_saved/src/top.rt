@@ -48,7 +48,7 @@ fn run_saved<
     ensures idle { All (λ lane. L.busy lane ≡ false) result.0.lanes }
     ensures unread { (which ≡ SavedRun.OfFile → ⊥) → config.new ≡ config.old }
     ensures ends { EndsOver which (device D.seen D.faults disk result.1)
-        (seen S.left S.faults O.holds O.faults F.calls F.faults L.past L.faults config.old config.new out.old out.new fixtures lanes result.0) result.0.status }
+        (seen S.left S.faults O.holds O.faults F.calls F.faults L.past L.since L.faults config.old config.new out.old out.new fixtures lanes result.0) result.0.status }
 {
     match Saver::open(alloc, disk) {
         Err((disk, why)) => (unbegun(decline(why, out), fixtures, lanes), disk),
@@ -108,9 +108,9 @@ pub fn caddy_saved<
 
     // How it ends: words that ask for no run that saves as `caddy_main` does, with the disk as it was; and a run that saves by its table.
     ensures ends { MatchOption (saved_run words.now)
-        ((result.1 ≡ disk) × AsWithout (seen S.left S.faults O.holds O.faults F.calls F.faults L.past L.faults config.old config.new out.old out.new fixtures lanes result.0) result.0.status (command words.now))
+        ((result.1 ≡ disk) × AsWithout (seen S.left S.faults O.holds O.faults F.calls F.faults L.past L.since L.faults config.old config.new out.old out.new fixtures lanes result.0) result.0.status (command words.now))
         (λ which. EndsOver which (device D.seen D.faults disk result.1)
-        (seen S.left S.faults O.holds O.faults F.calls F.faults L.past L.faults config.old config.new out.old out.new fixtures lanes result.0) result.0.status) }
+        (seen S.left S.faults O.holds O.faults F.calls F.faults L.past L.since L.faults config.old config.new out.old out.new fixtures lanes result.0) result.0.status) }
 {
     match SavedRun::of(words) {
         None => (

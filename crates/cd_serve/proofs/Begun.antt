@@ -1,5 +1,5 @@
 -- A request from its Begin to its block, put together from what each call made.
-use Rattle.std.proofs.Common.{◌≡◌, ◌∙◌, ◌++◌, ℕ, Bool, cond, List, [], ◌∷◌, Option, Some, None, option_map, refl, ap, sym, subst, eq-eqb}
+use Rattle.std.proofs.Common.{◌≡◌, ◌∙◌, ◌++◌, ℕ, Bool, cond, List, [], ◌∷◌, Option, Some, None, option_map, inr, refl, ap, sym, subst, eq-eqb}
 use Rattle.std.proofs.lemmas.List.{append_assoc, append-nil, append_cancel_left}
 use Rattle.cd_text.specs.Steps.{joined}
 use Rattle.cd_outside.specs.declared.address.Address.{Address}
@@ -30,7 +30,7 @@ use Rattle.cd_hall.specs.Turned.{Turned}
 use Rattle.cd_hall.proofs.Placing.{turned_places}
 use Rattle.cd_serve.specs.declared.how.How.{How}
 use Rattle.cd_serve.specs.declared.how.How.TheVariants as how
-use Rattle.cd_serve.specs.Meanings.{Meaning, Sent, after_sending}
+use Rattle.cd_serve.specs.Meanings.{Meaning, Sent, nothing_sent, after_sending}
 use Rattle.cd_serve.specs.Retirements.{due, IsRetirement}
 use Rattle.cd_serve.specs.Episodes.{Outcome, Episode, IsAgain}
 use Rattle.cd_serve.specs.Replies.{AllAgain}
@@ -58,6 +58,15 @@ acted-in-place m hall t at q h p connected old new may a = record {
   acted = acted-quietly m at q (conf_in t.share) t.serial h (view p) old new may.ticket.history a;
 }
 
+-- under a ticket that the lane has found too old
+pub acted-declined : {A F B : Type 0} {g : _} (m : Meaning) (hall : Hall A F B g) (t : Ticket A B g) (at : Address) (q : Request) (p : Pass (Board A F B g)) (connected : Bool) (old new : Option Past) → MayAct hall p t connected → new ≡ old → HasActed m hall t at q (Some how.Failed) p p old new
+acted-declined m hall t at q p connected old new may same =
+    acted-in-place m hall t at q how.Failed p connected old new may (record { what = nothing_sent; past = same ∙ nothing-sent old; is = λ k seen begin finish b f. inr (refl, refl) })
+
+-- what was done for a request goes on from what was told before
+pub acted-since : {A F B : Type 0} {g : _} (m : Meaning) (hall : Hall A F B g) (t : Ticket A B g) (at : Address) (q : Request) (result : Option How) (p p' : Pass (Board A F B g)) (old then new : Option Past) → then ≡ old → HasActed m hall t at q result p p' then new → HasActed m hall t at q result p p' old new
+acted-since m hall t at q result p p' old then new same acted = subst (λ (z : Option Past). HasActed m hall t at q result p p' z new) same acted
+
 module _ {T : Type 0} (serial : ℕ) (v w x z : View T) (begin : Placed) where
   abbrev pub all : List Placed → Concluded x z → List Placed
   all work c = begin ∷ (work ++ c.finish ∷ c.block)
@@ -76,6 +85,10 @@ module _ {T : Type 0} (serial : ℕ) (v w x z : View T) (begin : Placed) where
     finishes = c.finishes ∙ ap Finish xk;
     retires = subst (λ (j : ℕ). IsRetirement (met c.finish) (due (met c.finish) j) c.block) xk c.retires;
   }
+
+  pub episode-work : (conf : Conf) (work : List Placed) (c : Concluded x z) (xk : x.number ≡ v.number) (is : begin.entry ≡ Begin v.number serial) (b : BeganWith conf serial begin) → (episode conf work c xk is b).work ≡ work
+  unfolding episode
+  episode-work conf work c xk is b = refl
 
 replied : (m : Meaning) (k : ℕ) (at : Address) (q : Request) (o : Option Outcome) (own : List Placed) (e : Episode k own) (s : Sent) (old new : Option Past) → new ≡ option_map (with_connection (after_sending s)) old
     → EndsIn m k at q o e.begin e.work e.finish s → RepliedWith m k at q o own old new

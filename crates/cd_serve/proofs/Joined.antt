@@ -42,7 +42,7 @@ one-silent m history k lane end later before now = record {
 }
 
 one-told : (m : Meaning) (history : List Signed) (k : ℕ) (lane : Span) (seen : List Signed) (own : List Placed) (end : LaneEnd) (p q : Past) → IsLegal history → placed k history ≡ own → IsPrefix seen history
-    → lane.told_before ≡ Some p → lane.told_now ≡ Some q → IsServed m k seen own lane.failed_before lane.failed_now end p q → One m history k lane end
+    → lane.told_before ≡ Some p → lane.told_now ≡ Some q → IsServed m k seen own lane.failed_before lane.failed_now end lane.since_before lane.since_now p q → One m history k lane end
 one-told m history k lane seen own end p q legal is front before now served =
     let it = served.so_far in
     let over : Told m k history own it.connections it.endings = subst (λ (h : List Signed). Told m k h own it.connections it.endings) front.1 (told-longer m k seen front.0 [] own it.connections it.endings it.told) in
@@ -59,6 +59,7 @@ one-told m history k lane seen own end p q legal is front before now served =
           fresh = legal-fresh history k legal;
           failed = refl;
         },
+        it.since,
       );
       covered = it.covered;
       faulted = it.faulted;
@@ -67,7 +68,7 @@ one-told m history k lane seen own end p q legal is front before now served =
     }
 
 one-of : (m : Meaning) (history : List Signed) (k : ℕ) (lane : Span) (seen : List Signed) (own : List Placed) (end : LaneEnd) (old new : Option Past) → IsLegal history → placed k history ≡ own → IsPrefix seen history
-    → lane.failed_before ≤ lane.failed_now → lane.told_before ≡ old → lane.told_now ≡ new → TellsOn (IsServed m k seen own lane.failed_before lane.failed_now end) old new → One m history k lane end
+    → lane.failed_before ≤ lane.failed_now → lane.told_before ≡ old → lane.told_now ≡ new → TellsOn (IsServed m k seen own lane.failed_before lane.failed_now end lane.since_before lane.since_now) old new → One m history k lane end
 one-of m history k lane seen own end None None legal is front later before now served = one-silent m history k lane end later before now
 one-of m history k lane seen own end (Some p) (Some q) legal is front later before now served = one-told m history k lane seen own end p q legal is front before now served
 one-of m history k lane seen own end (Some p) None legal is front later before now served = absurd served

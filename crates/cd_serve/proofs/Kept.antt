@@ -42,7 +42,7 @@ module _ (m : Meaning) (at : Address) (t u : Tree) (q : Request) (asks : Decides
   broken_off : Ends m 2 at q Outcome.broken (begin_of_two t u q) (work_of_two t u q) (finish_of_two t u q) nothing_sent
   broken_off =
       let none : IsProperPrefix [] (keeps_of 2 u) = subst (λ (ks : List KeepRecord). IsProperPrefix [] ks) (sym (one-kept 2 u is)) (0, (let h : 0 < 1 = omega arith in h), refl) in
-      (Kind.changed, done, [], keeps_of 2 u, changed m at t u q asks planned, inl ([], none, refl))
+      inl (Kind.changed, done, [], keeps_of 2 u, changed m at t u q asks planned, inl ([], none, refl))
 
   abbrev acknowledged : Reply
   acknowledged = record { request = q; again = []; last = placed 2 (changing t u q); outcome = Outcome.broken; sent = only_bytes (72 ∷ []) }

@@ -109,7 +109,8 @@ module _ (m : Meaning) (k : ℕ) (at : Address) where
       → s.keeps ≡ keeps_of ((met begin).serial + 1) tree
   kept-in q tree (Outcome.answered close) begin work finish s e asks some put = ap (λ (z : Sent). z.keeps) e.5 ∙ keeps-are q tree e.0 begin work finish e.1 e.2 e.3 e.4 asks some
   kept-in q tree Outcome.unlogged begin work finish s e asks some put = ap (λ (z : Sent). z.keeps) e.7 ∙ keeps-are q tree e.0 begin work finish e.1 e.2 e.4 e.5 asks some
-  kept-in q tree Outcome.broken begin work finish s e asks some put = broken-off q e.1 e.3 s e.5 put ∙ keeps-are q tree e.0 begin work finish e.1 e.2 e.3 e.4 asks some
+  kept-in q tree Outcome.broken begin work finish s (inl e) asks some put = broken-off q e.1 e.3 s e.5 put ∙ keeps-are q tree e.0 begin work finish e.1 e.2 e.3 e.4 asks some
+  kept-in q tree Outcome.broken begin work finish s (inr e) asks some put = absurd (put (ap (λ (z : Sent). z.put) e.1))
   kept-in q tree Outcome.lacking begin work finish s e asks some put = absurd (put (ap (λ (z : Sent). z.put) e.1))
   kept-in q tree Outcome.dropped begin work finish s e asks some put = absurd (put (ap (λ (z : Sent). z.put) e.3))
   kept-in q tree Outcome.halted begin work finish s e asks some put = absurd (put (ap (λ (z : Sent). z.put) e.3))

@@ -23,6 +23,8 @@ pub mod Conclusions
 pub mod Sends
 pub mod Begun
 pub mod Acts
+pub mod Responders
 pub mod Stepping
+pub mod Guarded
 pub mod LaneStepping
 pub mod LetGo

@@ -136,7 +136,7 @@ module _ (m : Meaning) (k : ℕ) (at : Address) (q : Request) where
       → EndsIn m k at q (outcome_of h) begin work finish s
   ends-sent kind begin work finish r all keeps (how.Answered close) s a sends made = (kind, r, all, keeps, a, sends.0, sends.1)
   ends-sent kind begin work finish r all keeps how.Unlogged s a sends made = (kind, r, all, sends.0, keeps, a, sends.1, sends.2)
-  ends-sent kind begin work finish r all keeps how.Failed s a sends made = (kind, r, all, keeps, a, sends)
+  ends-sent kind begin work finish r all keeps how.Failed s a sends made = inl (kind, r, all, keeps, a, sends)
   ends-sent kind begin work finish r all keeps how.NoMemory s a sends made = (inl (kind, r, all, keeps, a, made refl), sends)
   ends-sent kind begin work finish r all keeps how.Dropped s a sends made = absurd sends
   ends-sent kind begin work finish r all keeps how.Halted s a sends made = absurd sends

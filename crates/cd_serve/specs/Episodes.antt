@@ -97,7 +97,7 @@ module _ (m : Meaning) (k : ℕ) (at : Address) (q : Request) where
 -- ---- how the last episode of a request ends it
 
 -- answered, and whether the connection closes then; answered, but a line was not logged; broken off, since the lane failed before all
--- of its answer was sent, or before it was begun, as its configuration was to be kept; not answered for want of memory; or dropped, since nobody answers there, or since the host has halted
+-- of its answer was sent, or before it was begun, as its configuration was to be kept, or as the connection had seen a later one; not answered for want of memory; or dropped, since nobody answers there, or since the host has halted
 pub data Outcome : Type 0 where
   answered : Bool → Outcome
   unlogged broken lacking dropped halted : Outcome
@@ -121,8 +121,9 @@ module _ (m : Meaning) (k : ℕ) (at : Address) (q : Request) where
       (kind : Kind) × (r : Answer) × (all : List Logged) × (lines : List Logged) × (keeps : List KeepRecord) × Answers m k at q kind begin work finish r all keeps
       × IsProperPrefix lines all × (s ≡ answer_sent q r lines keeps)
   Ends Outcome.broken begin work finish s =
-      (kind : Kind) × (r : Answer) × (all : List Logged) × (keeps : List KeepRecord) × Answers m k at q kind begin work finish r all keeps
-      × BreaksOff q r keeps s
+      ((kind : Kind) × (r : Answer) × (all : List Logged) × (keeps : List KeepRecord) × Answers m k at q kind begin work finish r all keeps
+      × BreaksOff q r keeps s)
+      ⊎ ((work ≡ []) × (s ≡ nothing_sent))
   Ends Outcome.lacking begin work finish s =
       (((kind : Kind) × (r : Answer) × (all : List Logged) × (keeps : List KeepRecord) × Answers m k at q kind begin work finish r all keeps × (makes_change kind ≡ false))
       ⊎ (work ≡ [])) × (s ≡ nothing_sent)

@@ -8,8 +8,10 @@ pub mod Replies
 pub mod Keeping
 pub mod Connections
 pub mod Complete
+pub mod Since
 pub mod Lanes
 pub mod Reports
 pub mod Serving
 pub mod Requests
 pub mod Stepping
+pub mod Guarding

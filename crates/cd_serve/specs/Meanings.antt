@@ -1,6 +1,6 @@
 -- Part of the main theorem.
 -- What configurations mean to those who serve requests under them.
-use Rattle.std.specs.Prelude.{◌≡◌, ℕ, ◌+◌, ◌⊎◌, ◌||◌, Bool, List, [], ◌++◌, length, map, Result, if◌then◌else◌, ◌∷◌}
+use Rattle.std.specs.Prelude.{◌≡◌, ℕ, ◌+◌, ◌⊎◌, ◌||◌, Bool, List, [], ◌++◌, length, map, Option, None, Some, Result, if◌then◌else◌, ◌∷◌}
 use Rattle.cd_outside.specs.declared.address.Address.{Address}
 use Rattle.cd_outside.specs.declared.past.Connection.{Connection}
 use Rattle.cd_outside.specs.declared.past.KeepRecord.{KeepRecord}
@@ -106,6 +106,11 @@ module _ (m : Meaning) (conf : Conf) (at : Address) (q : Request) where
     pub there : (conf_acts m.acts conf).target at ≡ who.App
     pub answer : r ≡ (conf_acts m.acts conf).answer at q
     pub logs : lines ≡ map logged ((conf_acts m.acts conf).lines at q r)
+
+  -- what the responder there comes to: an answer with its lines where it is an app, and none where it is none
+  abbrev pub Responds : Option (Answer × List Logged) → Type 0
+  Responds None = ¬ ((conf_acts m.acts conf).target at ≡ who.App)
+  Responds (Some one) = AppAnswers one.0 one.1
 
   -- the admin API answers there, and comes to this decision under the tree of the configuration
   pub record Decides (decision : Decision) : Type 0 where

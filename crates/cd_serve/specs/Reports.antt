@@ -13,12 +13,16 @@ use Rattle.cd_legal.specs.Fresh.{Fresh}
 use Rattle.cd_session.specs.declared.lane_end.LaneEnd.{LaneEnd}
 use Rattle.cd_serve.specs.Meanings.{Meaning}
 use Rattle.cd_serve.specs.Connections.{Ending}
+use Rattle.cd_serve.specs.Since.{AddsSince}
 use Rattle.cd_serve.specs.Lanes.{Told, is_interrupted, interrupted_in, faulted_in, answered_in, IsServed}
 
--- a lane between two moments: what it told and tells now, how often it had failed and has
+-- a lane between two moments: what it told and tells now, also of the time before its connections came, and how often it had failed
+-- and has
 pub record Span : Type 0 where
   pub told_before : Option Past
   pub told_now : Option Past
+  pub since_before : Option (List ℕ)
+  pub since_now : Option (List ℕ)
   pub failed_before : ℕ
   pub failed_now : ℕ
 
@@ -37,9 +41,10 @@ pub record IsLaneReport (m : Meaning) (history : List Signed) (k : ℕ) (t : Lan
   pub fresh : Fresh (placed k history)
   pub failed : t.failed ≡ q.accept_faults - p.accept_faults
 
--- a lane that tells its past has a report, and another one has none
+-- a lane that tells its past has a report, and another one has none; where it also tells of the time before, its connections keep up
 abbrev pub ReportOf : Meaning → List Signed → ℕ → Span → Option LaneReport → Type 0
 ReportOf m history k lane (Some t) = (p : Past) × (q : Past) × (lane.told_before ≡ Some p) × (lane.told_now ≡ Some q) × IsLaneReport m history k t p q
+    × TellsOn (AddsSince k t.connections t.endings) lane.since_before lane.since_now
 ReportOf m history k lane None = (lane.told_before ≡ None) × (lane.told_now ≡ None)
 
 -- lane after lane, of which the first was served by pass k, the next by pass k + 1, and so on
@@ -149,7 +154,7 @@ pub record IsServedLane (m : Meaning) (history : List Signed) (k : ℕ) (s : Ser
   pub all_seen : mine k history ≡ mine k s.seen_now
   pub own : List Placed
   pub added : placed k s.seen_now ≡ placed k s.seen_before ++ own
-  pub served : TellsOn (IsServed m k s.seen_now own s.lane.failed_before s.lane.failed_now s.end) s.lane.told_before s.lane.told_now
+  pub served : TellsOn (IsServed m k s.seen_now own s.lane.failed_before s.lane.failed_now s.end s.lane.since_before s.lane.since_now) s.lane.told_before s.lane.told_now
 
 -- slot after slot, of which the first was served by pass k
 abbrev pub ServedLanesFrom : Meaning → List Signed → ℕ → List ServedLane → Type 0

@@ -21,9 +21,9 @@ use Rattle.cd_serve.specs.Lanes.{LaneSoFar, IsServed}
 use Rattle.cd_serve.specs.Serving.{ConnectionSoFar, ConnectionServed, HasRisen}
 
 -- a lane was served so far, and none of its accepts failed
-abbrev pub IsLaneSoFar : Meaning → ℕ → List Signed → List Placed → ℕ → ℕ → ℕ → ℕ → ℕ → Past → Past → Type 0
-IsLaneSoFar m k history own failed_before failed_now answered cut halts p q =
-    LaneSoFar m k history own failed_before failed_now answered cut halts p q × (q.accept_faults ≡ p.accept_faults)
+abbrev pub IsLaneSoFar : Meaning → ℕ → List Signed → List Placed → ℕ → ℕ → ℕ → ℕ → ℕ → Option (List ℕ) → Option (List ℕ) → Past → Past → Type 0
+IsLaneSoFar m k history own failed_before failed_now answered cut halts since_before since_now p q =
+    LaneSoFar m k history own failed_before failed_now answered cut halts since_before since_now p q × (q.accept_faults ≡ p.accept_faults)
 
 module _ {T : Type 0} where
   -- between two moments a pass made these entries, each where it stands in what the pass has then seen; perhaps none so far
@@ -63,16 +63,16 @@ module _ {T : Type 0} where
   Steps m at None left ended answered v w first now = GoesOn m at left ended answered v w first now
 
   -- a lane is served so far
-  pub record LaneGoesOn (m : Meaning) (failed_before failed_now answered cut halts : ℕ) (v w : View T) (old new : Option Past) : Type 0 where
+  pub record LaneGoesOn (m : Meaning) (failed_before failed_now answered cut halts : ℕ) (v w : View T) (since_before since_now : Option (List ℕ)) (old new : Option Past) : Type 0 where
     pub own : List Placed
     pub made : HasPlaced v w own
-    pub told : TellsOn (IsLaneSoFar m v.number w.seen own failed_before failed_now answered cut halts) old new
+    pub told : TellsOn (IsLaneSoFar m v.number w.seen own failed_before failed_now answered cut halts since_before since_now) old new
 
   -- it was served to its end
-  pub record LaneServed (m : Meaning) (failed_before failed_now : ℕ) (end : LaneEnd) (v w : View T) (old new : Option Past) : Type 0 where
+  pub record LaneServed (m : Meaning) (failed_before failed_now : ℕ) (end : LaneEnd) (v w : View T) (since_before since_now : Option (List ℕ)) (old new : Option Past) : Type 0 where
     pub own : List Placed
     pub made : HasPlaced v w own
-    pub told : TellsOn (IsServed m v.number w.seen own failed_before failed_now end) old new
+    pub told : TellsOn (IsServed m v.number w.seen own failed_before failed_now end since_before since_now) old new
 
 -- where a lane tells its past, its last accept gave a connection to the address
 abbrev pub LastCame : Address → Option Past → Type 0

@@ -3,7 +3,7 @@ ghost use Rattle.std.specs.Prelude.{◌≡◌, Some, true, false, cond};
 ghost use Rattle.cd_legal.specs.Serials.{is_halted};
 ghost use Rattle.cd_gate.specs.Passes.{view};
 ghost use Rattle.cd_module_set.specs.Acts.{conf_acts};
-ghost use Rattle.cd_module_set.specs.declared.target.Target.TheVariants.{Admin, App};
+ghost use Rattle.cd_module_set.specs.declared.target.Target.TheVariants.{Admin};
 ghost use Rattle.cd_life.specs.Shares.{compiled_in, conf_in};
 ghost use Rattle.cd_serve.specs.declared.how.How.TheVariants as how;
 ghost use Rattle.cd_serve.specs.Episodes.{Outcome};
@@ -37,6 +37,7 @@ impl<'t, 'm, R: Wait, M: Administered, F: Fixtures> Task<'t, 'm, R, M, F> {
     ) -> Option<How>
         requires may { MayAct self.now.means.now.hall.now pass.old ticket.now (L.busy lane.old) }
         ensures acted { HasActed (record { acts = M.acts; plan = M.plan }) self.now.means.now.hall.now ticket.now self.now.means.now.at.now self.now.request.now result pass.old pass.new (L.past lane.old) (L.past lane.new) }
+        ensures since { L.since lane.new ≡ L.since lane.old }
         ensures lane { KeepsConnection (is_fault_in result ≡ true) (L.busy lane.new) (L.faults lane.old) (L.faults lane.new) }
         ensures halted { result ≡ Some how.Halted → is_halted (conf_in ticket.now.share) ≡ true }
         ensures noted { superseded.new ≡ false → PublishedNothing (view pass.old) (view pass.new) }
@@ -44,13 +45,12 @@ impl<'t, 'm, R: Wait, M: Administered, F: Fixtures> Task<'t, 'm, R, M, F> {
         let at = self.means.at;
         let responder = M::target(ticket.compiled(), at);
         match responder.target {
-            Target::Nobody => Some(unanswered(ticket)),
-            Target::App => {
+            Target::Admin => self.act_by_admin(ticket, pass, lane, superseded),
+            Target::Nobody | Target::App => {
                 let alloc = self.means.alloc;
                 let request = self.request;
-                Some(answer_by_app(alloc, ticket, lane, out, at, responder, request))
+                Some(answer_if_app(alloc, ticket, lane, out, at, responder, request))
             }
-            Target::Admin => self.act_by_admin(ticket, pass, lane, superseded),
         }
     }
 
@@ -65,6 +65,7 @@ impl<'t, 'm, R: Wait, M: Administered, F: Fixtures> Task<'t, 'm, R, M, F> {
         requires may { MayAct self.now.means.now.hall.now pass.old ticket.now (L.busy lane.old) }
         requires admin { (conf_acts M.acts (conf_in ticket.now.share)).target self.now.means.now.at.now ≡ Admin }
         ensures acted { HasActed (record { acts = M.acts; plan = M.plan }) self.now.means.now.hall.now ticket.now self.now.means.now.at.now self.now.request.now result pass.old pass.new (L.past lane.old) (L.past lane.new) }
+        ensures since { L.since lane.new ≡ L.since lane.old }
         ensures lane { KeepsConnection (is_fault_in result ≡ true) (L.busy lane.new) (L.faults lane.old) (L.faults lane.new) }
         ensures running { ¬ (result ≡ Some how.Halted) }
         ensures noted { superseded.new ≡ false → PublishedNothing (view pass.old) (view pass.new) }
@@ -92,7 +93,8 @@ fn unanswered<M: ModuleSet>(ticket: &Ticket<M>) -> How
     }
 }
 
-fn answer_by_app<M: ModuleSet, L: Lane>(
+// An app answers, or nobody does.
+fn answer_if_app<M: ModuleSet, L: Lane>(
     alloc: Global,
     ticket: &Ticket<M>,
     lane: &mut L,
@@ -102,14 +104,15 @@ fn answer_by_app<M: ModuleSet, L: Lane>(
     request: &Request,
 ) -> How
     requires busy { L.busy lane.old ≡ true }
-    requires app { (conf_acts M.acts (conf_in ticket.now.share)).target at.now ≡ App }
+    requires others { ¬ ((conf_acts M.acts (conf_in ticket.now.share)).target at.now ≡ Admin) }
     requires responds { M.responds (compiled_in ticket.now.share) at.now responder }
     ensures acted { ActedQuietly (record { acts = M.acts; plan = M.plan }) at.now request.now (conf_in ticket.now.share) ticket.now.serial result (L.past lane.old) (L.past lane.new) }
+    ensures since { L.since lane.new ≡ L.since lane.old }
     ensures lane { KeepsConnection (is_fault result ≡ true) (L.busy lane.new) (L.faults lane.old) (L.faults lane.new) }
-    ensures running { ¬ (result ≡ how.Halted) }
+    ensures halted { result ≡ how.Halted → is_halted (conf_in ticket.now.share) ≡ true }
 {
     match respond(alloc, ticket, at, responder, request) {
-        Ok(response) => reply_by(
+        Ok(Some(response)) => reply_by(
             alloc,
             lane,
             out,
@@ -117,6 +120,7 @@ fn answer_by_app<M: ModuleSet, L: Lane>(
             &response.answer,
             response.lines.as_slice(),
         ),
+        Ok(None) => unanswered(ticket),
         Err(NoMemory) => How::NoMemory,
     }
 }

@@ -1,5 +1,5 @@
 //! A request begins, and has the configuration under which it began.
-ghost use Rattle.std.specs.Prelude.{◌≡◌, ◌≤◌, IfOk, IfErr, Option, false};
+ghost use Rattle.std.specs.Prelude.{◌≡◌, ◌≤◌, IfOk, IfErr, ℕ, Option, Some, false};
 ghost use Rattle.cd_outside.specs.declared.address.Address.{Address as At};
 ghost use Rattle.cd_outside.specs.declared.past.Past.{Past};
 ghost use Rattle.cd_wire.specs.declared.request.Request.{Request as Asked};
@@ -12,6 +12,7 @@ ghost use Rattle.cd_hall.specs.Caches.{IsCacheOf};
 ghost use Rattle.cd_hall.specs.Calls.{IsPassOf};
 ghost use Rattle.cd_hall.specs.Tickets.{IsTicketOf, HasBegun};
 ghost use Rattle.cd_serve.specs.declared.how.How.TheVariants as how;
+ghost use Rattle.cd_serve.specs.Guarding.{RequestKeepsUp};
 ghost use Rattle.cd_serve.specs.Meanings.{Meaning};
 ghost use Rattle.cd_serve.specs.Requests.{OwesNothing, OwesTicket, PublishedNothing, RequestServed, is_fault};
 
@@ -50,6 +51,7 @@ pub(crate) fn begin<R: Wait, M: ModuleSet, F: Fixtures>(
     ensures owes { IfOk result (λ ticket. OwesTicket (view pass.new) ticket.serial) }
     ensures free { IfErr result (λ h. OwesNothing (view pass.new)) }
     ensures served { IfErr result (λ h. (m : Meaning) (at : At) (q : Asked) (past : Option Past) → RequestServed m at q h (view pass.old) (view pass.new) past past) }
+    ensures keeps_up { IfErr result (λ h. (since : ℕ) (past : Option Past) → RequestKeepsUp since (Some h) (view pass.old) (view pass.new) past past) }
     ensures worn { IfErr result (λ h. h ≡ how.Worn → MAX_BEGINS ≤ begins_now (entries (view pass.new).seen)) }
     ensures running { IfErr result (λ h. ¬ (h ≡ how.Halted)) }
     ensures fault { IfErr result (λ h. is_fault h ≡ false) }

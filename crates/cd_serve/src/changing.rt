@@ -46,6 +46,7 @@ impl<'t, 'm, R: Wait, M: Administered, F: Fixtures> Task<'t, 'm, R, M, F> {
         requires asks { Asks M.change (conf_in ticket.now.share) self.now.request.now loaded.tree }
         requires decides { Decides (record { acts = M.acts; plan = M.plan }) (conf_in ticket.now.share) self.now.means.now.at.now self.now.request.now (replaces loaded.tree) }
         ensures acted { HasActed (record { acts = M.acts; plan = M.plan }) self.now.means.now.hall.now ticket.now self.now.means.now.at.now self.now.request.now result pass.old pass.new (L.past lane.old) (L.past lane.new) }
+        ensures since { L.since lane.new ≡ L.since lane.old }
         ensures lane { KeepsConnection (is_fault_in result ≡ true) (L.busy lane.new) (L.faults lane.old) (L.faults lane.new) }
         ensures running { ¬ (result ≡ Some how.Halted) }
         ensures noted { superseded.new ≡ false → PublishedNothing (view pass.old) (view pass.new) }
@@ -75,6 +76,7 @@ impl<'t, 'm, R: Wait, M: Administered, F: Fixtures> Task<'t, 'm, R, M, F> {
         requires ready { IsReady ready.now ticket.now.serial loaded.tree self.now.request.now answer.now }
         requires answer { answer.now ≡ done }
         ensures acted { HasActed (record { acts = M.acts; plan = M.plan }) self.now.means.now.hall.now ticket.now self.now.means.now.at.now self.now.request.now result pass.old pass.new (L.past lane.old) (L.past lane.new) }
+        ensures since { L.since lane.new ≡ L.since lane.old }
         ensures lane { KeepsConnection (is_fault_in result ≡ true) (L.busy lane.new) (L.faults lane.old) (L.faults lane.new) }
         ensures running { ¬ (result ≡ Some how.Halted) }
         ensures noted { superseded.new ≡ false → PublishedNothing (view pass.old) (view pass.new) }
@@ -115,6 +117,7 @@ impl<'t, 'm, R: Wait, M: Administered, F: Fixtures> Task<'t, 'm, R, M, F> {
         requires may { MayAct self.now.means.now.hall.now pass.old ticket.now (L.busy lane.old) }
         requires decides { Decides (record { acts = M.acts; plan = M.plan }) (conf_in ticket.now.share) self.now.means.now.at.now self.now.request.now halts }
         ensures acted { HasActed (record { acts = M.acts; plan = M.plan }) self.now.means.now.hall.now ticket.now self.now.means.now.at.now self.now.request.now result pass.old pass.new (L.past lane.old) (L.past lane.new) }
+        ensures since { L.since lane.new ≡ L.since lane.old }
         ensures lane { KeepsConnection (is_fault_in result ≡ true) (L.busy lane.new) (L.faults lane.old) (L.faults lane.new) }
         ensures running { ¬ (result ≡ Some how.Halted) }
         ensures noted { superseded.new ≡ false → PublishedNothing (view pass.old) (view pass.new) }
@@ -139,6 +142,7 @@ impl<'t, 'm, R: Wait, M: Administered, F: Fixtures> Task<'t, 'm, R, M, F> {
 fn refuse<L: Lane>(alloc: Global, lane: &mut L, request: &Request, fault: &ChangeFault) -> How
     requires { L.busy lane.old ≡ true }
     ensures sent { IsSent result request.now (fault_answer fault.now) [] [] (L.past lane.old) (L.past lane.new) }
+    ensures since { L.since lane.new ≡ L.since lane.old }
     ensures lane { KeepsConnection (is_fault result ≡ true) (L.busy lane.new) (L.faults lane.old) (L.faults lane.new) }
 {
     match fault.answer(alloc) {

@@ -1,11 +1,13 @@
 //! A connection is served to its end.
-ghost use Rattle.std.specs.Prelude.{◌≡◌, Option, false};
+ghost use Rattle.std.specs.Prelude.{◌≡◌, ℕ, Option, false};
 ghost use Rattle.cd_outside.specs.declared.past.Past.{Past};
+ghost use Rattle.cd_outside.specs.Since.{CameWith};
 ghost use Rattle.cd_legal.specs.Legal.{state_at};
 ghost use Rattle.cd_gate.specs.declared.view.View.{View};
 ghost use Rattle.cd_gate.specs.Passes.{view};
 ghost use Rattle.cd_hall.specs.Caches.{IsCacheOf};
 ghost use Rattle.cd_hall.specs.Calls.{IsPassOf};
+ghost use Rattle.cd_serve.specs.Guarding.{EndKeepsUp, HasKeptUp, StepKeepsUp};
 ghost use Rattle.cd_serve.specs.Requests.{MayServe, OwesNothing};
 ghost use Rattle.cd_serve.specs.Stepping.{EndsConnection, GoesOn, Steps, RisesBy, HaltedBy};
 
@@ -37,6 +39,8 @@ impl<'m, R: Wait, M: Administered, F: Fixtures> Means<'m, R, M, F> {
         ensures free { OwesNothing (view pass.new) }
         ensures busy { L.busy lane.new ≡ false }
         ensures ends { EndsConnection (record { acts = M.acts; plan = M.plan }) self.now.at.now result (view pass.old) (view pass.new) (L.past lane.old) (L.past lane.new) (L.faults lane.old) (L.faults lane.new) }
+        ensures since { L.since lane.new ≡ L.since lane.old }
+        ensures keeps_up { (since : ℕ) → CameWith (L.since lane.old) since → EndKeepsUp since result (view pass.old) (view pass.new) (L.past lane.old) (L.past lane.new) }
     {
         let mut session = Session::new(self.alloc);
         for _ in self.rt.forever() {
@@ -65,6 +69,10 @@ impl<'m, R: Wait, M: Administered, F: Fixtures> Means<'m, R, M, F> {
         ensures steps { (v : View _) (first : Option Past)
             → GoesOn (record { acts = M.acts; plan = M.plan }) self.now.at.now session.old.intake session.old.ended session.old.answered v (view pass.old) first (L.past lane.old)
             → Steps (record { acts = M.acts; plan = M.plan }) self.now.at.now result session.new.intake session.new.ended session.new.answered v (view pass.new) first (L.past lane.new) }
+        ensures since { L.since lane.new ≡ L.since lane.old }
+        ensures keeps_up { (since : ℕ) (v : View _) (first : Option Past) → CameWith (L.since lane.old) since
+            → GoesOn (record { acts = M.acts; plan = M.plan }) self.now.at.now session.old.intake session.old.ended session.old.answered v (view pass.old) first (L.past lane.old)
+            → HasKeptUp since v (view pass.old) → StepKeepsUp since result v (view pass.new) first (L.past lane.new) }
         ensures cause { RisesBy result (L.faults lane.old) (L.faults lane.new) }
         ensures halted { HaltedBy result (state_at (view pass.new).seen).halted }
     {

@@ -82,6 +82,7 @@ pub(crate) fn acknowledge<R: Wait, L: Lane>(
     requires bytes { ready.now.bytes ≡ sent request.now answer.now }
     ensures sent { IsSent result request.now answer.now [] (keeps_as ready.now.serial ready.now.text) (L.past lane.old) (L.past lane.new) }
     ensures made { ¬ (result ≡ how.NoMemory) }
+    ensures since { L.since lane.new ≡ L.since lane.old }
     ensures lane { KeepsConnection (is_fault result ≡ true) (L.busy lane.new) (L.faults lane.old) (L.faults lane.new) }
 {
     match keep(rt, lane, ready.serial, &ready.text) {
@@ -96,6 +97,7 @@ fn keep<R: Wait, L: Lane>(rt: &R, lane: &mut L, serial: u32, text: &Option<Text>
     requires busy { L.busy lane.old ≡ true }
     requires short { IfSome text.now (λ text. length text ≤ MAX_KEPT_BYTES) }
     ensures keeps { Keeps result (keeps_as serial text.now) (L.past lane.old) (L.past lane.new) }
+    ensures since { L.since lane.new ≡ L.since lane.old }
     ensures lane { KeepsConnection (result ≡ given.Failed) (L.busy lane.new) (L.faults lane.old) (L.faults lane.new) }
 {
     match text {

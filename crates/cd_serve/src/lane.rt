@@ -1,9 +1,10 @@
 //! The connections of a lane are served, one after another.
-ghost use Rattle.std.specs.Prelude.{◌≡◌, ◌≤◌, ℕ, Option, true, false, cond, option_map};
+ghost use Rattle.std.specs.Prelude.{◌≡◌, ◌≤◌, ℕ, List, Option, true, false, cond, option_map};
 ghost use Rattle.cd_outside.specs.declared.accepted.Accepted.TheVariants as accepted;
 ghost use Rattle.cd_outside.specs.declared.past.Past.{Past};
 ghost use Rattle.cd_outside.specs.Counts.{Rose};
 ghost use Rattle.cd_outside.specs.Past.{after_accept};
+ghost use Rattle.cd_outside.specs.Since.{SinceAccept};
 ghost use Rattle.cd_legal.specs.Fresh.{Fresh};
 ghost use Rattle.cd_legal.specs.Legal.{state_at};
 ghost use Rattle.cd_legal.specs.Placed.{placed};
@@ -42,7 +43,7 @@ pub fn serve_lane<R: Wait, M: Administered, F: Fixtures, L: Lane>(
     ensures free { OwesNothing (view pass.new) }
     ensures busy { L.busy lane.new ≡ false }
     ensures fresh { IsHistory (view pass.old).seen → Fresh (placed (view pass.new).number (view pass.new).seen) }
-    ensures served { LaneServed (record { acts = M.acts; plan = M.plan }) (L.faults lane.old) (L.faults lane.new) result (view pass.old) (view pass.new) (L.past lane.old) (L.past lane.new) }
+    ensures served { LaneServed (record { acts = M.acts; plan = M.plan }) (L.faults lane.old) (L.faults lane.new) result (view pass.old) (view pass.new) (L.since lane.old) (L.since lane.new) (L.past lane.old) (L.past lane.new) }
     ensures later { L.faults lane.old ≤ L.faults lane.new }
     ensures failed { result.how ≡ how.AcceptFault → Rose (L.faults lane.old) (L.faults lane.new) }
     ensures halted { result.how ≡ how.Halted → (state_at (view pass.new).seen).halted ≡ true }
@@ -101,10 +102,11 @@ fn serve_accepted<R: Wait, M: Administered, F: Fixtures, L: Lane>(
     ensures cache { IsCacheOf (view pass.new) cache.new }
     ensures free { OwesNothing (view pass.new) }
     ensures busy { L.busy lane.new ≡ false }
-    ensures goes { (v : View _) (old then : Option Past) (first faults : ℕ)
-        → LaneGoesOn (record { acts = M.acts; plan = M.plan }) first faults counts.old.answered counts.old.cut 0 v (view pass.old) old then
+    ensures goes { (v : View _) (old then : Option Past) (since told : Option (List ℕ)) (first faults : ℕ)
+        → LaneGoesOn (record { acts = M.acts; plan = M.plan }) first faults counts.old.answered counts.old.cut 0 v (view pass.old) since told old then
+        → SinceAccept told (accepted.Connection at.now) (L.since lane.old)
         → faults ≤ L.faults lane.old → L.past lane.old ≡ option_map (after_accept (accepted.Connection at.now)) then
-        → LaneGoesOn (record { acts = M.acts; plan = M.plan }) first (L.faults lane.new) counts.new.answered counts.new.cut (cond result 1 0) v (view pass.new) old (L.past lane.new) }
+        → LaneGoesOn (record { acts = M.acts; plan = M.plan }) first (L.faults lane.new) counts.new.answered counts.new.cut (cond result 1 0) v (view pass.new) since (L.since lane.new) old (L.past lane.new) }
     ensures last { (then : Option Past) → L.past lane.old ≡ option_map (after_accept (accepted.Connection at.now)) then → LastCame at.now (L.past lane.new) }
     ensures later { L.faults lane.old ≤ L.faults lane.new }
     ensures halted { result ≡ true → (state_at (view pass.new).seen).halted ≡ true }

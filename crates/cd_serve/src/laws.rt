@@ -8,6 +8,7 @@ ghost use Rattle.cd_outside.specs.declared.past.Connection.{Connection};
 ghost use Rattle.cd_outside.specs.declared.past.Past.{Past};
 ghost use Rattle.cd_outside.specs.Counts.{count_end, Rose};
 ghost use Rattle.cd_outside.specs.Past.{after_accept, after_put, with_connection};
+ghost use Rattle.cd_outside.specs.Since.{SinceAccept, CameWith};
 ghost use Rattle.cd_text.specs.Steps.{joined};
 ghost use Rattle.cd_wire.specs.declared.request.Request.{Request};
 ghost use Rattle.cd_wire.specs.Requests.{BeginsRequest};
@@ -23,6 +24,7 @@ ghost use Rattle.cd_serve.specs.Episodes.{Outcome, is_halt, another_halted};
 ghost use Rattle.cd_serve.specs.Replies.{Reply, is_whole};
 ghost use Rattle.cd_serve.specs.Connections.{Way, Ending, AllGoOn, EndsBy, Serves};
 ghost use Rattle.cd_serve.specs.Complete.{IsComplete};
+ghost use Rattle.cd_serve.specs.Guarding.{ConnectionKeepsUp};
 ghost use Rattle.cd_serve.specs.Lanes.{IsTold, Told, is_interrupted, finds_halt, interrupted_in, faulted_in, halted_in, answered_in, LaneSoFar};
 ghost use Rattle.cd_serve.specs.Reports.{Span, LaneReport, ReportsFrom, EachCovered, NoneRose, NoneInterrupted, ServedLane, ServedLanesFrom, LanesTold, lanes_of};
 ghost use Rattle.cd_serve.specs.Serving.{Replied, ConnectionSoFar, ConnectionServed, CausedBy, HasRisen, cut_by};
@@ -120,20 +122,22 @@ pub fn connections_end()
 /// What is told of a lane goes on from nothing, with each connection that is accepted and served, to its last accept, which says
 /// that no more comes or fails.
 pub fn lanes_go_on()
-    ensures starts { (m : Meaning) (k : ℕ) (history : List Signed) (faults : ℕ) (p : Past)
-        → LaneSoFar m k history [] faults faults 0 0 0 p p }
-    ensures goes { (m : Meaning) (k : ℕ) (at : Address) (seen longer : List Signed) (own more : List Placed) (p q now : Past) (first faults accepted_at served_at answered cut halts : ℕ) (end : ConnectionEnd)
-        → LaneSoFar m k seen own first faults answered cut halts p q
+    ensures starts { (m : Meaning) (k : ℕ) (history : List Signed) (faults : ℕ) (since : Option (List ℕ)) (p : Past)
+        → LaneSoFar m k history [] faults faults 0 0 0 since since p p }
+    ensures goes { (m : Meaning) (k : ℕ) (at : Address) (seen longer : List Signed) (own more : List Placed) (p q now : Past) (first faults accepted_at served_at answered cut halts : ℕ) (end : ConnectionEnd) (since then later : Option (List ℕ))
+        → LaneSoFar m k seen own first faults answered cut halts since then p q
         → IsPrefix seen longer → IsPrefix (through k own) seen
         → faults ≤ accepted_at → HasRisen end.cause accepted_at served_at
         → ConnectionServed m k at seen longer more end (Some (after_accept (accepted.Connection at) q)) (Some now)
-        → LaneSoFar m k longer (own ++ more) first served_at (min (answered + end.answered) count_end) (cut_by end.cause cut) (halts + cond end.halted 1 0) p now }
-    ensures ends { (m : Meaning) (k : ℕ) (history : List Signed) (own : List Placed) (p q : Past) (first faults later answered cut halts : ℕ)
-        → LaneSoFar m k history own first faults answered cut halts p q → faults ≤ later
-        → LaneSoFar m k history own first later answered cut halts p (after_accept accepted.Ended q) }
-    ensures fails { (m : Meaning) (k : ℕ) (history : List Signed) (own : List Placed) (p q : Past) (first faults later answered cut halts : ℕ)
-        → LaneSoFar m k history own first faults answered cut halts p q → faults ≤ later → Rose faults later
-        → LaneSoFar m k history own first later answered cut halts p (after_accept accepted.Failed q) }
+        → SinceAccept then (accepted.Connection at) later
+        → ((serial : ℕ) → CameWith later serial → ConnectionKeepsUp serial k more end (Some (after_accept (accepted.Connection at) q)) (Some now))
+        → LaneSoFar m k longer (own ++ more) first served_at (min (answered + end.answered) count_end) (cut_by end.cause cut) (halts + cond end.halted 1 0) since later p now }
+    ensures ends { (m : Meaning) (k : ℕ) (history : List Signed) (own : List Placed) (p q : Past) (first faults later answered cut halts : ℕ) (since then : Option (List ℕ))
+        → LaneSoFar m k history own first faults answered cut halts since then p q → faults ≤ later
+        → LaneSoFar m k history own first later answered cut halts since then p (after_accept accepted.Ended q) }
+    ensures fails { (m : Meaning) (k : ℕ) (history : List Signed) (own : List Placed) (p q : Past) (first faults later answered cut halts : ℕ) (since then : Option (List ℕ))
+        → LaneSoFar m k history own first faults answered cut halts since then p q → faults ≤ later → Rose faults later
+        → LaneSoFar m k history own first later answered cut halts since then p (after_accept accepted.Failed q) }
 {}
 
 /// Lanes that were served by passes of their own, of one legal history, tell of it together: each of its own pass, and all of

@@ -9,6 +9,9 @@
 //! what several lanes tell together. All of it is said of the entries of one pass, each with the history before it (`Placed` of
 //! `cd_legal`), and of what a set of modules means (`Meaning`). What is sent on a connection is one record (`Sent`).
 //!
+//! Several lanes may serve a connection in turn. specs/Since.antt says that it never goes back to an older configuration then: each
+//! lane is told the serial of each Begin, and a request that the lane declines gets no answer (request.rt, specs/Guarding.antt).
+//!
 //! The functions of `laws` do nothing: their contracts are laws of these definitions, so that the layers above need not look
 //! into them. That no request is answered under an older configuration than its pass has seen is a law of `cd_legal`.
 //! answering.rt has the answers to changes that are not made, and to the halt, and sending.rt what is sent for an answer.

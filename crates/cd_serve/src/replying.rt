@@ -21,6 +21,7 @@ pub(crate) fn reply_with<L: Lane>(
 ) -> How
     requires { L.busy lane.old ≡ true }
     ensures sent { IsSent result request.now answer.now [] [] (L.past lane.old) (L.past lane.new) }
+    ensures since { L.since lane.new ≡ L.since lane.old }
     ensures lane { KeepsConnection (is_fault result ≡ true) (L.busy lane.new) (L.faults lane.old) (L.faults lane.new) }
 {
     let Ok(bytes) = sent(alloc, request, answer) else {
@@ -40,6 +41,7 @@ pub(crate) fn reply_by<L: Lane>(
 ) -> How
     requires { L.busy lane.old ≡ true }
     ensures sent { IsSent result request.now answer.now (map logged lines.now) [] (L.past lane.old) (L.past lane.new) }
+    ensures since { L.since lane.new ≡ L.since lane.old }
     ensures lane { KeepsConnection (is_fault result ≡ true) (L.busy lane.new) (L.faults lane.old) (L.faults lane.new) }
 {
     let Ok(()) = write_sent(alloc, out, request, answer) else {
@@ -62,6 +64,7 @@ pub(crate) fn send<L: Lane>(
     requires bytes { bytes.now ≡ sent request.now answer.now }
     ensures sent { IsSent result request.now answer.now (map logged lines.now) [] (L.past lane.old) (L.past lane.new) }
     ensures made { ¬ (result ≡ how.NoMemory) }
+    ensures since { L.since lane.new ≡ L.since lane.old }
     ensures lane { KeepsConnection (is_fault result ≡ true) (L.busy lane.new) (L.faults lane.old) (L.faults lane.new) }
 {
     match put(lane, bytes) {
@@ -78,6 +81,7 @@ pub(crate) fn send<L: Lane>(
 fn log_all<L: Lane>(lane: &mut L, lines: &[Line]) -> bool
     requires { L.busy lane.old ≡ true }
     ensures logged { IsLogged result (map logged lines.now) (L.past lane.old) (L.past lane.new) }
+    ensures since { L.since lane.new ≡ L.since lane.old }
     ensures lane { KeepsConnection (result ≡ false) (L.busy lane.new) (L.faults lane.old) (L.faults lane.new) }
 {
     let mut next = 0;

@@ -1,9 +1,8 @@
 //! What an app answers to a request, and what is logged of it.
-ghost use Rattle.std.specs.Prelude.{◌≡◌, IfOk, map};
-ghost use Rattle.cd_module_set.specs.Acts.{conf_acts};
-ghost use Rattle.cd_module_set.specs.declared.target.Target.TheVariants.{App};
+ghost use Rattle.std.specs.Prelude.{◌≡◌, IfOk, Some, map, option_map};
+ghost use Rattle.cd_module_set.specs.Acts.{answer_at, conf_acts};
 ghost use Rattle.cd_life.specs.Shares.{compiled_in, conf_in};
-ghost use Rattle.cd_serve.specs.Meanings.{AppAnswers, logged};
+ghost use Rattle.cd_serve.specs.Meanings.{AppAnswers, Responds, logged};
 
 use cd_hall::Ticket;
 use cd_module_set::{Line, ModuleSet, Responder};
@@ -19,36 +18,37 @@ pub(crate) struct Response<'a> {
     pub lines: List<Line>,
 }
 
-/// The answer of the responder at the address, which is an app, under the configuration of the ticket.
+/// The answer of the responder at the address under the configuration of the ticket, with its lines, where it is an app. None where
+/// no app answers there.
 pub(crate) fn respond<'a, M: ModuleSet>(
     alloc: Global,
     ticket: &'a Ticket<M>,
     at: &Address,
     responder: Responder,
     request: &'a Request,
-) -> Result<Response<'a>, NoMemory>
-    requires app { (conf_acts M.acts (conf_in ticket.now.share)).target at.now ≡ App }
-    requires responds { M.responds (compiled_in ticket.now.share) at.now responder }
-    ensures { IfOk result (λ r. AppAnswers (record { acts = M.acts; plan = M.plan }) (conf_in ticket.now.share) at.now request.now r.answer (map logged r.lines)) }
+) -> Result<Option<Response<'a>>, NoMemory>
+    requires { M.responds (compiled_in ticket.now.share) at.now responder }
+    ensures { IfOk result (λ found. Responds (record { acts = M.acts; plan = M.plan }) (conf_in ticket.now.share) at.now request.now (option_map (λ r. (r.answer, map logged r.lines)) found)) }
 {
-    let answer = answer_of(alloc, ticket, at, responder, request)?;
-    let lines = M::lines(alloc, ticket.compiled(), at, responder, request, &answer)?;
-    Ok(Response { answer, lines })
+    match M::answer(alloc, ticket.compiled(), at, responder, request)? {
+        None => Ok(None),
+        Some(answer) => Ok(Some(with_lines(alloc, ticket, at, responder, request, answer)?)),
+    }
 }
 
-fn answer_of<'a, M: ModuleSet>(
+// The answer of an app with its lines.
+fn with_lines<'a, M: ModuleSet>(
     alloc: Global,
     ticket: &'a Ticket<M>,
     at: &Address,
     responder: Responder,
     request: &'a Request,
-) -> Result<Answer<'a>, NoMemory>
-    requires app { (conf_acts M.acts (conf_in ticket.now.share)).target at.now ≡ App }
+    answer: Answer<'a>,
+) -> Result<Response<'a>, NoMemory>
+    requires answer { Some answer ≡ answer_at (conf_acts M.acts (conf_in ticket.now.share)) at.now request.now }
     requires responds { M.responds (compiled_in ticket.now.share) at.now responder }
-    ensures { IfOk result (λ answer. answer ≡ (conf_acts M.acts (conf_in ticket.now.share)).answer at.now request.now) }
+    ensures { IfOk result (λ r. AppAnswers (record { acts = M.acts; plan = M.plan }) (conf_in ticket.now.share) at.now request.now r.answer (map logged r.lines)) }
 {
-    match M::answer(alloc, ticket.compiled(), at, responder, request)? {
-        Some(answer) => Ok(answer),
-        None => unreachable!(),
-    }
+    let lines = M::lines(alloc, ticket.compiled(), at, responder, request, &answer)?;
+    Ok(Response { answer, lines })
 }

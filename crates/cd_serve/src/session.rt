@@ -10,6 +10,7 @@ ghost use Rattle.cd_legal.specs.Begins.{begins_now};
 ghost use Rattle.cd_legal.specs.Entry.{entries};
 ghost use Rattle.cd_gate.specs.declared.view.View.{View};
 ghost use Rattle.cd_serve.specs.declared.how.How.TheVariants as served;
+ghost use Rattle.cd_serve.specs.Guarding.{IsCut, gives_none};
 ghost use Rattle.cd_serve.specs.Meanings.{Meaning};
 ghost use Rattle.cd_serve.specs.Requests.{RequestServed, is_fault};
 ghost use Rattle.cd_serve.specs.Stepping.{GoesOn, Steps, RisesBy, HaltedBy};
@@ -32,6 +33,8 @@ pub(crate) fn after_request<T: Stands, L: Lane>(
         → GoesOn m at left session.old.ended session.old.answered v w first old → BeginsRequest left q session.old.intake
         → RequestServed m at q how w x old (L.past lane.old) → (how ≡ served.Worn → MAX_BEGINS ≤ begins_now (entries x.seen))
         → Steps m at result session.new.intake session.new.ended session.new.answered v x first (L.past lane.new) }
+    ensures since { L.since lane.new ≡ L.since lane.old }
+    ensures unanswered { gives_none how ≡ true → IsCut result × (L.past lane.new ≡ L.past lane.old) }
     ensures cause { (before : ℕ) → before ≤ L.faults lane.old → (is_fault how ≡ true → Rose before (L.faults lane.old)) → RisesBy result before (L.faults lane.new) }
     ensures halted { (halted : Bool) → (how ≡ served.Halted → halted ≡ true) → HaltedBy result halted }
 {

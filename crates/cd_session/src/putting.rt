@@ -11,6 +11,7 @@ use cd_outside::{Given, Lane};
 pub fn put<L: Lane>(lane: &mut L, bytes: &[u8]) -> Given
     requires { L.busy lane.old ≡ true }
     ensures past { (part : List ℕ) × IsGivenOf result part bytes.now × (L.past lane.new ≡ option_map (after_put part) (L.past lane.old)) }
+    ensures since { L.since lane.new ≡ L.since lane.old }
     ensures lane { KeepsConnection (result ≡ given.Failed) (L.busy lane.new) (L.faults lane.old) (L.faults lane.new) }
 {
     if bytes.is_empty() {

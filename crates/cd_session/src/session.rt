@@ -66,6 +66,7 @@ pub fn read_more<L: Lane>(
     requires room { 0 < length room.old }
     ensures busy { L.busy lane.new ≡ true }
     ensures reads { ReadsOn result session.old.intake session.new.intake session.old.ended session.new.ended session.old.answered session.new.answered (L.past lane.old) (L.past lane.new) }
+    ensures since { L.since lane.new ≡ L.since lane.old }
     ensures cause { RisesBy result (L.faults lane.old) (L.faults lane.new) }
     ensures halted { (halted : Bool) → HaltedBy result halted }
 {
@@ -82,6 +83,7 @@ fn take_more<L: Lane>(session: &mut Session, lane: &mut L, room: &mut [u8]) -> O
     requires room { 0 < length room.old }
     ensures busy { L.busy lane.new ≡ true }
     ensures reads { ReadsOn result session.old.intake session.new.intake session.old.ended session.new.ended session.old.answered session.new.answered (L.past lane.old) (L.past lane.new) }
+    ensures since { L.since lane.new ≡ L.since lane.old }
     ensures cause { RisesBy result (L.faults lane.old) (L.faults lane.new) }
     ensures halted { (halted : Bool) → HaltedBy result halted }
 {
@@ -101,6 +103,7 @@ pub fn refuse<L: Lane>(fault: WireFault, session: &Session, lane: &mut L) -> Con
     requires { L.busy lane.old ≡ true }
     ensures busy { L.busy lane.new ≡ true }
     ensures refused { IsRefused fault session.now.answered result (L.past lane.old) (L.past lane.new) }
+    ensures since { L.since lane.new ≡ L.since lane.old }
     ensures cause { RisesBy (Some result) (L.faults lane.old) (L.faults lane.new) }
     ensures halted { (halted : Bool) → HaltedBy (Some result) halted }
 {

@@ -3,8 +3,8 @@
 //! `StreamLane` has one connection, over a reader and a writer, and log lines; `Console` is a sink over a writer; `ConfigSource` reads the file
 //! of the configuration. Each is generic over std's readers and writers, so a clause speaks of every one of them. Of a reader or a
 //! writer that tells its bytes it says which are taken and written: the end is answered only where none is left, and a piece is
-//! given only where all of it was written. Of a write that failed it says how many bytes were written at least (`put`, and `Gives` of a
-//! lane). Standard streams and files tell no bytes. That the program hands over the right ones is tested over real ones
+//! given only where all of it was written. Of a write that failed it says how many bytes were written at least (`put`, and `Gives` of
+//! `cd_outside`). Standard streams and files tell no bytes. That the program hands over the right ones is tested over real ones
 //! (tests/loopback).
 //!
 //! `Writers` has the log writers that lanes share, `LogFile` is one file of them, and names.rt says what their names stand for. A
@@ -21,7 +21,6 @@ mod announced;
 mod config_file;
 mod console;
 mod escaping;
-mod giving;
 mod lines;
 mod log_file;
 mod messages;
@@ -37,7 +36,6 @@ pub use after_messages::AfterMessages;
 pub use announced::{Announced, Explains};
 pub use config_file::{ConfigFile, ConfigSource};
 pub use console::Console;
-pub use giving::{Gives, given_of};
 pub use lines::{HTTPS_PORT, caused_line, https_port_is, key_line, listening_line};
 pub use log_file::LogFile;
 pub use messages::{MAX_LINE_BYTES, MAX_LINES, Messages, TakesNow};

@@ -4,8 +4,7 @@ ghost use Rattle.cd_outside.specs.declared.given.Given.TheVariants.{All};
 ghost use Rattle.cd_outside.specs.Taken.{IsTakenWithin};
 ghost use Rattle.cd_stdio.specs.Moving.{Takes, GivesFront};
 
-use crate::given_of;
-use cd_outside::{Given, Taken};
+use cd_outside::{Given, Taken, given_of};
 use cd_text::rest_from;
 use std::io;
 use std::io::{ErrorKind, Read, Write};

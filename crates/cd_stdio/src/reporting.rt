@@ -1,7 +1,7 @@
 ghost use Rattle.std.specs.Prelude.{◌≡◌};
 
-use crate::{Explains, Gives, Messages, TakesNow, caused_line, key_line};
-use cd_outside::{Accepted, Given, Key, Lane, Received, Taken};
+use crate::{Explains, Messages, TakesNow, caused_line, key_line};
+use cd_outside::{Accepted, Given, Gives, Key, Lane, Received, Taken};
 use cd_text::{NoMemory, Text};
 use cd_wire::Intake;
 use std::alloc::Global;
@@ -119,6 +119,8 @@ impl<'m, R: Wait, L: Lane + Explains, W: TakesNow> Lane for Reporting<'m, R, L, 
 
     ghost past = { λ reporting. L.past reporting.lane };
 
+    ghost since = { λ reporting. L.since reporting.lane };
+
     fn accept(&mut self) -> Accepted {
         self.messages.send(self.rt);
         let accepted = self.lane.accept();
@@ -153,6 +155,10 @@ impl<'m, R: Wait, L: Lane + Explains, W: TakesNow> Lane for Reporting<'m, R, L, 
 
     fn keep<S: Wait>(&mut self, rt: &S, serial: u32, text: &[u8]) -> Given {
         self.lane.keep(rt, serial, text)
+    }
+
+    fn seen(&mut self, serial: u32) -> Given {
+        self.lane.seen(serial)
     }
 
     fn end(&mut self) {

@@ -11,10 +11,8 @@ ghost use Rattle.cd_stdio.specs.Moving.{Takes, GivesFront};
 ghost use Rattle.cd_stdio.specs.Names.{stream_at, is_standard};
 ghost use Rattle.cd_stdio.specs.declared.names.Stream.TheVariants.{Nowhere};
 
-use crate::{
-    Gives, LogFile, OpenWriters, Stream, filename_of, give, given_of, put, stream_of, take,
-};
-use cd_outside::{Accepted, Address, Given, Key, Lane, Taken};
+use crate::{LogFile, OpenWriters, Stream, filename_of, give, put, stream_of, take};
+use cd_outside::{Accepted, Address, Given, Gives, Key, Lane, Taken, given_of};
 use cd_text::Text;
 use std::alloc::Global;
 use std::fs::{File, Files};
@@ -152,6 +150,8 @@ impl<'r, R: Wait + Files<File = File>, I: Read, O: Write, E: Write> Lane
 
     ghost past = { λ _. None };
 
+    ghost since = { λ _. None };
+
     fn accept(&mut self) -> Accepted
         requires { self.old.connected ≡ false }
         ensures busy { self.new.connected ≡ is_connection result }
@@ -234,6 +234,10 @@ impl<'r, R: Wait + Files<File = File>, I: Read, O: Write, E: Write> Lane
 
     /// Nothing is kept here: the answer is `All`.
     fn keep<S: Wait>(&mut self, _rt: &S, _serial: u32, _text: &[u8]) -> Given {
+        Given::All
+    }
+
+    fn seen(&mut self, _serial: u32) -> Given {
         Given::All
     }
 

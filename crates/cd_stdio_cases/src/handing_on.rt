@@ -4,8 +4,8 @@ ghost use Rattle.std.specs.Prelude.{◌≡◌, None, false, true};
 
 use crate::device::Busy;
 use cd_link::Telling;
-use cd_outside::{Accepted, Address, Given, Key, Lane, Received, Taken};
-use cd_stdio::{Explains, Gives, Messages, Reporting};
+use cd_outside::{Accepted, Address, Given, Gives, Key, Lane, Received, Taken};
+use cd_stdio::{Explains, Messages, Reporting};
 use cd_text::Text;
 use cd_wire::Intake;
 use std::alloc::Global;
@@ -49,6 +49,8 @@ impl Lane for ReadBefore {
 
     ghost past = { λ _. None };
 
+    ghost since = { λ _. None };
+
     fn accept(&mut self) -> Accepted {
         match Address::stdio(self.alloc) {
             Ok(address) => {
@@ -87,6 +89,10 @@ impl Lane for ReadBefore {
     }
 
     fn keep<R: Wait>(&mut self, _rt: &R, _serial: u32, _text: &[u8]) -> Given {
+        Given::All
+    }
+
+    fn seen(&mut self, _serial: u32) -> Given {
         Given::All
     }
 

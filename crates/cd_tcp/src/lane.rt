@@ -4,8 +4,7 @@ ghost use Rattle.cd_outside.specs.Counts.{Rises};
 use crate::connection::Connection;
 use crate::reactor::Next;
 use crate::{Held, Parting, Reactor};
-use cd_outside::{Accepted, Address, Given, Key, Lane, Received, Taken};
-use cd_stdio::{Gives, given_of};
+use cd_outside::{Accepted, Address, Given, Gives, Key, Lane, Received, Taken, given_of};
 use cd_text::Text;
 use cd_wire::Intake;
 use std::alloc::Global;
@@ -127,6 +126,8 @@ impl<'d, R: Wait + Clock> Lane for TcpLane<'d, R> {
 
     ghost past = { λ _. None };
 
+    ghost since = { λ _. None };
+
     fn accept(&mut self) -> Accepted {
         let back = self.back.take();
         let mut since = self.since;
@@ -193,6 +194,10 @@ impl<'d, R: Wait + Clock> Lane for TcpLane<'d, R> {
 
     /// Nothing is kept here: the answer is `All`.
     fn keep<W: Wait>(&mut self, _rt: &W, _serial: u32, _text: &[u8]) -> Given {
+        Given::All
+    }
+
+    fn seen(&mut self, _serial: u32) -> Given {
         Given::All
     }
 

@@ -32,7 +32,7 @@ returns-clause-promises g c =
     let s = c.start_first-start.ensures.started in
     let end = c.end_run-fixtures.ensures in
     let known : Known (record { acts = g.M.ModuleSet.acts; plan = g.M.ModuleSet.plan }) c.args.first.tree c.args.first.plan (is_served c.announce-how.result)
-    (observed_of g.F.Fixtures.calls g.F.Fixtures.faults g.L.Lane.faults g.L.Lane.past (opening_of c.args.hall.gate).desk.fixtures c.end_run-fixtures.result.fixtures c.args.lanes.items c.serve_or_leave-counts.new.lanes.items
+    (observed_of g.F.Fixtures.calls g.F.Fixtures.faults g.L.Lane.faults g.L.Lane.past g.L.Lane.since (opening_of c.args.hall.gate).desk.fixtures c.end_run-fixtures.result.fixtures c.args.lanes.items c.serve_or_leave-counts.new.lanes.items
     c.serve_or_leave-counts.result.answered c.end_run-fixtures.result.published c.serve_or_leave-counts.result.cut (Some (conf_in c.end_run-fixtures.result.last)))
     (view c.take_root-root.result) (view c.start_first-start.new.pass) (view c.serve_or_leave-counts.new.root) c.serve_or_leave-counts.new.passes.items end.0 = record {
       number = c.take_root-root.ensures.root.idle.number;

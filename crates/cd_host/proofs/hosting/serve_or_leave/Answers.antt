@@ -26,6 +26,6 @@ returns-in-FirstRefused-clause-gone g c =
     let left : is_served c.args.how.now ≡ false = ⊎_elim (λ f. ap is_served f.1) (λ w. ⊎_elim (λ f. ap is_served f) (λ f. ap is_served f) w) c.in-FirstRefused.is in
     left-gone _ (is_served c.args.how.now) (view c.args.root.now).seen _ c.args.passes.now.items c.new.result.answered c.new.result.cut
     left (unused-mine c.args.hall.now 1 c.args.passes.now.items c.requires.ready.passes)
-    (c.requires.ready.enough ∙ sym (spans-length g.L.Lane.faults g.L.Lane.past c.args.lanes.now.items c.args.lanes.now.items refl))
-    (spans-untouched g.L.Lane.faults g.L.Lane.past c.args.lanes.now.items)
+    (c.requires.ready.enough ∙ sym (spans-length g.L.Lane.faults g.L.Lane.past g.L.Lane.since c.args.lanes.now.items c.args.lanes.now.items refl))
+    (spans-untouched g.L.Lane.faults g.L.Lane.past g.L.Lane.since c.args.lanes.now.items)
     (ap (λ n. n.answered) c.new.ensures) (ap (λ n. n.cut) c.new.ensures)

@@ -19,14 +19,14 @@ serve_seated-requires-clause-idle g c κs within =
 
 pub unseat-requires-clause-slots : goal.unseat-requires-clause-slots
 unseat-requires-clause-slots g c κs within =
-    passes-idle c.args.hall.now (record { acts = g.M.ModuleSet.acts; plan = g.M.ModuleSet.plan }) g.L.Lane.busy g.L.Lane.faults g.L.Lane.past 1 c.seat.new.slots.items c.serve_seated.new.slots.items (view c.args.root.now).seen
-    c.seat.ensures.ready (all-served c.args.hall.now (record { acts = g.M.ModuleSet.acts; plan = g.M.ModuleSet.plan }) g.L.Lane.busy g.L.Lane.faults g.L.Lane.past c.seat.new.slots.items c.serve_seated.new.slots.items c.serve_seated.ensures.length c.serve_seated.ensures.served)
+    passes-idle c.args.hall.now (record { acts = g.M.ModuleSet.acts; plan = g.M.ModuleSet.plan }) g.L.Lane.busy g.L.Lane.faults g.L.Lane.past g.L.Lane.since 1 c.seat.new.slots.items c.serve_seated.new.slots.items (view c.args.root.now).seen
+    c.seat.ensures.ready (all-served c.args.hall.now (record { acts = g.M.ModuleSet.acts; plan = g.M.ModuleSet.plan }) g.L.Lane.busy g.L.Lane.faults g.L.Lane.past g.L.Lane.since c.seat.new.slots.items c.serve_seated.new.slots.items c.serve_seated.ensures.length c.serve_seated.ensures.served)
 
 pub returns-clause-back : goal.returns-clause-back
 returns-clause-back g c =
     let m : Meaning = record { acts = g.M.ModuleSet.acts; plan = g.M.ModuleSet.plan } in
-    let served = all-served c.args.hall.now m g.L.Lane.busy g.L.Lane.faults g.L.Lane.past c.seat.new.slots.items c.serve_seated.new.slots.items c.serve_seated.ensures.length c.serve_seated.ensures.served in
-    let idle = passes-idle c.args.hall.now m g.L.Lane.busy g.L.Lane.faults g.L.Lane.past 1 c.seat.new.slots.items c.serve_seated.new.slots.items (view c.args.root.now).seen c.seat.ensures.ready served in
+    let served = all-served c.args.hall.now m g.L.Lane.busy g.L.Lane.faults g.L.Lane.past g.L.Lane.since c.seat.new.slots.items c.serve_seated.new.slots.items c.serve_seated.ensures.length c.serve_seated.ensures.served in
+    let idle = passes-idle c.args.hall.now m g.L.Lane.busy g.L.Lane.faults g.L.Lane.past g.L.Lane.since 1 c.seat.new.slots.items c.serve_seated.new.slots.items (view c.args.root.now).seen c.seat.ensures.ready served in
     record {
       root = search rules;
       seen = search rules;
@@ -35,11 +35,11 @@ returns-clause-back g c =
       as_many_passes = as-many (λ slot. slot.pass) (λ slot. slot.lane) c.seat.new.slots.items c.serve_seated.new.slots.items c.unseat.new.passes.items c.args.lanes.now.items c.unseat.ensures.passes c.serve_seated.ensures.length c.seat.ensures.lanes ∙ sym c.requires.ready.enough;
       as_many_lanes = as-many (λ slot. slot.lane) (λ slot. slot.lane) c.seat.new.slots.items c.serve_seated.new.slots.items c.unseat.new.lanes.items c.args.lanes.now.items c.unseat.ensures.lanes c.serve_seated.ensures.length c.seat.ensures.lanes;
       idle = subst (λ lanes. All (λ lane. g.L.Lane.busy lane ≡ false) lanes) (sym c.unseat.ensures.lanes)
-          (lanes-idle c.args.hall.now m g.L.Lane.busy g.L.Lane.faults g.L.Lane.past c.seat.new.slots.items c.serve_seated.new.slots.items served);
+          (lanes-idle c.args.hall.now m g.L.Lane.busy g.L.Lane.faults g.L.Lane.past g.L.Lane.since c.seat.new.slots.items c.serve_seated.new.slots.items served);
     }
 
 pub returns-clause-served : goal.returns-clause-served
 returns-clause-served g c =
-    are-served c.args.hall.now (record { acts = g.M.ModuleSet.acts; plan = g.M.ModuleSet.plan }) g.L.Lane.busy g.L.Lane.faults g.L.Lane.past (view c.args.root.now).seen (view c.unseat.new.root).seen c.seat.new.slots.items c.serve_seated.new.slots.items c.args.lanes.now.items c.unseat.new.lanes.items
-    c.unseat.new.passes.items c.unseat.result.answered c.unseat.result.cut c.seat.ensures.ready (all-served c.args.hall.now (record { acts = g.M.ModuleSet.acts; plan = g.M.ModuleSet.plan }) g.L.Lane.busy g.L.Lane.faults g.L.Lane.past c.seat.new.slots.items c.serve_seated.new.slots.items c.serve_seated.ensures.length c.serve_seated.ensures.served)
+    are-served c.args.hall.now (record { acts = g.M.ModuleSet.acts; plan = g.M.ModuleSet.plan }) g.L.Lane.busy g.L.Lane.faults g.L.Lane.past g.L.Lane.since (view c.args.root.now).seen (view c.unseat.new.root).seen c.seat.new.slots.items c.serve_seated.new.slots.items c.args.lanes.now.items c.unseat.new.lanes.items
+    c.unseat.new.passes.items c.unseat.result.answered c.unseat.result.cut c.seat.ensures.ready (all-served c.args.hall.now (record { acts = g.M.ModuleSet.acts; plan = g.M.ModuleSet.plan }) g.L.Lane.busy g.L.Lane.faults g.L.Lane.past g.L.Lane.since c.seat.new.slots.items c.serve_seated.new.slots.items c.serve_seated.ensures.length c.serve_seated.ensures.served)
     c.seat.ensures.lanes c.unseat.ensures.lanes c.unseat.ensures.passes c.unseat.ensures.within c.unseat.ensures.answered c.unseat.ensures.cut

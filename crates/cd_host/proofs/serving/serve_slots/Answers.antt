@@ -30,5 +30,5 @@ for_each_mut-requires-sync-F g c κs within =
 pub returns-clause-served : goal.returns-clause-served
 returns-clause-served g c i d lt =
     let at = (c.for_each_mut.ensures i d lt).1 in
-    served-as c.args.hall.now (record { acts = g.M.ModuleSet.acts; plan = g.M.ModuleSet.plan }) g.L.Lane.busy g.L.Lane.faults g.L.Lane.past at.argument.now at.after_call.now
+    served-as c.args.hall.now (record { acts = g.M.ModuleSet.acts; plan = g.M.ModuleSet.plan }) g.L.Lane.busy g.L.Lane.faults g.L.Lane.past g.L.Lane.since at.argument.now at.after_call.now
     (slice_index_or c.args.slots.now i d) (slice_index_or c.for_each_mut.new.s i d) at.argument_is at.left at.call

@@ -17,7 +17,7 @@ returns-in-Ok-clause-ends g c = λ fine.
       is = ap (λ e. e.status) is;
       so = rw (is, sym c.into_vec.ensures)
           (run_ends (record { acts = g.M.ModuleSet.acts; plan = g.M.ModuleSet.plan }) c.args.initial
-          (seen g.S.Source.left g.S.Source.faults g.O.Sink.holds g.O.Sink.faults g.F.Fixtures.calls g.F.Fixtures.faults g.L.Lane.past g.L.Lane.faults
+          (seen g.S.Source.left g.S.Source.faults g.O.Sink.holds g.O.Sink.faults g.F.Fixtures.calls g.F.Fixtures.faults g.L.Lane.past g.L.Lane.since g.L.Lane.faults
           c.args.config.now c.load_initial.new.config c.args.out.now c.conclude.new.out c.args.fixtures c.into_vec.result.items
           (record { status = code_of c.conclude.ensures.0; fixtures = end.fixtures; lanes = end.lanes.items; answered = end.answered; published = end.published; cut = end.cut }))
           (g.O.Sink.holds c.run_host-end.new.out) (g.O.Sink.faults c.run_host-end.new.out)
@@ -35,7 +35,7 @@ returns-in-Ok-clause-unbegun g c = λ fell.
     let told = c.run_host-end.ensures in
     rw (c.conclude.ensures.2, sym c.into_vec.ensures)
     (run_short (record { acts = g.M.ModuleSet.acts; plan = g.M.ModuleSet.plan }) c.args.initial
-    (seen g.S.Source.left g.S.Source.faults g.O.Sink.holds g.O.Sink.faults g.F.Fixtures.calls g.F.Fixtures.faults g.L.Lane.past g.L.Lane.faults
+    (seen g.S.Source.left g.S.Source.faults g.O.Sink.holds g.O.Sink.faults g.F.Fixtures.calls g.F.Fixtures.faults g.L.Lane.past g.L.Lane.since g.L.Lane.faults
     c.args.config.now c.load_initial.new.config c.args.out.now c.conclude.new.out c.args.fixtures c.into_vec.result.items
     (record { status = code_of c.conclude.ensures.0; fixtures = end.fixtures; lanes = end.lanes.items; answered = end.answered; published = end.published; cut = end.cut }))
     (g.O.Sink.holds c.run_host-end.new.out) (g.O.Sink.faults c.run_host-end.new.out)

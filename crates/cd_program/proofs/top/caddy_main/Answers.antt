@@ -44,14 +44,14 @@ returns-in-Serve-clause-usage g c = never_2 _ _ (c.run_all.ensures.ends null_may
 
 pub returns-in-Serve-clause-ends : goal.returns-in-Serve-clause-ends
 returns-in-Serve-clause-ends g c =
-    subst (EndsAs (seen g.S.Source.left g.S.Source.faults g.O.Sink.holds g.O.Sink.faults g.F.Fixtures.calls g.F.Fixtures.faults g.L.Lane.past g.L.Lane.faults
+    subst (EndsAs (seen g.S.Source.left g.S.Source.faults g.O.Sink.holds g.O.Sink.faults g.F.Fixtures.calls g.F.Fixtures.faults g.L.Lane.past g.L.Lane.since g.L.Lane.faults
     c.args.config.now c.run_all.new.config c.args.out.now c.run_all.new.out c.args.fixtures c.args.lanes c.run_all.result) c.run_all.result.status) c.in-Serve.ensures (c.run_all.ensures.ends null_may_run, c.run_all.ensures.unbegun)
 
 -- ---- validate
 
 pub returns-in-Validate-clause-ends : goal.returns-in-Validate-clause-ends
 returns-in-Validate-clause-ends g c =
-    subst (EndsAs (seen g.S.Source.left g.S.Source.faults g.O.Sink.holds g.O.Sink.faults g.F.Fixtures.calls g.F.Fixtures.faults g.L.Lane.past g.L.Lane.faults
+    subst (EndsAs (seen g.S.Source.left g.S.Source.faults g.O.Sink.holds g.O.Sink.faults g.F.Fixtures.calls g.F.Fixtures.faults g.L.Lane.past g.L.Lane.since g.L.Lane.faults
     c.args.config.now c.validate.new.config c.args.out.now c.validate.new.out c.args.fixtures c.args.lanes c.unbegun.result) c.unbegun.result.status) c.in-Validate.ensures (
       rw c.unbegun.ensures (record { status = c.validate.result; is = refl; so = c.validate.ensures }),
       rw c.unbegun.ensures (record { unserved = record { lanes = refl; unanswered = refl; uncut = refl }; fixtures = refl; unpublished = refl }),
@@ -61,7 +61,7 @@ returns-in-Validate-clause-ends g c =
 
 pub returns-in-Adapt-clause-ends : goal.returns-in-Adapt-clause-ends
 returns-in-Adapt-clause-ends g c =
-    subst (EndsAs (seen g.S.Source.left g.S.Source.faults g.O.Sink.holds g.O.Sink.faults g.F.Fixtures.calls g.F.Fixtures.faults g.L.Lane.past g.L.Lane.faults
+    subst (EndsAs (seen g.S.Source.left g.S.Source.faults g.O.Sink.holds g.O.Sink.faults g.F.Fixtures.calls g.F.Fixtures.faults g.L.Lane.past g.L.Lane.since g.L.Lane.faults
     c.args.config.now c.adapt_file.new.config c.args.out.now c.adapt_file.new.out c.args.fixtures c.args.lanes c.unbegun-in-Adapt.result) c.unbegun-in-Adapt.result.status) c.in-Adapt.ensures (
       rw c.unbegun-in-Adapt.ensures (record { status = c.adapt_file.result; is = refl; so = c.adapt_file.ensures }),
       rw c.unbegun-in-Adapt.ensures (record { unserved = record { lanes = refl; unanswered = refl; uncut = refl }; fixtures = refl; unpublished = refl }),
@@ -71,7 +71,7 @@ returns-in-Adapt-clause-ends g c =
 
 pub returns-in-Storm-clause-ends : goal.returns-in-Storm-clause-ends
 returns-in-Storm-clause-ends g c =
-    subst (EndsAs (seen g.S.Source.left g.S.Source.faults g.O.Sink.holds g.O.Sink.faults g.F.Fixtures.calls g.F.Fixtures.faults g.L.Lane.past g.L.Lane.faults
+    subst (EndsAs (seen g.S.Source.left g.S.Source.faults g.O.Sink.holds g.O.Sink.faults g.F.Fixtures.calls g.F.Fixtures.faults g.L.Lane.past g.L.Lane.since g.L.Lane.faults
     c.args.config.now c.args.config.now c.args.out.now c.run_storm.new.out c.args.fixtures c.args.lanes c.after_storm.result) c.after_storm.result.status) c.in-Storm.ensures (
       rw c.after_storm.ensures (record { status = c.run_storm.result.status; is = refl; so = c.run_storm.ensures }),
       rw c.after_storm.ensures (record { fixtures = refl; lanes = refl; uncut = refl }),
@@ -81,7 +81,7 @@ returns-in-Storm-clause-ends g c =
 
 pub returns-in-Unknown-clause-ends : goal.returns-in-Unknown-clause-ends
 returns-in-Unknown-clause-ends g c =
-    subst (EndsAs (seen g.S.Source.left g.S.Source.faults g.O.Sink.holds g.O.Sink.faults g.F.Fixtures.calls g.F.Fixtures.faults g.L.Lane.past g.L.Lane.faults
+    subst (EndsAs (seen g.S.Source.left g.S.Source.faults g.O.Sink.holds g.O.Sink.faults g.F.Fixtures.calls g.F.Fixtures.faults g.L.Lane.past g.L.Lane.since g.L.Lane.faults
     c.args.config.now c.args.config.now c.args.out.now c.say_line.new.out c.args.fixtures c.args.lanes c.unbegun-in-Unknown.result) c.unbegun-in-Unknown.result.status) c.in-Unknown.ensures (
       rw c.unbegun-in-Unknown.ensures (record { status = status.Usage; is = refl; so = c.say_line.ensures.unfailing }),
       rw c.unbegun-in-Unknown.ensures (record { unserved = record { lanes = refl; unanswered = refl; uncut = refl }; fixtures = refl; unpublished = refl }),

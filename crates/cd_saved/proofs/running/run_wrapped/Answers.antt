@@ -38,12 +38,12 @@ returns-clause-ran g c =
     let same : length news ≡ length olds = sym (ap length now) ∙ c.run_all-status.ensures.count ∙ ap length before in
     let befores : map (λ w. w.lane) c.from_vec.result ≡ c.args.lanes.items = ap (map (λ w. w.lane)) before ∙ c.wrap_lanes.ensures.lanes in
     let nows : map (λ w. w.lane) c.run_all-status.result.lanes ≡ c.from_vec-2.result = ap (map (λ w. w.lane)) now ∙ sym after in
-    let spans_are = shared-lanes g.L.Lane.faults g.L.Lane.past (λ w. w.lane) (λ w. w.share.amount) olds news c.from_vec.result c.run_all-status.result.lanes c.args.lanes.items c.from_vec-2.result
+    let spans_are = shared-lanes g.L.Lane.faults g.L.Lane.past g.L.Lane.since (λ w. w.lane) (λ w. w.share.amount) olds news c.from_vec.result c.run_all-status.result.lanes c.args.lanes.items c.from_vec-2.result
     before now c.wrap_lanes.ensures.lanes after same c.wrap_lanes.ensures.shares in
     record {
       shares = map (λ w. w.share.amount) news;
-      count = counted-lanes g.L.Lane.faults g.L.Lane.past (λ w. w.lane) (λ w. w.share.amount) olds news c.args.lanes.items c.from_vec-2.result c.wrap_lanes.ensures.lanes after same;
-      total_is = amounts g.L.Lane.faults g.L.Lane.past (λ w. w.lane) (λ w. w.share.amount) news ∙ sym c.unwrap_lanes.ensures.amount;
+      count = counted-lanes g.L.Lane.faults g.L.Lane.past g.L.Lane.since (λ w. w.lane) (λ w. w.share.amount) olds news c.args.lanes.items c.from_vec-2.result c.wrap_lanes.ensures.lanes after same;
+      total_is = amounts g.L.Lane.faults g.L.Lane.past g.L.Lane.since (λ w. w.lane) (λ w. w.share.amount) news ∙ sym c.unwrap_lanes.ensures.amount;
       ends = exits (λ w. w.lane) _ standard c.args.initial c.run_all-status.result.status _ c.args.lanes.items c.from_vec-2.result spans_are befores nows (c.run_all-status.ensures.ends null_may_run);
       short = λ fell. unserved-by (λ w. w.lane) _ _ c.args.lanes.items c.from_vec-2.result befores nows (c.run_all-status.ensures.unbegun fell);
     }

@@ -8,7 +8,7 @@ use Rattle.cd_saved.proofs.top.run_saved.Goals as goal
 pub returns-in-Ok-clause-ends : goal.returns-in-Ok-clause-ends
 returns-in-Ok-clause-ends g c =
     let ended = c.run_over-ended.result.ended in
-    let s = seen g.S.Source.left g.S.Source.faults g.O.Sink.holds g.O.Sink.faults g.F.Fixtures.calls g.F.Fixtures.faults g.L.Lane.past g.L.Lane.faults
+    let s = seen g.S.Source.left g.S.Source.faults g.O.Sink.holds g.O.Sink.faults g.F.Fixtures.calls g.F.Fixtures.faults g.L.Lane.past g.L.Lane.since g.L.Lane.faults
     c.args.config.now c.run_over-ended.new.config c.args.out.now c.run_over-ended.new.out c.args.fixtures c.args.lanes ended in
     let opened = device g.D.Disk.seen g.D.Disk.faults c.in-Ok.saver.slots.disk c.run_over-ended.result.saver.slots.disk in
     let earlier = device g.D.Disk.seen g.D.Disk.faults c.args.disk c.close.result in

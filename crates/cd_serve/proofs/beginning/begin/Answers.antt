@@ -1,10 +1,11 @@
-use Rattle.std.proofs.Common.{◌∷◌, ◌∙◌, [], ℕ, refl, sym, subst}
+use Rattle.std.proofs.Common.{◌∷◌, ◌∙◌, [], ℕ, inl, inr, refl, sym, subst}
 use Rattle.cd_legal.specs.declared.entry.Entry.TheVariants.{Begin}
 use Rattle.cd_gate.specs.Passes.{view}
 use Rattle.cd_hall.specs.Requests.{BegunNow}
 use Rattle.cd_hall.proofs.Placing.{turned_places}
 use Rattle.cd_serve.specs.declared.how.How.TheVariants as how
 use Rattle.cd_serve.proofs.Begun.{served-lacking, unbegun}
+use Rattle.cd_serve.proofs.Guarded.{lacking-given, unbegun-kept}
 use Rattle.cd_serve.proofs.LetGo.{nothing-concluded, nothing-placed}
 use Rattle.cd_serve.proofs.beginning.begin.Goals as goal
 
@@ -54,3 +55,19 @@ returns-in-Worn-clause-nothing g c =
     let w = view c.begin_now.new.pass in
     let f = c.in-Worn.ensures.worn in
     nothing-placed v w [] (turned_places v w f.0 [] (c.the_beginning_of_a_request_is_one_entry.ensures.worn v w f.0 f.1 f.3)) refl
+
+pub returns-in-Err-clause-keeps_up : goal.returns-in-Err-clause-keeps_up
+returns-in-Err-clause-keeps_up g c since past =
+    let v = view c.args.pass.now in
+    let w = view c.begin_now.new.pass in
+    let b = c.in-Stale.ensures.stale in
+    let t = c.the_beginning_of_a_request_is_one_entry.ensures.turned v w c.in-Stale.hold.serial b.0 b.1 c.requires.pass.unchecked in
+    let f = c.in-Err.ensures.finishes in
+    inr (refl, lacking-given c.in-Stale.hold.serial v w (view c.retire_due.new.pass) b.0 past t.0 t.1 (c.retire_due.ensures.concluded w c.in-Stale.hold.serial f.0 f.1 f.2 (c.in-Err.ensures.due f.0 f.1)))
+
+pub returns-in-Worn-clause-keeps_up : goal.returns-in-Worn-clause-keeps_up
+returns-in-Worn-clause-keeps_up g c since past =
+    let v = view c.args.pass.now in
+    let w = view c.begin_now.new.pass in
+    let f = c.in-Worn.ensures.worn in
+    inl (unbegun-kept since v w (turned_places v w f.0 [] (c.the_beginning_of_a_request_is_one_entry.ensures.worn v w f.0 f.1 f.3)))

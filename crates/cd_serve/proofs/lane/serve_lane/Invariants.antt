@@ -14,5 +14,5 @@ invariant-loop g l = record {
   cache : IsCacheOf (view l.pass) l.cache;
   busy : g.L.Lane.busy l.lane ≡ false;
   later : g.L.Lane.faults l.initial.lane ≤ g.L.Lane.faults l.lane;
-  goes : LaneGoesOn (record { acts = g.M.ModuleSet.acts; plan = g.M.ModuleSet.plan }) (g.L.Lane.faults l.initial.lane) (g.L.Lane.faults l.lane) l.counts.answered l.counts.cut 0 (view l.initial.pass) (view l.pass) (g.L.Lane.past l.initial.lane) (g.L.Lane.past l.lane);
+  goes : LaneGoesOn (record { acts = g.M.ModuleSet.acts; plan = g.M.ModuleSet.plan }) (g.L.Lane.faults l.initial.lane) (g.L.Lane.faults l.lane) l.counts.answered l.counts.cut 0 (view l.initial.pass) (view l.pass) (g.L.Lane.since l.initial.lane) (g.L.Lane.since l.lane) (g.L.Lane.past l.initial.lane) (g.L.Lane.past l.lane);
 }

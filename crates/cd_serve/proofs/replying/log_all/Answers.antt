@@ -1,4 +1,4 @@
-use Rattle.std.proofs.Common.{◌∙◌, ◌++◌, ◌∷◌, ◌+◌, [], take, ap, sym, arith}
+use Rattle.std.proofs.Common.{◌∙◌, ◌++◌, ◌∷◌, ◌+◌, [], take, refl, ap, sym, arith}
 use Rattle.std.specs.Prelude.{map}
 use Rattle.std.proofs.lemmas.List.{take_more, map-append}
 use Rattle.cd_module_set.specs.declared.target.Line.{Line}
@@ -12,6 +12,7 @@ logging-init g c = record {
   inside = omega arith;
   busy = c.requires;
   later = omega arith;
+  since = refl;
   past = nothing-sent (g.L.Lane.past c.args.lane.now);
 }
 
@@ -20,6 +21,7 @@ logging-preserved g c = record {
   inside = omega (arith, c.logging-test.true);
   busy = c.in-All.ensures.busy;
   later = omega (arith, c.logging.invariant.later, c.in-All.ensures.cause.later);
+  since = c.in-All.ensures.since ∙ c.logging.invariant.since;
   past = line-logged (map logged (take c.logging.next c.args.lines.now)) (logged c.index-lines-next.result) (map logged (take (c.logging.next + 1) c.args.lines.now)) (g.L.Lane.past c.args.lane.now) (g.L.Lane.past c.logging.lane) (g.L.Lane.past c.log.new.self) c.logging.invariant.past c.in-All.ensures.past
       (ap (map logged) (take_more c.args.lines.now c.logging.next c.index-lines-next.result c.logging-test.true ∙ ap (λ (x : Line). take c.logging.next c.args.lines.now ++ x ∷ []) (sym c.index-lines-next.is)) ∙ map-append logged (take c.logging.next c.args.lines.now) (c.index-lines-next.result ∷ []));
 }

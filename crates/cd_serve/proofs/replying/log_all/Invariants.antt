@@ -10,6 +10,7 @@ invariant-logging g l = record {
   inside : l.next ≤ length l.lines;
   busy : g.L.Lane.busy l.lane ≡ true;
   later : g.L.Lane.faults l.initial.lane ≤ g.L.Lane.faults l.lane;
+  since : g.L.Lane.since l.lane ≡ g.L.Lane.since l.initial.lane;
   past : g.L.Lane.past l.lane ≡ option_map (with_connection (after_sending (only_lines (map logged (take l.next l.lines))))) (g.L.Lane.past l.initial.lane);
 }
 

@@ -1,4 +1,4 @@
-use Rattle.std.proofs.Common.{List, ℕ, refl, sym, subst}
+use Rattle.std.proofs.Common.{List, ℕ, inl, refl, sym, subst}
 use Rattle.cd_gate.specs.Passes.{view}
 use Rattle.cd_legal.specs.Legal.{state_at}
 use Rattle.cd_wire.specs.Requests.{Tail}
@@ -7,6 +7,7 @@ use Rattle.cd_session.specs.declared.cause.Cause.TheVariants as cause
 use Rattle.cd_session.specs.Reading.{ReadsOn}
 use Rattle.cd_serve.specs.Connections.{IsTail}
 use Rattle.cd_serve.specs.Meanings.{Meaning}
+use Rattle.cd_serve.proofs.Guarded.{step-kept, step-keeps-up}
 use Rattle.cd_serve.proofs.Stepping.{reads-on, over-clean, over-cut, over-refuse, over-reading, ends-as}
 use Rattle.cd_serve.proofs.means.Means.serve_next.Goals as goal
 
@@ -60,3 +61,24 @@ returns-in-Err-clause-steps g c v first going =
     let past = g.L.Lane.past c.args.lane.now in
     ends-as m c.args.self.now.at.now cause.Lacking session.answered v (view c.args.pass.now) first past c.end-in-Err.result c.end-in-Err.ensures
     (over-reading m c.args.self.now.at.now session.intake session.ended session.answered v (view c.args.pass.now) first past going cause.Lacking (refl, refl))
+
+pub returns-in-Ok-Request-clause-keeps_up : goal.returns-in-Ok-Request-clause-keeps_up
+returns-in-Ok-Request-clause-keeps_up g c since v first came going kept =
+    let session = c.args.session.now in
+    step-keeps-up (record { acts = g.M.ModuleSet.acts; plan = g.M.ModuleSet.plan }) c.args.self.now.at.now since session.intake session.ended session.answered v (view c.args.pass.now) first (g.L.Lane.past c.args.lane.now) going kept
+    c.serve_request-how.result c.after_request.result (view c.serve_request-how.new.pass) (g.L.Lane.past c.serve_request-how.new.lane) (g.L.Lane.past c.after_request.new.lane) (c.serve_request-how.ensures.keeps_up since came) c.after_request.ensures.unanswered
+
+pub returns-in-Ok-More-clause-keeps_up : goal.returns-in-Ok-More-clause-keeps_up
+returns-in-Ok-More-clause-keeps_up g c since v first came going kept = step-kept since c.read_more.result v (view c.args.pass.now) first (g.L.Lane.past c.read_more.new.lane) kept
+
+pub returns-in-Ok-End-clause-keeps_up : goal.returns-in-Ok-End-clause-keeps_up
+returns-in-Ok-End-clause-keeps_up g c since v first came going kept = inl kept
+
+pub returns-in-Ok-Cut-clause-keeps_up : goal.returns-in-Ok-Cut-clause-keeps_up
+returns-in-Ok-Cut-clause-keeps_up g c since v first came going kept = inl kept
+
+pub returns-in-Ok-Refused-clause-keeps_up : goal.returns-in-Ok-Refused-clause-keeps_up
+returns-in-Ok-Refused-clause-keeps_up g c since v first came going kept = inl kept
+
+pub returns-in-Err-clause-keeps_up : goal.returns-in-Err-clause-keeps_up
+returns-in-Err-clause-keeps_up g c since v first came going kept = inl kept
