@@ -1,5 +1,5 @@
 -- What a lane tells, where the life of its connection goes on.
-use Rattle.std.proofs.Common.{◌≡◌, ◌<◌, ◌++◌, ◌∙◌, ℕ, zero, suc, List, [], ◌∷◌, length, Some, Option, refl, sym, ap, subst, arith}
+use Rattle.std.proofs.Common.{◌≡◌, ◌<◌, ◌≤◌, ◌++◌, ◌∙◌, ℕ, List, [], ◌∷◌, length, Some, Option, None, is_some, unwrap_or, option_map, true, refl, sym, ap, subst, arith}
 use Rattle.cd_outside.specs.declared.past.Past.{Past}
 use Rattle.cd_outside.specs.declared.past.Connection.{Connection}
 use Rattle.cd_outside.specs.declared.key.Key.{Key}
@@ -9,8 +9,9 @@ use Rattle.cd_outside.specs.Received.{IsReceived, after_receipt}
 use Rattle.cd_outside.specs.Given.{IsGivenOf}
 use Rattle.cd_outside.specs.declared.given.Given.{Given}
 use Rattle.cd_outside.specs.declared.given.Given.TheVariants as given
+use Rattle.cd_outside.specs.Since.{CameWith}
 use Rattle.cd_outside.specs.Past.{with_last, with_connection, after_put, after_line, after_keep}
-use Rattle.cd_link.specs.Lanes.{last_of, with_stretch, past_of, stretches}
+use Rattle.cd_link.specs.Lanes.{last_of, with_stretch, past_of, stretches, serials, last_serial}
 use Rattle.cd_link.specs.Links.{IsWritten, Receives}
 
 last_with : {A : Type 0} (f : A → A) (cs : List A) → last_of (with_last f cs) ≡ with_last f (last_of cs)
@@ -108,3 +109,22 @@ last_after (x ∷ xs) ys some = last_cons x (xs ++ ys) (some_more xs ys some) �
 
 pub last_told : (over life : Past) → 0 < length life.connections → last_of (with_stretch over life).connections ≡ last_of life.connections
 last_told over life some = last_after over.connections (last_of life.connections) (last_some life.connections some) ∙ last_twice life.connections
+
+-- the serial that is told last
+pub last_serial_added : (serials : List ℕ) (serial : ℕ) → last_serial (serials ++ serial ∷ []) ≡ serial
+last_serial_added [] serial = refl
+last_serial_added (x ∷ []) serial = refl
+last_serial_added (x ∷ y ∷ ys) serial = last_serial_added (y ∷ ys) serial
+
+-- of a connection that comes its serial is told last
+pub told_serial : {A : Type 0} (serial : A → ℕ) (held : Option A) (before now : List ℕ) → now ≡ before ++ serials (option_map serial held) → is_some held ≡ true → last_serial now ≤ unwrap_or (option_map serial held) 0
+told_serial serial None before now is some = cc
+told_serial serial (Some x) before now is some =
+    let same : last_serial now ≡ serial x = ap last_serial is ∙ last_serial_added before (serial x) in
+    omega (arith, same)
+
+-- a request that begins under no older serial than the connection has begins under none that is older than what it came with
+pub came_last : (told : List ℕ) (least held serial : ℕ) → CameWith (Some told) least → last_serial told ≤ held → held ≤ serial → least ≤ serial
+came_last told least held serial (before, is) kept later =
+    let same : last_serial told ≡ least = ap (λ (o : Option (List ℕ)). last_serial (unwrap_or o [])) is ∙ last_serial_added before least in
+    omega (arith, same, kept, later)

@@ -1,5 +1,5 @@
 //! A connection, with what has come of it and what is still to be sent.
-ghost use Rattle.std.specs.Prelude.{◌≡◌, ◌==◌, ◌++◌, ◌<◌, ◌≤◌, ◌↔◌, List as Values, ℕ, length, take, [], false, IsTrue, IsFalse, IfOk};
+ghost use Rattle.std.specs.Prelude.{◌≡◌, ◌==◌, ◌++◌, ◌<◌, ◌≤◌, ◌↔◌, List as Values, ℕ, length, take, max, [], false, nat_le, IsTrue, IsFalse, IfOk};
 ghost use Rattle.cd_outside.specs.declared.accepted.Accepted.TheVariants.{Connection as Accepts};
 ghost use Rattle.cd_outside.specs.declared.given.Given.TheVariants as given;
 ghost use Rattle.cd_outside.specs.declared.received.Received.TheVariants as received;
@@ -38,6 +38,8 @@ pub struct Link<S> {
     broken: bool,
     // whether further stretches may follow
     goes_on: bool,
+    // under which serial a request has last begun on it, 0 where none has
+    serial: u32,
     // its stretches, as one lane would report them that had served them all
     pub(crate) life: Told<Past>,
     // all bytes that came and were kept
@@ -85,6 +87,7 @@ impl<S> Link<S> {
         ensures life { result.life.value.connections ≡ [] }
         ensures given { result.given.value ≡ [] }
         ensures sent { result.sent.value ≡ [] }
+        ensures serial { result.serial ≡ 0 }
     {
         Link {
             stream,
@@ -93,6 +96,7 @@ impl<S> Link<S> {
             unsent: Unsent::new(alloc),
             broken: false,
             goes_on: true,
+            serial: 0,
             life: unlived(alloc),
             given: Told::of(&Octets::new(alloc)),
             sent: Told::of(&Octets::new(alloc)),
@@ -126,6 +130,13 @@ impl<S> Link<S> {
         ensures { result ≡ self.now.goes_on }
     {
         self.goes_on
+    }
+
+    /// The serial under which a request has last begun on it, in whichever stretch, 0 where none has.
+    pub fn serial(&self) -> u32
+        ensures { result ≡ self.now.serial }
+    {
+        self.serial
     }
 
     /// How many bytes wait to be sent.
@@ -164,6 +175,7 @@ impl<S> Link<S> {
         ensures stream { self.new.stream ≡ self.old.stream }
         ensures given { self.new.given.value ≡ self.old.given.value }
         ensures sent { self.new.sent.value ≡ self.old.sent.value }
+        ensures serial { self.new.serial ≡ self.old.serial }
     {
         self.inbound.look(self.ended)
     }
@@ -178,9 +190,20 @@ impl<S> Link<S> {
         ensures given { self.new.given.value ≡ self.old.given.value }
         ensures sent { self.new.sent.value ≡ self.old.sent.value }
         ensures goes_on { self.new.goes_on ≡ false }
+        ensures serial { self.new.serial ≡ self.old.serial }
     {
         self.goes_on = false;
         self.life = has_begun(&self.life, address);
+    }
+
+    /// A request begins on it under this serial. It says whether none has begun under a later one. Where one has, nothing changes.
+    pub fn seen(&mut self, serial: u32) -> bool
+        ensures result { result ≡ nat_le self.old.serial serial }
+        ensures same { self.new ≡ record self.old { serial = max self.old.serial serial } }
+    {
+        let in_order = self.serial <= serial;
+        self.serial = self.serial.max(serial);
+        in_order
     }
 
     /// Hands the next request to an intake that has no bytes, as it was read, or all bytes where it will not come whole. Where it may
@@ -196,6 +219,7 @@ impl<S> Link<S> {
         ensures unsent { self.new.unsent ≡ self.old.unsent }
         ensures given { self.new.given.value ≡ self.old.given.value }
         ensures sent { self.new.sent.value ≡ self.old.sent.value }
+        ensures serial { self.new.serial ≡ self.old.serial }
     {
         self.goes_on = false;
         if self.inbound.is_empty() || !self.unsent.is_empty() {
@@ -227,6 +251,7 @@ impl<S> Link<S> {
         ensures unsent { self.new.unsent ≡ self.old.unsent }
         ensures given { self.new.given.value ≡ self.old.given.value }
         ensures sent { self.new.sent.value ≡ self.old.sent.value }
+        ensures serial { self.new.serial ≡ self.old.serial }
     {
         self.goes_on = answered;
         self.life = has_ended(&self.life);
@@ -249,6 +274,7 @@ impl<S> Link<S> {
         ensures unsent { self.new.unsent ≡ self.old.unsent }
         ensures given { self.new.given.value ≡ self.old.given.value }
         ensures sent { self.new.sent.value ≡ self.old.sent.value }
+        ensures serial { self.new.serial ≡ self.old.serial }
     {
         let _ = found;
         let _whole = self.inbound.hand_over(into);
@@ -267,6 +293,7 @@ impl<S> Link<S> {
         ensures unsent { self.new.unsent ≡ self.old.unsent }
         ensures given { self.new.given.value ≡ self.old.given.value }
         ensures sent { self.new.sent.value ≡ self.old.sent.value }
+        ensures serial { self.new.serial ≡ self.old.serial }
     {
         if !self.inbound.is_empty() {
             return false;
@@ -283,6 +310,7 @@ impl<S> Link<S> {
         ensures stream { self.new.stream ≡ self.old.stream }
         ensures inbound { self.new.inbound ≡ self.old.inbound }
         ensures unsent { self.new.unsent ≡ self.old.unsent }
+        ensures serial { self.new.serial ≡ self.old.serial }
     {
         self.life = has_logged(&self.life, given, key, line);
     }
@@ -295,6 +323,7 @@ impl<S> Link<S> {
         ensures stream { self.new.stream ≡ self.old.stream }
         ensures inbound { self.new.inbound ≡ self.old.inbound }
         ensures unsent { self.new.unsent ≡ self.old.unsent }
+        ensures serial { self.new.serial ≡ self.old.serial }
     {
         self.life = has_kept(&self.life, given, serial, text);
     }
@@ -309,6 +338,7 @@ impl<S> Link<S> {
         ensures stream { self.new.stream ≡ self.old.stream }
         ensures given { self.new.given.value ≡ self.old.given.value }
         ensures sent { self.new.sent.value ≡ self.old.sent.value }
+        ensures serial { self.new.serial ≡ self.old.serial }
     {
         if self.unsent.push(piece).is_err() {
             return false;
@@ -336,6 +366,7 @@ impl<S: Stream> Link<S> {
         ensures life { self.new.life.value ≡ self.old.life.value }
         ensures unsent { self.new.unsent ≡ self.old.unsent }
         ensures sent { (self.new.sent.value ≡ self.old.sent.value) × (S.sent self.new.stream ≡ S.sent self.old.stream) }
+        ensures serial { self.new.serial ≡ self.old.serial }
     {
         if self.ended {
             return Filled::End;
@@ -362,6 +393,7 @@ impl<S: Stream> Link<S> {
         ensures unsent { self.new.unsent ≡ self.old.unsent }
         ensures stream { self.new.stream ≡ self.old.stream }
         ensures sent { self.new.sent.value ≡ self.old.sent.value }
+        ensures serial { self.new.serial ≡ self.old.serial }
     {
         if self.inbound.push(piece).is_err() {
             self.ended = true;
@@ -378,6 +410,7 @@ impl<S: Stream> Link<S> {
         ensures given { (self.new.given.value ≡ self.old.given.value) × (S.given self.new.stream ≡ S.given self.old.stream) }
         ensures sent { AddsAlike self.old.sent.value self.new.sent.value (S.sent self.old.stream) (S.sent self.new.stream) }
         ensures done { result ≡ flushed.Done → self.new.unsent ≡ [] }
+        ensures serial { self.new.serial ≡ self.old.serial }
     {
         if self.unsent.is_empty() {
             return Flushed::Done;
@@ -417,6 +450,7 @@ impl<S: Stream> Link<S> {
         ensures inbound { self.new.inbound ≡ self.old.inbound }
         ensures given { (self.new.given.value ≡ self.old.given.value) × (S.given self.new.stream ≡ S.given self.old.stream) }
         ensures sent { AddsAlike self.old.sent.value self.new.sent.value (S.sent self.old.stream) (S.sent self.new.stream) }
+        ensures serial { self.new.serial ≡ self.old.serial }
     {
         match self.stream.send(piece) {
             Sent::Bytes(count) => {
@@ -444,6 +478,7 @@ impl<S: Stream> Link<S> {
         ensures inbound { self.new.inbound ≡ self.old.inbound }
         ensures given { (self.new.given.value ≡ self.old.given.value) × (S.given self.new.stream ≡ S.given self.old.stream) }
         ensures sent { AddsAlike self.old.sent.value self.new.sent.value (S.sent self.old.stream) (S.sent self.new.stream) }
+        ensures serial { self.new.serial ≡ self.old.serial }
     {
         let sent = self.send_now(piece);
         if sent == piece.len() {
@@ -469,6 +504,7 @@ impl<S: Stream> Link<S> {
         ensures inbound { self.new.inbound ≡ self.old.inbound }
         ensures given { (self.new.given.value ≡ self.old.given.value) × (S.given self.new.stream ≡ S.given self.old.stream) }
         ensures sent { AddsAlike self.old.sent.value self.new.sent.value (S.sent self.old.stream) (S.sent self.new.stream) }
+        ensures serial { self.new.serial ≡ self.old.serial }
     {
         if self.unsent.len() > MAX_UNSENT_BYTES {
             return Given::Failed;
@@ -491,6 +527,7 @@ impl<S: Stream> Link<S> {
         ensures inbound { self.new.inbound ≡ self.old.inbound }
         ensures given { (self.new.given.value ≡ self.old.given.value) × (S.given self.new.stream ≡ S.given self.old.stream) }
         ensures sent { AddsAlike self.old.sent.value self.new.sent.value (S.sent self.old.stream) (S.sent self.new.stream) }
+        ensures serial { self.new.serial ≡ self.old.serial }
     {
         if self.broken {
             return Given::Failed;

@@ -1,5 +1,5 @@
 //! What happens in the stretches of a connection and of a lane, and how what is reported then goes on.
-ghost use Rattle.std.specs.Prelude.{◌++◌, []};
+ghost use Rattle.std.specs.Prelude.{◌++◌, ◌∷◌, []};
 ghost use Rattle.cd_outside.specs.declared.accepted.Accepted.TheVariants.{Connection as Accepts};
 ghost use Rattle.cd_outside.specs.declared.received.Received.TheVariants.{Some as Came, End as Ended, Lacking};
 ghost use Rattle.cd_outside.specs.Past.{after_accept};
@@ -9,7 +9,7 @@ ghost use Rattle.cd_link.specs.Lanes.{after_answer, with_stretch};
 use crate::notes::GoesOn;
 use crate::{Notes, Told};
 use cd_outside::{Accepted, Address, Past};
-use cd_text::Octets;
+use cd_text::{List, Octets};
 use cd_wire::Intake;
 
 /// A stretch begins at this address.
@@ -38,6 +38,12 @@ pub struct Answers<'a> {
     pub accepted: &'a Accepted,
 }
 
+/// A connection comes, on which a request had last begun under this serial.
+#[derive(Drop)]
+pub struct Seen {
+    pub serial: u32,
+}
+
 /// The last stretch of this life is over.
 #[derive(Drop)]
 pub struct Closes<'a> {
@@ -62,6 +68,10 @@ impl Notes<Lacks, Past> for GoesOn {
 
 impl<'a> Notes<Answers<'a>, Past> for GoesOn {
     ghost after = { λ note past. after_answer note.accepted.now past };
+}
+
+impl Notes<Seen, List<u32>> for GoesOn {
+    ghost after = { λ note serials. serials ++ note.serial ∷ [] };
 }
 
 impl<'a> Notes<Closes<'a>, Past> for GoesOn {

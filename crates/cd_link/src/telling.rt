@@ -9,7 +9,7 @@ use std::alloc::Global;
 use std::sync::Wait;
 
 /// A lane that reports what the calls of another have answered. Of a write that failed it reports the bytes that the other lane says
-/// were given, and of bytes that were lost as memory ran out that none came.
+/// were given, and of bytes that were lost as memory ran out that none came. Of the time before a connection came it reports nothing.
 pub struct Telling<L> {
     lane: L,
     told: Told<Past>,
@@ -54,7 +54,7 @@ impl<L: Gives> Lane for Telling<L> {
 
     ghost past = { λ t. Some t.told.value };
 
-    ghost since = { λ t. L.since t.lane };
+    ghost since = { λ _. None };
 
     fn accept(&mut self) -> Accepted {
         let accepted = self.lane.accept();
