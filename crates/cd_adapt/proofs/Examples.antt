@@ -1,5 +1,6 @@
 -- Each relation where it holds, and a near miss.
-use Rattle.std.proofs.Common.{◌≡◌, true, false, ℕ, suc, ◌+◌, ◌≤◌, ◌<◌, ◌∙◌, List, [], ◌∷◌, ◌++◌, get_or, Option, Some, None, inl, inr, refl, sym, ap, arith}
+use Rattle.std.proofs.Common.{◌≡◌, true, false, ℕ, suc, ◌+◌, ◌≤◌, ◌<◌, ◌∙◌, List, [], ◌∷◌, ◌++◌, length, get_or, Option, Some, None, inl, inr, refl, sym, ap, arith}
+use Rattle.std.proofs.lemmas.Bool.{false≢true}
 use Rattle.std.proofs.lemmas.List.Elements.{All-nil, All-cons, All-head}
 use Rattle.cd_caddyfile.specs.Blocks.{Nesting, last, end}
 use Rattle.cd_caddyfile.specs.FileSites.{block_of}
@@ -14,8 +15,9 @@ use Rattle.cd_parts.specs.declared.measured.Measured.{Measured}
 use Rattle.cd_parts.proofs.Examples.{half, letter, not_text, not_texts, texts}
 use Rattle.cd_adapt.specs.Counting.{IsCounted, needs_of, no_needs}
 use Rattle.cd_adapt.specs.Laying.{AreLaid, IsLaid, IsTaken}
+use Rattle.cd_adapt.specs.Ports.{AreMet}
 use Rattle.cd_adapt.specs.Serving.{AgreesAll}
-use Rattle.cd_adapt.specs.Splitting.{AreTextLines, AreTextsOf, HasTextHost, IsOpen, IsSplit, IsTextLine, IsWhole}
+use Rattle.cd_adapt.specs.Splitting.{AreReadLines, AreTextsOf, HasTextHost, IsOpen, IsReadLine, IsSplit, IsTextLine, IsWhole, numbered}
 use Rattle.cd_adapt.specs.Steps.{frame_of}
 use Rattle.cd_adapt.specs.declared.counting.Counter.{Counter}
 use Rattle.cd_adapt.specs.declared.splitting.Numbered.{Numbered}
@@ -85,7 +87,7 @@ not_agrees are = let h : suc no_sets.none.depth ≡ no_sets.none.depth = ap (λ 
 -- ---- lines
 
 abbrev said : List (List ℕ) → Numbered
-said words = record { number = 2; line = Says words }
+said words = numbered 2 (Says words)
 
 text_line : IsTextLine (Says (letter ∷ []))
 text_line = texts
@@ -93,11 +95,18 @@ text_line = texts
 not_text_line : IsTextLine (Says (half ∷ [])) → ⊥
 not_text_line is = not_texts is
 
-text_lines : AreTextLines (said (letter ∷ []) ∷ [])
-text_lines = All-cons (λ (l : Numbered). IsTextLine l.line) (said (letter ∷ [])) [] texts (All-nil (λ (l : Numbered). IsTextLine l.line))
+read_line : IsReadLine (said (letter ∷ []))
+read_line = record { texts = texts; words = refl }
 
-not_text_lines : AreTextLines (said (half ∷ []) ∷ []) → ⊥
-not_text_lines are = not_texts (All-head (λ (l : Numbered). IsTextLine l.line) (said (half ∷ [])) [] are)
+-- its word is not kept
+not_read_line : IsReadLine (record (said (letter ∷ [])) { words = [] }) → ⊥
+not_read_line is = let h : ◌≡◌ {A = ℕ} 0 1 = ap length is.words in omega (arith, h)
+
+text_lines : AreReadLines (said (letter ∷ []) ∷ [])
+text_lines = All-cons IsReadLine (said (letter ∷ [])) [] read_line (All-nil IsReadLine)
+
+not_text_lines : AreReadLines (said (half ∷ []) ∷ []) → ⊥
+not_text_lines are = not_texts (All-head IsReadLine (said (half ∷ [])) [] are).texts
 
 abbrev at_80 : Option (List ℕ) → Address
 at_80 host = record { port = 80; host = host }
@@ -109,6 +118,15 @@ text_host = tt
 not_text_host : HasTextHost (at_80 (Some half)) → ⊥
 not_text_host is = not_text is
 
+-- ---- ports
+
+are_met : AreMet [] (record { keys = [] })
+are_met port = refl
+
+-- a port is not in the set
+not_are_met : AreMet (80 ∷ []) (record { keys = [] }) → ⊥
+not_are_met are = false≢true (are 80)
+
 -- ---- sites
 
 abbrev site_with : List Numbered → SiteLines
@@ -118,7 +136,7 @@ whole : IsWhole (site_with (said (letter ∷ []) ∷ []))
 whole = record { closed = refl; host = tt; lines = text_lines }
 
 -- a line closes a block that none opens
-not_whole : IsWhole (site_with (record { number = 2; line = Closes } ∷ [])) → ⊥
+not_whole : IsWhole (site_with (numbered 2 Closes ∷ [])) → ⊥
 not_whole w = let h : ◌≡◌ {A = ℕ} 1 0 = w.closed in omega (arith, h)
 
 abbrev open_with : ℕ → List Numbered → OpenSite
@@ -130,8 +148,8 @@ open_texts = (tt, text_lines)
 not_open_texts : AreTextsOf (open_with 0 (said (half ∷ []) ∷ [])) → ⊥
 not_open_texts are = not_text_lines are.1
 
-no_lines : AreTextLines []
-no_lines = All-nil (λ (l : Numbered). IsTextLine l.line)
+no_lines : AreReadLines []
+no_lines = All-nil IsReadLine
 
 opened : IsOpen (Some (open_with 0 []))
 opened = ((omega arith, λ after. omega arith), (tt, no_lines))

@@ -2,6 +2,7 @@ pub mod FrameSteps
 pub mod SplitSteps
 pub mod LayingSteps
 pub mod CountSteps
+pub mod PortLaws
 pub mod ServingLaws
 pub mod AdaptSteps
 pub mod TextSteps

@@ -1,9 +1,12 @@
 -- The routes of sites, servers and the whole configuration, by their measured parts.
 use Rattle.std.proofs.Common.{◌≡◌, ℕ, suc, ◌+◌, ◌*◌, ◌^◌, ◌≤◌, ◌<◌, ◌==◌, ◌&&◌, ◌||◌, not, Bool, true, false, if◌then◌else◌, List, [], ◌∷◌, ◌++◌, length, map, filter, get_or, drop, refl, sym, ap, subst, ◌∙◌, append_assoc, append-nil, add-one, drop-cons, length-append, arith, Option, Some, None, is_some, codes, decimal}
+use Rattle.std.specs.BTreeMap.{BTreeMap, get}
 use Rattle.std.specs.List.{All, list_any}
+use Rattle.std.specs.Ordering.{nat_cmp}
+use Rattle.std.specs.Prelude.{unwrap_or}
 use Rattle.std.proofs.Math.Nat.{mul-le-mul_left}
 use Rattle.std.proofs.lemmas.List.{drop_all}
-use Rattle.std.proofs.lemmas.List.Elements.{All-get_or}
+use Rattle.std.proofs.lemmas.List.Elements.{All-head, All-tail}
 use Rattle.std.proofs.lemmas.List.Sums.{sum_by-drop_more}
 use Rattle.std.proofs.lemmas.List.Folds.{list_any-append}
 use Rattle.cd_text.specs.ByKey.{by_key}
@@ -19,12 +22,15 @@ use Rattle.cd_caddyfile.specs.declared.named.TestLine.{TestLine}
 use Rattle.std.specs.Str.{bytes_eq}
 use Rattle.cd_parts.specs.Matching.{named_set, table_of, set_in}
 use Rattle.cd_parts.specs.Measures.{measured, list_of, object_of, measured_entry}
-use Rattle.cd_adapt.specs.Serving.{AgreesAll, and_port, site_route_of, server_of, apps_of, is_served}
+use Rattle.cd_adapt.specs.Ports.{and_port, is_served, sites_of, told}
+use Rattle.cd_adapt.specs.Serving.{AgreesAll, site_route_of, server_of, servers_by, apps_of}
 use Rattle.cd_adapt.specs.Splitting.{site_made, IsWhole, size_of}
 use Rattle.cd_adapt.specs.Steps.{part}
 use Rattle.cd_parts.specs.declared.measured.Measured.{Measured}
 use Rattle.cd_parts.specs.declared.measured.Part.{Part}
 use Rattle.cd_adapt.specs.declared.splitting.SiteLines.{SiteLines}
+use denote.Ref.{Bor}
+use Rattle.cd_adapt.proofs.PortLaws.{size-cons}
 use Rattle.cd_adapt.proofs.FrameSteps.{subroute-measured, list-of-one}
 use Rattle.cd_parts.proofs.MeasureLaws.{list-measured, object-measured}
 
@@ -62,17 +68,6 @@ pub site-route-is : (s : Site) (n : ℕ) (routes : List Measured) → routes ≡
 site-route-is s n routes is = ap (λ r. site_route_of r s.address.host) is ∙ site-route (routes_of s.block n) s.address.host
 
 -- ---- sites, one after another
-
-pub site_routes-both : (xs ys : List Site) (n : ℕ) → site_routes (xs ++ ys) n ≡ site_routes xs n ++ site_routes ys (n + all_groups xs)
-unfolding site_routes all_groups
-site_routes-both [] ys n = ap (site_routes ys) (omega arith)
-site_routes-both (x ∷ xs) ys n =
-    ap (λ l. site_route x n ∷ l) (site_routes-both xs ys (n + groups_of x.block) ∙ ap (λ k. site_routes xs (n + groups_of x.block) ++ site_routes ys k) (omega arith))
-
-pub all_groups-both : (xs ys : List Site) → all_groups (xs ++ ys) ≡ all_groups xs + all_groups ys
-unfolding all_groups
-all_groups-both [] ys = omega arith
-all_groups-both (x ∷ xs) ys = omega (arith, all_groups-both xs ys)
 
 map-both : {A B : Type 0} (f : A → B) (xs ys : List A) → map f (xs ++ ys) ≡ map f xs ++ map f ys
 map-both f [] ys = refl
@@ -118,29 +113,11 @@ served-without tests_of port [] = refl
 served-without tests_of port (x ∷ xs) = without-host (x.address.port == port) (is_some x.address.host) tests_of port x xs refl refl (served-without tests_of port xs)
 
 -- the sites of a server, those with a host first
-sites-chosen : (tests_of : ℕ → List ℕ → Tests) (port : ℕ) (xs : List SiteLines) →
-    map (site_made tests_of) (filter (is_served port true) xs) ++ map (site_made tests_of) (filter (is_served port false) xs) ≡ sites_at port (map (site_made tests_of) xs)
-sites-chosen tests_of port xs = λ i. served-with tests_of port xs i ++ served-without tests_of port xs i
-
-pub server-routes : (tests_of : ℕ → List ℕ → Tests) (port : ℕ) (xs : List SiteLines) (n n' : ℕ) (first routes : List Measured) →
-    first ≡ map measured (site_routes (map (site_made tests_of) (filter (is_served port true) xs)) n) →
-    n' ≡ n + all_groups (map (site_made tests_of) (filter (is_served port true) xs)) →
-    routes ≡ first ++ map measured (site_routes (map (site_made tests_of) (filter (is_served port false) xs)) n') →
-    routes ≡ map measured (site_routes (sites_at port (map (site_made tests_of) xs)) n)
-server-routes tests_of port xs n n' first routes first-is n-is is =
-    let a = map (site_made tests_of) (filter (is_served port true) xs) in
-    let b = map (site_made tests_of) (filter (is_served port false) xs) in
-    is ∙ (ap (λ f. f ++ map measured (site_routes b n')) first-is ∙ (ap (λ k. map measured (site_routes a n) ++ map measured (site_routes b k)) n-is
-    ∙ (sym (map-both measured (site_routes a n) (site_routes b (n + all_groups a))) ∙ (ap (map measured) (sym (site_routes-both a b n))
-    ∙ ap (λ ss. map measured (site_routes ss n)) (sites-chosen tests_of port xs)))))
-
-pub server-groups : (tests_of : ℕ → List ℕ → Tests) (port : ℕ) (xs : List SiteLines) (n n' n'' : ℕ) →
-    n' ≡ n + all_groups (map (site_made tests_of) (filter (is_served port true) xs)) →
-    n'' ≡ n' + all_groups (map (site_made tests_of) (filter (is_served port false) xs)) → n'' ≡ n + all_groups (sites_at port (map (site_made tests_of) xs))
-server-groups tests_of port xs n n' n'' one other =
-    let a = map (site_made tests_of) (filter (is_served port true) xs) in
-    let b = map (site_made tests_of) (filter (is_served port false) xs) in
-    omega (arith, one, other, all_groups-both a b, ap all_groups (sites-chosen tests_of port xs))
+pub sites-chosen : (tests_of : ℕ → List ℕ → Tests) (port : ℕ) (xs : List SiteLines) →
+    map (site_made tests_of) (filter (is_served port true) xs ++ filter (is_served port false) xs) ≡ sites_at port (map (site_made tests_of) xs)
+sites-chosen tests_of port xs =
+    map-both (site_made tests_of) (filter (is_served port true) xs) (filter (is_served port false) xs)
+    ∙ (λ i. served-with tests_of port xs i ++ served-without tests_of port xs i)
 
 pub server-is : (port n : ℕ) (ss : List Site) (routes : List Measured) → routes ≡ map measured (site_routes ss n) → server_of (58 ∷ decimal port) routes ≡ measured (server port ss n)
 server-is port n ss routes is =
@@ -149,20 +126,28 @@ server-is port n ss routes is =
     ∙ object-measured (member (codes "listen") (text_list ((58 ∷ decimal port) ∷ [])) ∷ member (codes "routes") (list (site_routes ss n)) ∷ []))
 
 -- one server more
-pub server-on : (port : ℕ) (ports : List ℕ) (ss : List Site) (k k' n n' : ℕ) (old new whole : List Part) →
-    new ≡ old ++ part (codes "srv" ++ decimal k) (measured (server port (sites_at port ss) n)) ∷ [] → k' ≡ k + 1 → n' ≡ n + all_groups (sites_at port ss) →
-    old ++ map measured_entry (servers (port ∷ ports) ss k n) ≡ whole → new ++ map measured_entry (servers ports ss k' n') ≡ whole
-unfolding servers
-server-on port ports ss k k' n n' old new whole new-is k-is n-is is =
-    let here = part (codes "srv" ++ decimal k) (measured (server port (sites_at port ss) n)) in
-    let after = map measured_entry (servers ports ss (suc k) (n + all_groups (sites_at port ss))) in
-    ap (λ j. new ++ map measured_entry (servers ports ss j n')) (k-is ∙ add-one k)
-    ∙ (ap (λ j. new ++ map measured_entry (servers ports ss (suc k) j)) n-is
+pub server-on : (at : ℕ → List Site) (port : ℕ) (ports : List ℕ) (k k' n n' : ℕ) (old new whole : List Part) →
+    new ≡ old ++ part (codes "srv" ++ decimal k) (measured (server port (at port) n)) ∷ [] → k' ≡ k + 1 → n' ≡ n + all_groups (at port) →
+    old ++ map measured_entry (servers_by at (port ∷ ports) k n) ≡ whole → new ++ map measured_entry (servers_by at ports k' n') ≡ whole
+unfolding servers_by
+server-on at port ports k k' n n' old new whole new-is k-is n-is is =
+    let here = part (codes "srv" ++ decimal k) (measured (server port (at port) n)) in
+    let after = map measured_entry (servers_by at ports (suc k) (n + all_groups (at port))) in
+    ap (λ j. new ++ map measured_entry (servers_by at ports j n')) (k-is ∙ add-one k)
+    ∙ (ap (λ j. new ++ map measured_entry (servers_by at ports (suc k) j)) n-is
     ∙ (ap (λ l. l ++ after) new-is ∙ (append_assoc old (here ∷ []) after ∙ is)))
 
-pub servers-end : (ss : List Site) (k n : ℕ) (parts whole : List Part) → parts ++ map measured_entry (servers [] ss k n) ≡ whole → parts ≡ whole
-unfolding servers
-servers-end ss k n parts whole is = sym (append-nil parts) ∙ is
+pub servers-end : (at : ℕ → List Site) (k n : ℕ) (parts whole : List Part) → parts ++ map measured_entry (servers_by at [] k n) ≡ whole → parts ≡ whole
+unfolding servers_by
+servers-end at k n parts whole is = sym (append-nil parts) ∙ is
+
+-- servers by the sites of each port are the servers
+servers-same : (at : ℕ → List Site) (ss : List Site) → ((port : ℕ) → at port ≡ sites_at port ss) → (ports : List ℕ) (k n : ℕ) → servers_by at ports k n ≡ servers ports ss k n
+unfolding servers_by servers
+servers-same at ss same [] k n = refl
+servers-same at ss same (port ∷ ports) k n =
+    ap (λ here. member (codes "srv" ++ decimal k) (server port here n) ∷ servers_by at ports (suc k) (n + all_groups here)) (same port)
+    ∙ ap (λ rest. member (codes "srv" ++ decimal k) (server port (sites_at port ss) n) ∷ rest) (servers-same at ss same ports (suc k) (n + all_groups (sites_at port ss)))
 
 -- ---- ports
 
@@ -240,9 +225,6 @@ sites_next i all x within is = drop-cons all i x within ∙ (ap (λ s. s ∷ dro
 pub size_next : (i : ℕ) (all : List SiteLines) (x : SiteLines) → i < length all → x ≡ get_or all i x → size_of (drop i all) ≡ suc (length x.lines) + size_of (drop (i + 1) all)
 size_next i all x within is = sum_by-drop_more (λ (s : SiteLines). suc (length s.lines)) all i x within ∙ ap (λ (s : SiteLines). suc (length s.lines) + size_of (drop (i + 1) all)) (sym is)
 
-pub whole_at : (i : ℕ) (all : List SiteLines) (x : SiteLines) → i < length all → x ≡ get_or all i x → All IsWhole all → IsWhole x
-whole_at i all x within is whole = subst IsWhole (sym is) (All-get_or IsWhole all i x within whole)
-
 -- ---- ports, one after another
 
 port-on-if : (met : Bool) (s : Site) (ss : List Site) (ports whole : List ℕ) → list_any (λ port. port == s.address.port) ports ≡ met →
@@ -268,81 +250,82 @@ few_ports port ports = few-ports-if (list_any (λ p. p == port) ports) port port
 
 -- ---- the sites of a port, one after another
 
-filter-yes : (p : SiteLines → Bool) (x : SiteLines) (xs : List SiteLines) → p x ≡ true → filter p (x ∷ xs) ≡ x ∷ filter p xs
-filter-yes p x xs is = rw is refl
+told-next : (i : ℕ) (refs : List (Bor SiteLines)) (x : Bor SiteLines) → i < length refs → x ≡ get_or refs i x → told (drop i refs) ≡ x.now ∷ told (drop (i + 1) refs)
+told-next i refs x within is =
+    ap told (drop-cons refs i x within ∙ (ap (λ s. s ∷ drop (suc i) refs) (sym is) ∙ ap (λ k. x ∷ drop k refs) (sym (add-one i))))
 
-filter-no : (p : SiteLines → Bool) (x : SiteLines) (xs : List SiteLines) → p x ≡ false → filter p (x ∷ xs) ≡ filter p xs
-filter-no p x xs is = rw is refl
+module _ (i : ℕ) (refs : List (Bor SiteLines)) (x : Bor SiteLines) (within : i < length refs) (is : x ≡ get_or refs i x) where
+  pub size_on : size_of (told (drop i refs)) ≡ suc (length x.now.lines) + size_of (told (drop (i + 1) refs))
+  size_on = ap size_of (told-next i refs x within is) ∙ size-cons x.now (told (drop (i + 1) refs))
 
-module _ (tests_of : ℕ → List ℕ → Tests) (p : SiteLines → Bool) (i : ℕ) (all : List SiteLines) (x : SiteLines) (within : i < length all) (is : x ≡ get_or all i x) where
-  served-next : p x ≡ true → filter p (drop i all) ≡ x ∷ filter p (drop (i + 1) all)
-  served-next served = ap (filter p) (sites_next i all x within is) ∙ filter-yes p x (drop (i + 1) all) served
+  pub whole_on : All IsWhole (told (drop i refs)) → IsWhole x.now × All IsWhole (told (drop (i + 1) refs))
+  whole_on whole =
+      let all = subst (All IsWhole) (told-next i refs x within is) whole in
+      (All-head IsWhole x.now (told (drop (i + 1) refs)) all, All-tail IsWhole x.now (told (drop (i + 1) refs)) all)
 
-  passed-next : p x ≡ false → filter p (drop i all) ≡ filter p (drop (i + 1) all)
-  passed-next passed = ap (filter p) (sites_next i all x within is) ∙ filter-no p x (drop (i + 1) all) passed
+  pub routes_on : (tests_of : ℕ → List ℕ → Tests) (n n' : ℕ) (old new whole : List Measured) →
+      new ≡ old ++ measured (site_route (site_made tests_of x.now) n) ∷ [] → n' ≡ n + groups_of (site_made tests_of x.now).block →
+      old ++ map measured (site_routes (map (site_made tests_of) (told (drop i refs))) n) ≡ whole →
+      new ++ map measured (site_routes (map (site_made tests_of) (told (drop (i + 1) refs))) n') ≡ whole
+  routes_on tests_of n n' old new whole new-is n-is known =
+      site-on (site_made tests_of x.now) (map (site_made tests_of) (told (drop (i + 1) refs))) n n' old new whole new-is n-is
+      (sym (ap (λ (l : List SiteLines). old ++ map measured (site_routes (map (site_made tests_of) l) n)) (told-next i refs x within is)) ∙ known)
 
-  pub routes_on : (n n' : ℕ) (old new whole : List Measured) → p x ≡ true → new ≡ old ++ measured (site_route (site_made tests_of x) n) ∷ [] → n' ≡ n + groups_of (site_made tests_of x).block →
-      old ++ map measured (site_routes (map (site_made tests_of) (filter p (drop i all))) n) ≡ whole →
-      new ++ map measured (site_routes (map (site_made tests_of) (filter p (drop (i + 1) all))) n') ≡ whole
-  routes_on n n' old new whole served new-is n-is known =
-      site-on (site_made tests_of x) (map (site_made tests_of) (filter p (drop (i + 1) all))) n n' old new whole new-is n-is
-      (sym (ap (λ (l : List SiteLines). old ++ map measured (site_routes (map (site_made tests_of) l) n)) (served-next served)) ∙ known)
+  pub totals_on : (tests_of : ℕ → List ℕ → Tests) (n n' whole : ℕ) → n' ≡ n + groups_of (site_made tests_of x.now).block →
+      n + all_groups (map (site_made tests_of) (told (drop i refs))) ≡ whole → n' + all_groups (map (site_made tests_of) (told (drop (i + 1) refs))) ≡ whole
+  totals_on tests_of n n' whole n-is known =
+      groups-on (site_made tests_of x.now) (map (site_made tests_of) (told (drop (i + 1) refs))) n n' whole n-is
+      (sym (ap (λ (l : List SiteLines). n + all_groups (map (site_made tests_of) l)) (told-next i refs x within is)) ∙ known)
 
-  pub routes_past : (n n' : ℕ) (old new whole : List Measured) → p x ≡ false → new ≡ old → n' ≡ n → old ++ map measured (site_routes (map (site_made tests_of) (filter p (drop i all))) n) ≡ whole →
-      new ++ map measured (site_routes (map (site_made tests_of) (filter p (drop (i + 1) all))) n') ≡ whole
-  routes_past n n' old new whole passed new-is n-is known =
-      ap (λ l. l ++ map measured (site_routes (map (site_made tests_of) (filter p (drop (i + 1) all))) n')) new-is
-      ∙ (ap (λ k. old ++ map measured (site_routes (map (site_made tests_of) (filter p (drop (i + 1) all))) k)) n-is
-      ∙ (sym (ap (λ (l : List SiteLines). old ++ map measured (site_routes (map (site_made tests_of) l) n)) (passed-next passed)) ∙ known))
-
-  pub totals_on : (n n' whole : ℕ) → p x ≡ true → n' ≡ n + groups_of (site_made tests_of x).block → n + all_groups (map (site_made tests_of) (filter p (drop i all))) ≡ whole →
-      n' + all_groups (map (site_made tests_of) (filter p (drop (i + 1) all))) ≡ whole
-  totals_on n n' whole served n-is known =
-      groups-on (site_made tests_of x) (map (site_made tests_of) (filter p (drop (i + 1) all))) n n' whole n-is
-      (sym (ap (λ (l : List SiteLines). n + all_groups (map (site_made tests_of) l)) (served-next served)) ∙ known)
-
-  pub totals_past : (n n' whole : ℕ) → p x ≡ false → n' ≡ n → n + all_groups (map (site_made tests_of) (filter p (drop i all))) ≡ whole →
-      n' + all_groups (map (site_made tests_of) (filter p (drop (i + 1) all))) ≡ whole
-  totals_past n n' whole passed n-is known =
-      ap (λ k. k + all_groups (map (site_made tests_of) (filter p (drop (i + 1) all)))) n-is
-      ∙ (sym (ap (λ (l : List SiteLines). n + all_groups (map (site_made tests_of) l)) (passed-next passed)) ∙ known)
-
--- all have been looked at
-pub routes_done : (tests_of : ℕ → List ℕ → Tests) (p : SiteLines → Bool) (i n : ℕ) (all : List SiteLines) (routes whole : List Measured) → length all ≤ i →
-    routes ++ map measured (site_routes (map (site_made tests_of) (filter p (drop i all))) n) ≡ whole → routes ≡ whole
+-- all have been added
+pub routes_done : (tests_of : ℕ → List ℕ → Tests) (i n : ℕ) (refs : List (Bor SiteLines)) (routes whole : List Measured) → length refs ≤ i →
+    routes ++ map measured (site_routes (map (site_made tests_of) (told (drop i refs))) n) ≡ whole → routes ≡ whole
 unfolding site_routes
-routes_done tests_of p i n all routes whole over known =
-    sym (append-nil routes) ∙ (sym (ap (λ (l : List SiteLines). routes ++ map measured (site_routes (map (site_made tests_of) (filter p l)) n)) (drop_all i all over)) ∙ known)
+routes_done tests_of i n refs routes whole over known =
+    sym (append-nil routes) ∙ (sym (ap (λ l. routes ++ map measured (site_routes (map (site_made tests_of) (told l)) n)) (drop_all i refs over)) ∙ known)
 
-pub totals_done : (tests_of : ℕ → List ℕ → Tests) (p : SiteLines → Bool) (i n whole : ℕ) (all : List SiteLines) → length all ≤ i →
-    n + all_groups (map (site_made tests_of) (filter p (drop i all))) ≡ whole → n ≡ whole
+pub totals_done : (tests_of : ℕ → List ℕ → Tests) (i n whole : ℕ) (refs : List (Bor SiteLines)) → length refs ≤ i →
+    n + all_groups (map (site_made tests_of) (told (drop i refs))) ≡ whole → n ≡ whole
 unfolding all_groups
-totals_done tests_of p i n whole all over known =
-    let none = ap (λ (l : List SiteLines). all_groups (map (site_made tests_of) (filter p l))) (drop_all i all over) in
+totals_done tests_of i n whole refs over known =
+    let none = ap (λ l. all_groups (map (site_made tests_of) (told l))) (drop_all i refs over) in
     omega (arith, none, known)
 
 pub ports_done : (tests_of : ℕ → List ℕ → Tests) (i : ℕ) (all : List SiteLines) (ports whole : List ℕ) → length all ≤ i → ports ++ ports_after ports (map (site_made tests_of) (drop i all)) ≡ whole → ports ≡ whole
 ports_done tests_of i all ports whole over known =
     ports-end ports whole (sym (ap (λ (l : List SiteLines). ports ++ ports_after ports (map (site_made tests_of) l)) (drop_all i all over)) ∙ known)
 
+-- a port without sites
+module _ (tests_of : ℕ → List ℕ → Tests) (port : ℕ) (by_port : BTreeMap ℕ (List (Bor SiteLines))) where
+  pub no_routes : (routes : List Measured) (n : ℕ) → get nat_cmp by_port port ≡ None → routes ≡ routes ++ map measured (site_routes (map (site_made tests_of) (sites_of port by_port)) n)
+  unfolding site_routes
+  no_routes routes n none = sym (append-nil routes) ∙ ap (λ found. routes ++ map measured (site_routes (map (site_made tests_of) (told (unwrap_or found []))) n)) (sym none)
+
+  pub no_groups : (n : ℕ) → get nat_cmp by_port port ≡ None → n ≡ n + all_groups (map (site_made tests_of) (sites_of port by_port))
+  unfolding all_groups
+  no_groups n none =
+      let here = ap (λ found. all_groups (map (site_made tests_of) (told (unwrap_or found [])))) none in
+      omega (arith, here)
+
 -- ---- servers, one after another
 
-pub room_for : (k n S next : ℕ) → k < n → next ≤ k * (2 * S) → n * (2 * S) < 2 ^ 64 → next + 2 * S < 2 ^ 64
-room_for k n S next less few room =
-    let h : k + 1 ≤ n = omega arith in
-    omega (arith, mul-le-mul_left (2 * S) h, few, room)
+pub room_for : (k n most size next : ℕ) → k < n → next ≤ k * most → n ≤ most → size ≤ most → most ≤ 2 ^ 31 → next + size < 2 ^ 64
+room_for k n most size next less few few-ports small large =
+    let ports : k ≤ 2 ^ 31 = omega arith in
+    let product : most * k ≤ most * 2 ^ 31 = mul-le-mul_left most ports in
+    omega (arith, product, few, small, large)
 
-pub servers_on : (port k n n' : ℕ) (ports : List ℕ) (ss : List Site) (old new whole : List Part) → k < length ports → port ≡ get_or ports k 0 →
-    new ≡ old ++ part (codes "srv" ++ decimal k) (measured (server port (sites_at port ss) n)) ∷ [] → n' ≡ n + all_groups (sites_at port ss) →
-    old ++ map measured_entry (servers (drop k ports) ss k n) ≡ whole → new ++ map measured_entry (servers (drop (k + 1) ports) ss (k + 1) n') ≡ whole
-servers_on port k n n' ports ss old new whole within is new-is n-is known =
+pub servers_on : (at : ℕ → List Site) (port k n n' : ℕ) (ports : List ℕ) (old new whole : List Part) → k < length ports → port ≡ get_or ports k 0 →
+    new ≡ old ++ part (codes "srv" ++ decimal k) (measured (server port (at port) n)) ∷ [] → n' ≡ n + all_groups (at port) →
+    old ++ map measured_entry (servers_by at (drop k ports) k n) ≡ whole → new ++ map measured_entry (servers_by at (drop (k + 1) ports) (k + 1) n') ≡ whole
+servers_on at port k n n' ports old new whole within is new-is n-is known =
     let next : drop k ports ≡ port ∷ drop (k + 1) ports = drop-cons ports k 0 within ∙ (ap (λ x. x ∷ drop (suc k) ports) (sym is) ∙ ap (λ j. port ∷ drop j ports) (sym (add-one k))) in
-    server-on port (drop (k + 1) ports) ss k (k + 1) n n' old new whole new-is refl n-is
-    (sym (ap (λ l. old ++ map measured_entry (servers l ss k n)) next) ∙ known)
+    server-on at port (drop (k + 1) ports) k (k + 1) n n' old new whole new-is refl n-is
+    (sym (ap (λ l. old ++ map measured_entry (servers_by at l k n)) next) ∙ known)
 
-pub servers_done : (k n : ℕ) (ports : List ℕ) (ss : List Site) (parts whole : List Part) → length ports ≤ k → parts ++ map measured_entry (servers (drop k ports) ss k n) ≡ whole → parts ≡ whole
-servers_done k n ports ss parts whole over known =
-    servers-end ss k n parts whole (sym (ap (λ l. parts ++ map measured_entry (servers l ss k n)) (drop_all k ports over)) ∙ known)
+pub servers_done : (at : ℕ → List Site) (k n : ℕ) (ports : List ℕ) (parts whole : List Part) → length ports ≤ k → parts ++ map measured_entry (servers_by at (drop k ports) k n) ≡ whole → parts ≡ whole
+servers_done at k n ports parts whole over known =
+    servers-end at k n parts whole (sym (ap (λ l. parts ++ map measured_entry (servers_by at l k n)) (drop_all k ports over)) ∙ known)
 
 -- ---- a site is added
 
@@ -366,12 +349,14 @@ none-before tests_of (s ∷ ss) is = absurd (omega (arith, ap length is))
 pub no_sites : (tests_of : ℕ → List ℕ → Tests) (sites : List SiteLines) (made : Measured) → sites ≡ [] → made ≡ measured (tree.Object []) → made ≡ measured (shape (map (site_made tests_of) sites))
 no_sites tests_of sites made none is = is ∙ (ap measured (sym shape-none) ∙ ap (λ (l : List SiteLines). measured (shape (map (site_made tests_of) l))) (sym none))
 
-pub some_sites : (tests_of : ℕ → List ℕ → Tests) (sites : List SiteLines) (ports : List ℕ) (parts : List Part) (made : Measured) → (sites ≡ [] → ⊥) →
-    ports ≡ ports_after [] (map (site_made tests_of) sites) → parts ≡ map measured_entry (servers ports (map (site_made tests_of) sites) 0 0) → made ≡ apps_of parts →
+pub some_sites : (tests_of : ℕ → List ℕ → Tests) (sites : List SiteLines) (at : ℕ → List SiteLines) (ports : List ℕ) (parts : List Part) (made : Measured) → (sites ≡ [] → ⊥) →
+    ((port : ℕ) → at port ≡ filter (is_served port true) sites ++ filter (is_served port false) sites) →
+    ports ≡ ports_after [] (map (site_made tests_of) sites) → parts ≡ map measured_entry (servers_by (λ port. map (site_made tests_of) (at port)) ports 0 0) → made ≡ apps_of parts →
     made ≡ measured (shape (map (site_made tests_of) sites))
-some_sites tests_of sites ports parts made some ports-is parts-is is =
+some_sites tests_of sites at ports parts made some at-is ports-is parts-is is =
     let ss = map (site_made tests_of) sites in
-    is ∙ (apps-is (servers ports ss 0 0) parts parts-is ∙ (ap (λ p. measured (apps (servers p ss 0 0))) ports-is
+    let same = servers-same (λ port. map (site_made tests_of) (at port)) ss (λ port. ap (map (site_made tests_of)) (at-is port) ∙ sites-chosen tests_of port sites) ports 0 0 in
+    is ∙ (apps-is (servers ports ss 0 0) parts (parts-is ∙ ap (map measured_entry) same) ∙ (ap (λ p. measured (apps (servers p ss 0 0))) ports-is
     ∙ ap measured (sym (shape-is ss (λ none. some (none-before tests_of sites none))))))
 
 pub no_elements : (sites : List SiteLines) → length sites ≡ 0 → sites ≡ []

@@ -13,14 +13,11 @@ use Rattle.cd_caddyfile.specs.Sites.{Tests, Block, Site}
 use Rattle.cd_caddyfile.specs.declared.address.Address.{Address}
 use Rattle.cd_caddyfile.specs.declared.line.Line.{Line}
 use Rattle.cd_caddyfile.specs.declared.line.Line.TheVariants.{Empty, Closes, Opens, Says, Misplaced}
-use Rattle.cd_adapt.specs.Splitting.{followed, innermost_lines, within, beyond, site_made, sites_left, closes, levels_after, closings, IsTextLine, AreTextLines, HasTextHost, AreTextsOf, IsWhole, IsOpen, size_of, open_size, IsSplit}
+use Rattle.cd_adapt.specs.Splitting.{followed, innermost_lines, within, beyond, site_made, sites_left, closes, levels_after, closings, numbered, IsTextLine, IsReadLine, AreReadLines, HasTextHost, AreTextsOf, IsWhole, IsOpen, size_of, open_size, IsSplit}
 use Rattle.cd_adapt.specs.declared.splitting.Numbered.{Numbered}
 use Rattle.cd_adapt.specs.declared.splitting.OpenSite.{OpenSite}
 use Rattle.cd_adapt.specs.declared.splitting.SiteLines.{SiteLines}
 use Rattle.cd_adapt.specs.declared.splitting.Splitter.{Splitter}
-
-abbrev numbered : ℕ → Line → Numbered
-numbered n l = record { number = n; line = l }
 
 followed-last : (ls : List Numbered) (n : ℕ) (l : Line) (nesting : Nesting) → followed (ls ++ numbered n l ∷ []) nesting ≡ followed ls (preceded_by n l nesting)
 followed-last [] n l nesting = refl
@@ -157,14 +154,14 @@ open_on o n l stays text is = (
     omega (arith, is.0.0, few-levels l o.levels, length-append o.lines (numbered n l ∷ [])),
     λ after. ap closings (followed-last o.lines n l after) ∙ (is.0.1 (preceded_by n l after) ∙ closings-on o.levels n l after stays),
   ),
-  (is.1.0, All-append (λ (x : Numbered). IsTextLine x.line) o.lines (numbered n l ∷ []) is.1.1 (All-cons (λ (x : Numbered). IsTextLine x.line) (numbered n l) [] text (All-nil (λ (x : Numbered). IsTextLine x.line)))),
+  (is.1.0, All-append IsReadLine o.lines (numbered n l ∷ []) is.1.1 (All-cons IsReadLine (numbered n l) [] (record { texts = text; words = refl }) (All-nil IsReadLine))),
 )
 
 -- a site begins
 pub open_here : (o : OpenSite) → o.lines ≡ [] → o.levels ≡ 0 → IfSome o.address HasTextHost → IsOpen (Some o)
 open_here o none zero-is host = (
   (omega (arith, zero-is), λ after. ap (λ ls. closings (followed ls after)) none ∙ omega (arith, zero-is)),
-  (host, subst AreTextLines (sym none) (All-nil (λ (x : Numbered). IsTextLine x.line))),
+  (host, subst AreReadLines (sym none) (All-nil IsReadLine)),
 )
 
 pub closed_now : (o : OpenSite) → IsOpen (Some o) → closings (followed o.lines (last end)) ≡ 0
@@ -263,7 +260,7 @@ added_whole sites sites' site o is address-is lines-is closed are whole =
     let here : IsWhole site = record {
       closed = ap (λ ls. closings (followed ls (last end))) (sym lines-is) ∙ closed;
       host = subst (λ (a : Option Address). IfSome a HasTextHost) address-is are.0;
-      lines = subst AreTextLines lines-is are.1;
+      lines = subst AreReadLines lines-is are.1;
     } in
     subst (λ (l : List SiteLines). All IsWhole l) (sym is) (All-append IsWhole sites (site ∷ []) whole (All-cons IsWhole site [] here (All-nil IsWhole)))
 

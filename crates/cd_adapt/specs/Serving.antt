@@ -1,25 +1,20 @@
 -- Sites and servers, measured.
-use Rattle.std.specs.Prelude.{ℕ, ◌==◌, ◌&&◌, Bool, true, false, not, if◌then◌else◌, List, [], ◌∷◌, ◌++◌, codes, Option, Some, None, is_some}
-use Rattle.std.specs.List.{list_any}
+use Rattle.std.specs.Prelude.{ℕ, suc, ◌+◌, true, List, [], ◌∷◌, ◌++◌, codes, decimal, Option, Some, None}
 use Rattle.cd_text.specs.ByKey.{by_key}
+use Rattle.cd_tree.specs.declared.limits.TheConstants.{MAX_TEXT_BYTES}
 use Rattle.cd_tree.specs.declared.tree.Tree as tree
-use Rattle.cd_caddyfile.specs.Shape.{member, object, list, text_list}
-use Rattle.cd_caddyfile.specs.Sites.{Tests}
+use Rattle.cd_caddyfile.specs.Shape.{Entry, member, object, list, text_list, server, all_groups}
+use Rattle.cd_caddyfile.specs.Sites.{Tests, Site}
 use Rattle.cd_parts.specs.Matching.{set_named, Agrees}
 use Rattle.cd_parts.specs.Measures.{measured, list_of, object_of}
 use Rattle.cd_adapt.specs.Steps.{part, subroute_of}
 use Rattle.cd_parts.specs.declared.matchers.SetTable.{SetTable}
 use Rattle.cd_parts.specs.declared.measured.Measured.{Measured}
 use Rattle.cd_parts.specs.declared.measured.Part.{Part}
-use Rattle.cd_adapt.specs.declared.splitting.SiteLines.{SiteLines}
 
 -- each set of each site is that of these tests
 abbrev pub AgreesAll : SetTable → (ℕ → List ℕ → Tests) → Type 0
 AgreesAll table tests_of = (site : ℕ) → Agrees (set_named table site) (tests_of site)
-
--- the ports that have been met, with one more
-abbrev pub and_port : ℕ → List ℕ → List ℕ
-and_port port ports = if list_any (λ p. p == port) ports then ports else ports ++ port ∷ []
 
 abbrev pub host_parts : Option (List ℕ) → List Part
 host_parts None = []
@@ -37,10 +32,12 @@ server_of address routes = object_of (part (codes "listen") (measured (text_list
 abbrev pub apps_of : List Part → Measured
 apps_of servers = object_of (part (codes "apps") (object_of (part (codes "http") (object_of (part (codes "servers") (object_of (by_key (λ (p : Part). p.key) servers)) ∷ [])) ∷ [])) ∷ [])
 
-abbrev pub same_truth : Bool → Bool → Bool
-same_truth true other = other
-same_truth false other = not other
+-- the servers of ports, where `sites_at` has the sites of a port: the number of the next one, and that of the next group
+unfoldable pub servers_by : (ℕ → List Site) → List ℕ → ℕ → ℕ → List Entry
+servers_by sites_at [] k n = []
+servers_by sites_at (port ∷ ports) k n =
+    member (codes "srv" ++ decimal k) (server port (sites_at port) n) ∷ servers_by sites_at ports (suc k) (n + all_groups (sites_at port))
 
--- a site of a port, with a host or without
-abbrev pub is_served : ℕ → Bool → SiteLines → Bool
-is_served port with_host s = (s.address.port == port) && same_truth with_host (is_some s.address.host)
+-- how many lines sites have at most
+abbrev pub MOST_LINES : ℕ
+MOST_LINES = MAX_TEXT_BYTES + 1

@@ -1,8 +1,9 @@
 -- The lines of each site, and what is still to come of a site while its lines are read.
-use Rattle.std.specs.Prelude.{◌≡◌, ◌≤◌, ◌<◌, ⊤, IfSome, IsUtf8, ℕ, zero, suc, ◌+◌, ◌-◌, Bool, true, false, List, [], ◌∷◌, length, Option, Some, None}
+use Rattle.std.specs.Prelude.{◌≡◌, ◌≤◌, ◌<◌, ⊤, IfSome, IsUtf8, ℕ, zero, suc, ◌+◌, ◌-◌, Bool, true, false, List, [], ◌∷◌, length, map, Option, Some, None}
 use Rattle.std.specs.List.{All, sum_by}
 use Rattle.cd_caddyfile.specs.Blocks.{Lines, end, Nesting, last, up_to, preceded_by, outermost}
 use Rattle.cd_caddyfile.specs.FileSites.{block_of, put_site, sites_in}
+use Rattle.cd_caddyfile.specs.Shorthands.{spelled}
 use Rattle.cd_caddyfile.specs.Sites.{Tests, Site}
 use Rattle.cd_caddyfile.specs.declared.address.Address.{Address}
 use Rattle.cd_caddyfile.specs.declared.line.Line.{Line}
@@ -12,6 +13,18 @@ use Rattle.cd_adapt.specs.declared.splitting.Numbered.{Numbered}
 use Rattle.cd_adapt.specs.declared.splitting.SiteLines.{SiteLines}
 use Rattle.cd_adapt.specs.declared.splitting.OpenSite.{OpenSite}
 use Rattle.cd_adapt.specs.declared.splitting.Splitter.{Splitter}
+
+-- the words of a line, with their shorthands spelled out
+abbrev pub words_spelled : Line → List (List ℕ)
+words_spelled Empty = []
+words_spelled Closes = []
+words_spelled (Opens ws) = map spelled ws
+words_spelled (Says ws) = map spelled ws
+words_spelled Misplaced = []
+
+-- a line with its number and its words
+abbrev pub numbered : ℕ → Line → Numbered
+numbered n l = record { number = n; line = l; words = words_spelled l }
 
 -- these lines, and then those
 abbrev pub followed : List Numbered → Nesting → Nesting
@@ -79,22 +92,27 @@ IsTextLine (Opens ws) = AreTexts ws
 IsTextLine (Says ws) = AreTexts ws
 IsTextLine Misplaced = ⊤
 
-abbrev pub AreTextLines : List Numbered → Type 0
-AreTextLines ls = All (λ (l : Numbered). IsTextLine l.line) ls
+-- its words are texts, and are kept spelled out
+pub record IsReadLine (l : Numbered) : Type 0 where
+  pub texts : IsTextLine l.line
+  pub words : l.words ≡ words_spelled l.line
+
+abbrev pub AreReadLines : List Numbered → Type 0
+AreReadLines ls = All IsReadLine ls
 
 abbrev pub HasTextHost : Address → Type 0
 HasTextHost address = IfSome address.host (λ host. IsUtf8 host)
 
--- no line closes a block that none opens, and all words are texts
+-- no line closes a block that none opens, and all lines are read
 pub record IsWhole (s : SiteLines) : Type 0 where
   pub closed : closings (followed s.lines (last end)) ≡ 0
   pub host : HasTextHost s.address
-  pub lines : AreTextLines s.lines
+  pub lines : AreReadLines s.lines
 
 abbrev pub AreTextsOf : OpenSite → Type 0
-AreTextsOf o = IfSome o.address HasTextHost × AreTextLines o.lines
+AreTextsOf o = IfSome o.address HasTextHost × AreReadLines o.lines
 
--- its lines leave so many blocks open, and all words are texts
+-- its lines leave so many blocks open, and all lines are read
 abbrev pub IsOpen : Option OpenSite → Type 0
 IsOpen None = 0 ≤ 0
 IsOpen (Some o) =

@@ -8,9 +8,9 @@ ghost use Rattle.cd_caddyfile.specs.Shorthands.{spelled};
 ghost use Rattle.cd_caddyfile.specs.Sites.{Tests};
 ghost use Rattle.cd_adapt.specs.Counting.{no_needs, weight, size, is_rewriting, is_rewrite, and_words, and_inside, IsCounted};
 ghost use Rattle.cd_adapt.specs.Laying.{is_handle, IsTaken};
-ghost use Rattle.cd_adapt.specs.Splitting.{lines_made, followed, closings};
+ghost use Rattle.cd_adapt.specs.Splitting.{lines_made, followed, closings, words_spelled, AreReadLines};
 
-use crate::laying::{all_spelled, is_handle};
+use crate::laying::is_handle;
 use crate::splitting::Numbered;
 use cd_caddyfile::{Directive, Line, own_args};
 use cd_text::{List, NoMemory, Octets};
@@ -48,7 +48,8 @@ impl Needs {
 
 /// How many groups the routes of a site need.
 pub fn count_groups(alloc: Global, lines: &[Numbered]) -> Result<u64, NoMemory>
-    requires { closings (followed lines.now (last end)) ≡ 0 }
+    requires closed { closings (followed lines.now (last end)) ≡ 0 }
+    requires read { AreReadLines lines.now }
     ensures groups { IfOk result (λ count. (tests_of : List ℕ → Tests) → count ≡ groups_of (block_of tests_of (lines_made lines.now))) }
     ensures few { IfOk result (λ count. count ≤ length lines.now) }
 {
@@ -59,7 +60,7 @@ pub fn count_groups(alloc: Global, lines: &[Numbered]) -> Result<u64, NoMemory>
     let mut left = lines.len();
     'lines: while left > 0 {
         left -= 1;
-        counter.take(alloc, &lines[left].line)?;
+        counter.take(&lines[left])?;
     }
     Ok(counter.here.count())
 }
@@ -75,16 +76,23 @@ pub struct Counter {
 
 impl Counter {
     // Reads the line before those that have been read.
-    fn take(&mut self, alloc: Global, line: &Line) -> Result<(), NoMemory>
-        requires { size self.old < 2 ^ 64 - 1 }
+    fn take(&mut self, line: &Numbered) -> Result<(), NoMemory>
+        requires size { size self.old < 2 ^ 64 - 1 }
+        requires words { line.now.words ≡ words_spelled line.now.line }
         ensures size { OnOk result (size self.new ≤ size self.old + 1) }
-        ensures counted { OnOk result ((tests_of : List ℕ → Tests) (n : ℕ) (after : Nesting) → IsCounted tests_of after self.old → IsCounted tests_of (preceded_by n line.now after) self.new) }
+        ensures counted { OnOk result ((tests_of : List ℕ → Tests) (n : ℕ) (after : Nesting) → IsCounted tests_of after self.old → IsCounted tests_of (preceded_by n line.now.line after) self.new) }
     {
-        match line {
+        match &line.line {
             Line::Empty => Ok(()),
             Line::Closes => self.close(),
-            Line::Opens(words) => self.open(alloc, words.as_slice()),
-            Line::Says(words) => self.say(alloc, words.as_slice()),
+            Line::Opens(_) => {
+                self.open(line.words.as_slice());
+                Ok(())
+            }
+            Line::Says(_) => {
+                self.say(line.words.as_slice());
+                Ok(())
+            }
             Line::Misplaced => Ok(()),
         }
     }
@@ -98,29 +106,25 @@ impl Counter {
         self.open.push(outer)
     }
 
-    // A line without a block.
-    fn say(&mut self, alloc: Global, words: &[Octets]) -> Result<(), NoMemory>
-        ensures here { OnOk result (self.new.here ≡ and_words (map spelled words.now) self.old.here) }
+    // A line without a block, by its words as they are spelled out.
+    fn say(&mut self, words: &[Octets])
+        ensures here { self.new.here ≡ and_words words.now self.old.here }
         ensures open { self.new.open ≡ self.old.open }
     {
-        let words = all_spelled(alloc, words)?;
-        if is_rewrite(words.as_slice()) {
+        if is_rewrite(words) {
             self.here.rewrites = true;
         }
-        Ok(())
     }
 
-    // The first line of a block.
-    fn open(&mut self, alloc: Global, words: &[Octets]) -> Result<(), NoMemory>
+    // The first line of a block, likewise.
+    fn open(&mut self, words: &[Octets])
         requires { size self.old < 2 ^ 64 - 1 }
-        ensures size { OnOk result (size self.new ≤ size self.old + 1) }
-        ensures counted { OnOk result ((tests_of : List ℕ → Tests) (n : ℕ) (after : Nesting) → IsCounted tests_of after self.old → IsCounted tests_of (opened n words.now after) self.new) }
+        ensures size { size self.new ≤ size self.old + 1 }
+        ensures counted { (tests_of : List ℕ → Tests) (n : ℕ) (said : List (List ℕ)) (after : Nesting) → words.now ≡ map spelled said → IsCounted tests_of after self.old → IsCounted tests_of (opened n said after) self.new }
     {
-        let words = all_spelled(alloc, words)?;
         let inside = self.here;
         let after = self.take_after();
-        self.here = and_inside(is_handle(words.as_slice()), inside, after);
-        Ok(())
+        self.here = and_inside(is_handle(words), inside, after);
     }
 
     // Takes the needs of the lines after the innermost block, which are none where the block is left open.

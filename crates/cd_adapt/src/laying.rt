@@ -9,13 +9,13 @@ ghost use Rattle.cd_caddyfile.specs.Sites.{Tests};
 ghost use Rattle.cd_adapt.specs.Laying.{AreLaid, IsTaken, is_handle, arguments, free_before, routes_at, and_block};
 ghost use Rattle.cd_parts.specs.Matching.{set_named, Agrees};
 ghost use Rattle.cd_parts.specs.Measures.{measured};
-ghost use Rattle.cd_adapt.specs.Splitting.{lines_made, IsTextLine, IsWhole};
+ghost use Rattle.cd_adapt.specs.Splitting.{lines_made, IsReadLine, IsWhole};
 ghost use Rattle.cd_parts.specs.Texts.{AreTexts};
 ghost use Rattle.cd_adapt.specs.Steps.{and_directive, and_statement, no_steps, own_groups};
 
 use crate::splitting::{Numbered, SiteLines};
 use crate::steps::{Frame, Step, has_some, subroute_of};
-use cd_caddyfile::{Directive, Line, own_args, spelled};
+use cd_caddyfile::{Directive, Line, own_args};
 use cd_parts::{Measured, SetTable, handler, measure, set_by};
 use cd_text::{List, NoMemory, Octets};
 use std::alloc::Global;
@@ -79,7 +79,7 @@ impl Layout {
         site: u32,
         line: &Numbered,
     ) -> Result<(), NoMemory>
-        requires { IsTextLine line.now.line }
+        requires { IsReadLine line.now }
         ensures { OnOk result ((tests_of : List ℕ → Tests) (next : ℕ) (after : Nesting) → Agrees (set_named table.now site) tests_of →
             AreLaid tests_of next after self.old.outer self.old.here self.old.free →
             AreLaid tests_of next (preceded_by line.now.number line.now.line after) self.new.outer self.new.here self.new.free) }
@@ -87,8 +87,8 @@ impl Layout {
         match &line.line {
             Line::Empty => Ok(()),
             Line::Closes => self.close(alloc),
-            Line::Opens(words) => self.open(alloc, table, site, words.as_slice()),
-            Line::Says(words) => self.say(alloc, table, site, words.as_slice()),
+            Line::Opens(_) => self.open(alloc, table, site, line.words.as_slice()),
+            Line::Says(_) => self.say(alloc, table, site, line.words.as_slice()),
             Line::Misplaced => Ok(()),
         }
     }
@@ -103,7 +103,7 @@ impl Layout {
         self.outer.push(outer)
     }
 
-    // A line without a block.
+    // A line without a block, by its words as they are spelled out.
     fn say(
         &mut self,
         alloc: Global,
@@ -112,15 +112,14 @@ impl Layout {
         words: &[Octets],
     ) -> Result<(), NoMemory>
         requires { AreTexts words.now }
-        ensures here { OnOk result (self.new.here ≡ and_statement (set_named table.now site) (map spelled words.now) self.old.here) }
+        ensures here { OnOk result (self.new.here ≡ and_statement (set_named table.now site) words.now self.old.here) }
         ensures outer { self.new.outer ≡ self.old.outer }
         ensures free { self.new.free ≡ self.old.free }
     {
-        let words = all_spelled(alloc, words)?;
-        add_statement(alloc, table, site, &mut self.here, words.as_slice())
+        add_statement(alloc, table, site, &mut self.here, words)
     }
 
-    // The first line of a block.
+    // The first line of a block, likewise.
     fn open(
         &mut self,
         alloc: Global,
@@ -129,22 +128,13 @@ impl Layout {
         words: &[Octets],
     ) -> Result<(), NoMemory>
         requires { AreTexts words.now }
-        ensures { OnOk result ((tests_of : List ℕ → Tests) (next n : ℕ) (after : Nesting) → Agrees (set_named table.now site) tests_of →
+        ensures { OnOk result ((tests_of : List ℕ → Tests) (next n : ℕ) (said : List (List ℕ)) (after : Nesting) → words.now ≡ map spelled said → Agrees (set_named table.now site) tests_of →
             AreLaid tests_of next after self.old.outer self.old.here self.old.free →
-            AreLaid tests_of next (opened n words.now after) self.new.outer self.new.here self.new.free) }
+            AreLaid tests_of next (opened n said after) self.new.outer self.new.here self.new.free) }
     {
         let after = self.take_after(alloc);
         let inside = replace(&mut self.here, after);
-        let words = all_spelled(alloc, words)?;
-        let free = add_block(
-            alloc,
-            table,
-            site,
-            words.as_slice(),
-            inside,
-            &mut self.here,
-            self.free,
-        )?;
+        let free = add_block(alloc, table, site, words, inside, &mut self.here, self.free)?;
         self.free = free;
         Ok(())
     }
@@ -160,17 +150,6 @@ impl Layout {
             None => Frame::new(alloc, self.here.end),
         }
     }
-}
-
-/// The words, with their shorthands spelled out.
-pub fn all_spelled(alloc: Global, words: &[Octets]) -> Result<List<Octets>, NoMemory>
-    ensures { IfOk result (λ made. made ≡ map spelled words.now) }
-{
-    let mut made = List::new(alloc);
-    for word in words {
-        made.push(spelled(alloc, word.as_slice())?)?;
-    }
-    Ok(made)
 }
 
 /// Whether a line that opens a block is a `handle`.

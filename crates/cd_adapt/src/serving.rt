@@ -1,12 +1,12 @@
 //! The servers of sites.
 ghost use Rattle.std.specs.Prelude.{◌≡◌, ◌≤◌, ◌<◌, ◌+◌, ◌*◌, ◌^◌, ◌==◌, ◌∷◌, ◌++◌, ℕ, List, [], length, map, filter, codes, decimal, IfOk, IfSome, IsUtf8, OnOk};
-ghost use Rattle.std.specs.List.{All, list_any};
-ghost use Rattle.cd_tree.specs.declared.limits.TheConstants.{MAX_TEXT_BYTES};
+ghost use Rattle.std.specs.List.{All};
 ghost use Rattle.cd_tree.specs.declared.tree.Tree as tree;
-ghost use Rattle.cd_caddyfile.specs.Shape.{site_route, site_routes, all_groups, groups_of, ports_after, server, servers, sites_at, shape, member, list, object, text_list};
+ghost use Rattle.cd_caddyfile.specs.Shape.{site_route, site_routes, all_groups, groups_of, server, shape, member, list, object, text_list};
 ghost use Rattle.cd_caddyfile.specs.Sites.{Tests};
 ghost use Rattle.cd_parts.specs.Measures.{measured, measured_entry, object_of};
-ghost use Rattle.cd_adapt.specs.Serving.{AgreesAll, and_port, host_parts, site_route_of, server_of, apps_of, is_served, same_truth};
+ghost use Rattle.cd_adapt.specs.Serving.{AgreesAll, MOST_LINES, host_parts, site_route_of, server_of, servers_by, apps_of};
+ghost use Rattle.cd_adapt.specs.Ports.{sites_of, told};
 ghost use Rattle.cd_adapt.specs.Splitting.{site_made, IsWhole, size_of};
 ghost use Rattle.cd_adapt.specs.Steps.{part};
 ghost use Rattle.cd_parts.specs.declared.measured.Part.{Part as Ordered};
@@ -14,6 +14,7 @@ ghost use Rattle.cd_text.specs.ByKey.{by_key};
 
 use crate::counting::count_groups;
 use crate::laying::routes_of;
+use crate::ports::{SitesByPort, ports_of, sites_by_port};
 use crate::splitting::SiteLines;
 use crate::steps::{add_part, list_with, subroute_of};
 use cd_parts::{
@@ -21,20 +22,21 @@ use cd_parts::{
     object_with, one_text,
 };
 use cd_text::{List, NoMemory, Octets, Text};
-use cd_tree::{MAX_TEXT_BYTES, Shared, Tree};
+use cd_tree::{Shared, Tree};
 use std::alloc::Global;
 
 /// The configuration of sites.
 pub fn shape_of(alloc: Global, table: &SetTable, sites: &[SiteLines]) -> Result<Measured, NoMemory>
     requires whole { All IsWhole sites.now }
-    requires few { size_of sites.now ≤ MAX_TEXT_BYTES + 1 }
+    requires few { size_of sites.now ≤ MOST_LINES }
     ensures { IfOk result (λ made. (tests_of : ℕ → List ℕ → Tests) → AgreesAll table.now tests_of → made ≡ measured (shape (map (site_made tests_of) sites.now))) }
 {
     if sites.is_empty() {
         return nothing(alloc);
     }
     let ports = ports_of(alloc, sites)?;
-    let servers = servers_of(alloc, table, sites, ports.as_slice())?;
+    let by_port = sites_by_port(alloc, sites)?;
+    let servers = servers_of(alloc, table, &by_port, ports.as_slice())?;
     apps_of(alloc, servers)
 }
 
@@ -46,48 +48,23 @@ fn nothing(alloc: Global) -> Result<Measured, NoMemory>
     Ok(measure(Tree::Object(members)))
 }
 
-// The ports of sites, in the order in which they first occur.
-fn ports_of(alloc: Global, sites: &[SiteLines]) -> Result<List<u16>, NoMemory>
-    ensures few { IfOk result (λ made. length made ≤ size_of sites.now) }
-    ensures ports { IfOk result (λ made. (tests_of : ℕ → List ℕ → Tests) → made ≡ ports_after [] (map (site_made tests_of) sites.now)) }
-{
-    let mut ports = List::new(alloc);
-    for site in sites {
-        add_port(&mut ports, site.address.port)?;
-    }
-    Ok(ports)
-}
-
-fn add_port(ports: &mut List<u16>, port: u16) -> Result<(), NoMemory>
-    ensures { OnOk result (ports.new ≡ and_port port ports.old) }
-{
-    if is_met(ports.as_slice(), port) {
-        return Ok(());
-    }
-    ports.push(port)
-}
-
-fn is_met(ports: &[u16], port: u16) -> bool
-    ensures { result ≡ list_any (λ p. p == port) ports.now }
-{
-    ports.iter().any(|one| *one == port)
-}
-
+// The servers of ports, by the sites of each.
 fn servers_of(
     alloc: Global,
     table: &SetTable,
-    sites: &[SiteLines],
+    by_port: &SitesByPort<'_>,
     ports: &[u16],
 ) -> Result<List<Part>, NoMemory>
-    requires whole { All IsWhole sites.now }
-    requires few { length ports.now * (2 * size_of sites.now) < 2 ^ 64 }
+    requires whole { (port : ℕ) → All IsWhole (sites_of port by_port.now) }
+    requires few { (port : ℕ) → size_of (sites_of port by_port.now) ≤ MOST_LINES }
+    requires few_ports { length ports.now ≤ MOST_LINES }
     ensures { IfOk result (λ made. (tests_of : ℕ → List ℕ → Tests) → AgreesAll table.now tests_of →
-        made ≡ map measured_entry (servers ports.now (map (site_made tests_of) sites.now) 0 0)) }
+        made ≡ map measured_entry (servers_by (λ port. map (site_made tests_of) (sites_of port by_port.now)) ports.now 0 0)) }
 {
     let mut parts = List::new(alloc);
     let mut next = 0u64;
     for (number, port) in ports.iter().enumerate() {
-        let served = server(alloc, table, sites, *port, next)?;
+        let served = server(alloc, table, by_port, *port, next)?;
         add_server(alloc, &mut parts, number, served.server)?;
         next = served.next;
     }
@@ -116,24 +93,23 @@ struct Served {
 fn server(
     alloc: Global,
     table: &SetTable,
-    sites: &[SiteLines],
+    by_port: &SitesByPort<'_>,
     port: u16,
     next: u64,
 ) -> Result<Served, NoMemory>
-    requires whole { All IsWhole sites.now }
-    requires few { next + 2 * size_of sites.now < 2 ^ 64 }
-    ensures few { IfOk result (λ made. made.next ≤ next + 2 * size_of sites.now) }
+    requires whole { All IsWhole (sites_of port by_port.now) }
+    requires few { next + size_of (sites_of port by_port.now) < 2 ^ 64 }
+    ensures few { IfOk result (λ made. made.next ≤ next + size_of (sites_of port by_port.now)) }
     ensures server { IfOk result (λ made. (tests_of : ℕ → List ℕ → Tests) → AgreesAll table.now tests_of →
-        made.server ≡ measured (server port (sites_at port (map (site_made tests_of) sites.now)) next)) }
+        made.server ≡ measured (server port (map (site_made tests_of) (sites_of port by_port.now)) next)) }
     ensures next { IfOk result (λ made. (tests_of : ℕ → List ℕ → Tests) → AgreesAll table.now tests_of →
-        made.next ≡ next + all_groups (sites_at port (map (site_made tests_of) sites.now))) }
+        made.next ≡ next + all_groups (map (site_made tests_of) (sites_of port by_port.now))) }
 {
     let mut routes = ServerRoutes {
         routes: List::new(alloc),
         next,
     };
-    routes.add_sites(alloc, table, sites, port, true)?;
-    routes.add_sites(alloc, table, sites, port, false)?;
+    routes.add_port(alloc, table, by_port, port)?;
     let ServerRoutes { routes, next } = routes;
     let server = server_of(alloc, port, routes)?;
     Ok(Served { server, next })
@@ -160,27 +136,44 @@ pub struct ServerRoutes {
 }
 
 impl ServerRoutes {
-    // Those of the port's sites with a host, or of those without.
+    // Those of the sites of a port.
+    fn add_port(
+        &mut self,
+        alloc: Global,
+        table: &SetTable,
+        by_port: &SitesByPort<'_>,
+        port: u16,
+    ) -> Result<(), NoMemory>
+        requires whole { All IsWhole (sites_of port by_port.now) }
+        requires few { self.old.next + size_of (sites_of port by_port.now) < 2 ^ 64 }
+        ensures few { OnOk result (self.new.next ≤ self.old.next + size_of (sites_of port by_port.now)) }
+        ensures routes { OnOk result ((tests_of : ℕ → List ℕ → Tests) → AgreesAll table.now tests_of →
+            self.new.routes ≡ self.old.routes ++ map measured (site_routes (map (site_made tests_of) (sites_of port by_port.now)) self.old.next)) }
+        ensures next { OnOk result ((tests_of : ℕ → List ℕ → Tests) → AgreesAll table.now tests_of →
+            self.new.next ≡ self.old.next + all_groups (map (site_made tests_of) (sites_of port by_port.now))) }
+    {
+        match by_port.get(&port) {
+            Some(sites) => self.add_sites(alloc, table, sites.as_slice()),
+            None => Ok(()),
+        }
+    }
+
     fn add_sites(
         &mut self,
         alloc: Global,
         table: &SetTable,
-        sites: &[SiteLines],
-        port: u16,
-        with_host: bool,
+        sites: &[&SiteLines],
     ) -> Result<(), NoMemory>
-        requires whole { All IsWhole sites.now }
-        requires few { self.old.next + size_of sites.now < 2 ^ 64 }
-        ensures few { OnOk result (self.new.next ≤ self.old.next + size_of sites.now) }
+        requires whole { All IsWhole (told sites.now) }
+        requires few { self.old.next + size_of (told sites.now) < 2 ^ 64 }
+        ensures few { OnOk result (self.new.next ≤ self.old.next + size_of (told sites.now)) }
         ensures routes { OnOk result ((tests_of : ℕ → List ℕ → Tests) → AgreesAll table.now tests_of →
-            self.new.routes ≡ self.old.routes ++ map measured (site_routes (map (site_made tests_of) (filter (is_served port with_host) sites.now)) self.old.next)) }
+            self.new.routes ≡ self.old.routes ++ map measured (site_routes (map (site_made tests_of) (told sites.now)) self.old.next)) }
         ensures next { OnOk result ((tests_of : ℕ → List ℕ → Tests) → AgreesAll table.now tests_of →
-            self.new.next ≡ self.old.next + all_groups (map (site_made tests_of) (filter (is_served port with_host) sites.now))) }
+            self.new.next ≡ self.old.next + all_groups (map (site_made tests_of) (told sites.now))) }
     {
         for site in sites {
-            if is_served(port, with_host, site) {
-                self.add_site(alloc, table, site)?;
-            }
+            self.add_site(alloc, table, site)?;
         }
         Ok(())
     }
@@ -206,18 +199,6 @@ impl ServerRoutes {
         self.next = next;
         self.routes.push(route)
     }
-}
-
-fn is_served(port: u16, with_host: bool, site: &SiteLines) -> bool
-    ensures { result ≡ is_served port with_host site.now }
-{
-    site.address.port == port && same_truth(with_host, site.address.host.is_some())
-}
-
-fn same_truth(one: bool, other: bool) -> bool
-    ensures { result ≡ same_truth one other }
-{
-    if one { other } else { !other }
 }
 
 fn site_route_of(

@@ -5,11 +5,12 @@ ghost use Rattle.cd_tree.specs.declared.limits.TheConstants.{MAX_TEXT_BYTES};
 ghost use Rattle.cd_caddyfile.specs.Blocks.{Nesting, preceded_by, end, last, file_lines};
 ghost use Rattle.cd_caddyfile.specs.FileSites.{sites_in};
 ghost use Rattle.cd_caddyfile.specs.Lines.{line_of, lines_of, without_return};
+ghost use Rattle.cd_caddyfile.specs.Shorthands.{spelled};
 ghost use Rattle.cd_caddyfile.specs.Sites.{Tests};
-ghost use Rattle.cd_adapt.specs.Splitting.{site_made, sites_left, closes, levels_after, closings, followed, IsTextLine, AreTextsOf, IsWhole, IsOpen, IsSplit, size_of, open_size};
+ghost use Rattle.cd_adapt.specs.Splitting.{site_made, sites_left, closes, levels_after, numbered, words_spelled, closings, followed, IsTextLine, AreTextsOf, IsWhole, IsOpen, IsSplit, size_of, open_size};
 
-use cd_caddyfile::{Address, Line, address_of, read_line, without_return};
-use cd_text::{List, NoMemory, split_at_byte};
+use cd_caddyfile::{Address, Line, address_of, read_line, spelled, without_return};
+use cd_text::{List, NoMemory, Octets, split_at_byte};
 use cd_tree::MAX_TEXT_BYTES;
 use std::alloc::Global;
 
@@ -18,6 +19,8 @@ use std::alloc::Global;
 pub struct Numbered {
     pub number: u32,
     pub line: Line,
+    /// The words of the line, with their shorthands spelled out.
+    pub words: List<Octets>,
 }
 
 /// A site by its lines.
@@ -112,11 +115,17 @@ impl Splitter {
                 self.current = opened(alloc, number, line)?;
                 Ok(())
             }
-            Some(site) => self.take_inside(site, number, line),
+            Some(site) => self.take_inside(alloc, site, number, line),
         }
     }
 
-    fn take_inside(&mut self, site: OpenSite, number: u32, line: Line) -> Result<(), NoMemory>
+    fn take_inside(
+        &mut self,
+        alloc: Global,
+        site: OpenSite,
+        number: u32,
+        line: Line,
+    ) -> Result<(), NoMemory>
         requires none { self.old.current ≡ None }
         requires open { IsSplit number (record self.old { current = Some site }) }
         requires texts { IsTextLine line }
@@ -128,7 +137,7 @@ impl Splitter {
         if ends_site(&site, &line) {
             return add_site(&mut self.sites, site);
         }
-        self.current = Some(with_line(site, number, line)?);
+        self.current = Some(with_line(alloc, site, number, line)?);
         Ok(())
     }
 
@@ -221,10 +230,11 @@ fn closes(line: &Line) -> bool
 }
 
 // A line in the block of a site, which goes on.
-fn with_line(site: OpenSite, number: u32, line: Line) -> Result<OpenSite, NoMemory>
+fn with_line(alloc: Global, site: OpenSite, number: u32, line: Line) -> Result<OpenSite, NoMemory>
     requires { site.levels < number }
-    ensures { IfOk result (λ made. made ≡ record site { lines = site.lines ++ record { number = number; line = line } ∷ []; levels = levels_after line site.levels }) }
+    ensures { IfOk result (λ made. made ≡ record site { lines = site.lines ++ numbered number line ∷ []; levels = levels_after line site.levels }) }
 {
+    let words = words_spelled(alloc, &line)?;
     let OpenSite {
         line: opening,
         address,
@@ -232,13 +242,40 @@ fn with_line(site: OpenSite, number: u32, line: Line) -> Result<OpenSite, NoMemo
         levels,
     } = site;
     let levels = levels_after(&line, levels);
-    lines.push(Numbered { number, line })?;
+    lines.push(Numbered {
+        number,
+        line,
+        words,
+    })?;
     Ok(OpenSite {
         line: opening,
         address,
         lines,
         levels,
     })
+}
+
+// The words of a line, with their shorthands spelled out.
+fn words_spelled(alloc: Global, line: &Line) -> Result<List<Octets>, NoMemory>
+    ensures { IfOk result (λ made. made ≡ words_spelled line.now) }
+{
+    match line {
+        Line::Empty => Ok(List::new(alloc)),
+        Line::Closes => Ok(List::new(alloc)),
+        Line::Opens(words) => all_spelled(alloc, words.as_slice()),
+        Line::Says(words) => all_spelled(alloc, words.as_slice()),
+        Line::Misplaced => Ok(List::new(alloc)),
+    }
+}
+
+fn all_spelled(alloc: Global, words: &[Octets]) -> Result<List<Octets>, NoMemory>
+    ensures { IfOk result (λ made. made ≡ map spelled words.now) }
+{
+    let mut made = List::new(alloc);
+    for word in words {
+        made.push(spelled(alloc, word.as_slice())?)?;
+    }
+    Ok(made)
 }
 
 fn levels_after(line: &Line, levels: u32) -> u32

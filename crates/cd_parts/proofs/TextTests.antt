@@ -10,10 +10,10 @@ use Rattle.std.proofs.lemmas.List.Elements.{All-nil, All-cons, All-append}
 use Rattle.std.proofs.lemmas.List.Sums.{split_at_first, passes_at_first}
 use Rattle.std.proofs.lemmas.Str.{IsUtf8-append, IsUtf8-take, IsUtf8-drop, IsUtf8-from_ascii, IsCharBoundary-after_ascii, IsCharBoundary-at_seam}
 use Rattle.std.proofs.lemmas.Str.Ascii.{IsAscii-nil, IsAscii-cons}
-use Rattle.cd_caddyfile.specs.FileSites.{tests_at}
 use Rattle.cd_caddyfile.specs.Matchers.{with_value, some_more, field_test, key_test, is_equals}
 use Rattle.cd_caddyfile.specs.Sites.{Tests, Wanted, no_tests}
 use Rattle.cd_caddyfile.specs.declared.named.TestLine.{TestLine}
+use Rattle.cd_parts.specs.Lines.{and_lines}
 use Rattle.cd_parts.specs.Making.{and_line}
 use Rattle.cd_parts.specs.Texts.{AreTexts, IsTextual, TestsAreTexts, LinesAreTexts}
 
@@ -183,18 +183,14 @@ line-texts t (kind ∷ args) are all =
 pub no_tests_texts : TestsAreTexts no_tests
 no_tests_texts = record { path = tt; method = tt; host = tt; header = none_wanted; query = none_wanted }
 
-this-texts : (here : Bool) (t : Tests) (words : List (List ℕ)) → TestsAreTexts t → AreTexts words → TestsAreTexts (if here then and_line t words else t)
-this-texts true t words are all = line-texts t words are all
-this-texts false t words are all = are
+and_lines-texts : (t : Tests) (ls : List TestLine) → TestsAreTexts t → LinesAreTexts ls → TestsAreTexts (and_lines t ls)
+and_lines-texts t [] are all = are
+and_lines-texts t (l ∷ ls) are all =
+    and_lines-texts (and_line t l.words) ls (line-texts t l.words are (first (λ (x : TestLine). AreTexts x.words) l ls all))
+    (others (λ (x : TestLine). AreTexts x.words) l ls all)
 
-tests_at-texts : (line : ℕ) (t : Tests) (ls : List TestLine) → TestsAreTexts t → LinesAreTexts ls → TestsAreTexts (tests_at line t ls)
-tests_at-texts line t [] are all = are
-tests_at-texts line t (l ∷ ls) are all =
-    tests_at-texts line (if l.matcher == line then and_line t l.words else t) ls
-    (this-texts (l.matcher == line) t l.words are (first (λ (x : TestLine). AreTexts x.words) l ls all)) (others (λ (x : TestLine). AreTexts x.words) l ls all)
-
-pub matcher_texts : (line : ℕ) (ls : List TestLine) → LinesAreTexts ls → TestsAreTexts (tests_at line no_tests ls)
-matcher_texts line ls all = tests_at-texts line no_tests ls no_tests_texts all
+pub matcher_texts : (ls : List TestLine) → LinesAreTexts ls → TestsAreTexts (and_lines no_tests ls)
+matcher_texts ls all = and_lines-texts no_tests ls no_tests_texts all
 
 -- a path alone
 pub path_texts : (path : List ℕ) → IsUtf8 path → TestsAreTexts (record no_tests { path = Some (path ∷ []) })

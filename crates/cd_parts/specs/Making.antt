@@ -1,7 +1,6 @@
 -- Parts of trees, for the clauses of private functions.
-use Rattle.std.specs.Prelude.{ℕ, Bool, if◌then◌else◌, List, [], ◌∷◌, ◌++◌, Option, Some, None, unwrap_or}
+use Rattle.std.specs.Prelude.{ℕ, if◌then◌else◌, List, [], ◌∷◌, ◌++◌, Option, Some, unwrap_or}
 use Rattle.std.specs.List.{list_any, before_first, after_first}
-use Rattle.std.specs.Str.{bytes_eq}
 use Rattle.cd_tree.specs.declared.tree.Member.{Member, roll-Member}
 use Rattle.cd_caddyfile.specs.Matchers.{with_line, with_value, is_equals}
 use Rattle.cd_caddyfile.specs.Shape.{Entry, member, text_list}
@@ -35,23 +34,3 @@ abbrev pub keys_after : List Wanted → List (List ℕ) → List Wanted
 keys_after all [] = all
 keys_after all (pair ∷ []) = if list_any is_equals pair then with_value (before_first is_equals pair) (after_first is_equals pair) all else all
 keys_after all (pair ∷ other ∷ others) = all
-
-abbrev pub has_name : List ℕ → Wanted → Bool
-has_name name w = bytes_eq w.name name
-
-abbrev pub and_value : Wanted → List ℕ → Wanted
-and_value w value = record w { values = w.values ++ value ∷ [] }
-
--- a value that is left to be placed, after one name and its values
-abbrev pub left_after : List ℕ → Wanted → Option (List ℕ) → Option (List ℕ)
-left_after name w None = None
-left_after name w (Some value) = if has_name name w then None else Some value
-
-abbrev pub placed : List ℕ → Wanted → Option (List ℕ) → Wanted
-placed name w None = w
-placed name w (Some value) = if has_name name w then and_value w value else w
-
--- these names and their values, and then the name with the value that is left
-abbrev pub and_left : List ℕ → Option (List ℕ) → List Wanted → List Wanted
-and_left name None ws = ws
-and_left name (Some value) ws = ws ++ record { name = name; values = value ∷ [] } ∷ []

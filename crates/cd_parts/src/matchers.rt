@@ -1,17 +1,19 @@
 //! The sets of matchers.
 ghost use Rattle.std.specs.Prelude.{◌≡◌, ◌∷◌, [], map, IfOk, IsUtf8, Some};
-ghost use Rattle.cd_caddyfile.specs.FileSites.{tests_at};
 ghost use Rattle.cd_caddyfile.specs.Shape.{set_of};
 ghost use Rattle.cd_caddyfile.specs.Sites.{no_tests};
+ghost use Rattle.cd_parts.specs.Lines.{and_lines, lines_at, set_from};
 ghost use Rattle.cd_parts.specs.Matching.{named_set, table_of, set_named, set_by};
 ghost use Rattle.cd_parts.specs.Measures.{measured};
 ghost use Rattle.cd_parts.specs.Texts.{AreTexts, LinesAreTexts};
 
+use crate::lines::by_matcher;
 use crate::measured::{Measured, copied, measure};
-use crate::sets::{add_line, no_tests, set_of};
+use crate::sets::{add_line, no_tests, none_gathered, set_of, tests_of};
 use cd_caddyfile::{Choice, Directive, Matchers, Named, TestLine, Tests, choice_of};
 use cd_text::{List, NoMemory, Octets};
 use std::alloc::Global;
+use std::collections::BTreeMap;
 
 /// The set of a matcher, by the line of its site and its name.
 #[derive(Drop)]
@@ -51,18 +53,23 @@ fn named_sets(
     requires { LinesAreTexts tested.now }
     ensures { IfOk result (λ made. made ≡ map (λ d. named_set tested.now d) defined.now) }
 {
+    let lines = by_matcher(alloc, tested)?;
     let mut sets = List::new(alloc);
     for matcher in defined {
-        sets.push(named_set(alloc, tested, matcher)?)?;
+        sets.push(named_set(alloc, &lines, matcher)?)?;
     }
     Ok(sets)
 }
 
-fn named_set(alloc: Global, tested: &[TestLine], matcher: &Named) -> Result<NamedSet, NoMemory>
-    requires { LinesAreTexts tested.now }
-    ensures { IfOk result (λ made. made ≡ named_set tested.now matcher.now) }
+fn named_set(
+    alloc: Global,
+    lines: &BTreeMap<u32, Vec<&TestLine>>,
+    matcher: &Named,
+) -> Result<NamedSet, NoMemory>
+    requires { LinesAreTexts (lines_at lines.now matcher.now.line) }
+    ensures { IfOk result (λ made. made ≡ set_from (lines_at lines.now matcher.now.line) matcher.now) }
 {
-    let tests = tests_at(alloc, matcher.line, tested)?;
+    let tests = tests_at(alloc, lines, matcher.line)?;
     let set = measure(set_of(alloc, &tests)?);
     let name = matcher.name.copy(alloc)?;
     Ok(NamedSet {
@@ -72,16 +79,27 @@ fn named_set(alloc: Global, tested: &[TestLine], matcher: &Named) -> Result<Name
     })
 }
 
-fn tests_at(alloc: Global, line: u32, tested: &[TestLine]) -> Result<Tests, NoMemory>
-    ensures { IfOk result (λ made. made ≡ tests_at line no_tests tested.now) }
+fn tests_at(
+    alloc: Global,
+    lines: &BTreeMap<u32, Vec<&TestLine>>,
+    matcher: u32,
+) -> Result<Tests, NoMemory>
+    ensures { IfOk result (λ made. made ≡ and_lines no_tests (lines_at lines.now matcher)) }
 {
-    let mut tests = no_tests(alloc);
-    for test in tested {
-        if test.matcher == line {
-            add_line(alloc, &mut tests, test.words.as_slice())?;
-        }
+    match lines.get(&matcher) {
+        Some(lines) => tests_in(alloc, lines.as_slice()),
+        None => Ok(no_tests(alloc)),
     }
-    Ok(tests)
+}
+
+fn tests_in(alloc: Global, lines: &[&TestLine]) -> Result<Tests, NoMemory>
+    ensures { IfOk result (λ made. made ≡ and_lines no_tests (map (λ l. l.now) lines.now)) }
+{
+    let mut tests = none_gathered(alloc);
+    for line in lines {
+        add_line(alloc, &mut tests, line.words.as_slice())?;
+    }
+    Ok(tests_of(tests))
 }
 
 /// The set that the arguments of a directive choose in a site.

@@ -1,17 +1,18 @@
 //! Matchers, and their sets as trees.
-ghost use Rattle.std.specs.Prelude.{◌≡◌, ◌++◌, ◌∷◌, [], map, All, IfOk, IfSome, OnOk, Some, unwrap_or};
+ghost use Rattle.std.specs.Prelude.{◌≡◌, ◌++◌, ◌∷◌, [], map, All, IfOk, IfSome, OnOk, unwrap_or};
 ghost use Rattle.cd_caddyfile.specs.Matchers.{with_value, kind_and_args};
 ghost use Rattle.cd_caddyfile.specs.Shape.{wanted, set_of, given, text_list};
 ghost use Rattle.cd_caddyfile.specs.Sites.{no_tests};
 ghost use Rattle.cd_parts.specs.Texts.{AreTexts, IsTextual, TestsAreTexts};
-ghost use Rattle.cd_parts.specs.Making.{wanted_entry, and_line, args_after, fields_after, keys_after, left_after, placed, and_value, and_left};
+ghost use Rattle.cd_parts.specs.Making.{wanted_entry, and_line, args_after, fields_after, keys_after};
+ghost use Rattle.cd_parts.specs.Gathered.{gathered};
 
 use crate::making::{add, as_text, object, text_list};
+use crate::names::Names;
 use cd_caddyfile::{Entry, Tests, Wanted};
 use cd_text::{List, NoMemory, Octets, split_at_byte};
 use cd_tree::Tree;
 use std::alloc::Global;
-use std::mem::replace;
 
 /// No tests.
 pub fn no_tests(alloc: Global) -> Tests
@@ -26,9 +27,56 @@ pub fn no_tests(alloc: Global) -> Tests
     }
 }
 
+/// Tests whose lines are being read.
+#[derive(Drop)]
+pub struct Gathered<'a> {
+    path: Option<List<Octets>>,
+    method: Option<List<Octets>>,
+    host: Option<List<Octets>>,
+    header: Names<'a>,
+    query: Names<'a>,
+}
+
+/// No tests yet.
+pub fn none_gathered<'a>(alloc: Global) -> Gathered<'a>
+    ensures { gathered result ≡ no_tests }
+{
+    Gathered {
+        path: None,
+        method: None,
+        host: None,
+        header: Names::new(alloc),
+        query: Names::new(alloc),
+    }
+}
+
+/// The tests, once all lines are read.
+pub fn tests_of(tests: Gathered<'_>) -> Tests
+    ensures { result ≡ gathered tests.entry }
+{
+    let Gathered {
+        path,
+        method,
+        host,
+        header,
+        query,
+    } = tests;
+    Tests {
+        path,
+        method,
+        host,
+        header: header.into_list(),
+        query: query.into_list(),
+    }
+}
+
 /// Adds what a line `KIND ARGS` tests, where it is one.
-pub fn add_line(alloc: Global, tests: &mut Tests, words: &[Octets]) -> Result<(), NoMemory>
-    ensures { OnOk result (tests.new ≡ and_line tests.old words.now) }
+pub fn add_line<'a>(
+    alloc: Global,
+    tests: &mut Gathered<'a>,
+    words: &'a [Octets],
+) -> Result<(), NoMemory>
+    ensures { OnOk result (gathered tests.new ≡ and_line (gathered tests.old) words.now) }
 {
     match words {
         [] => Ok(()),
@@ -36,8 +84,13 @@ pub fn add_line(alloc: Global, tests: &mut Tests, words: &[Octets]) -> Result<()
     }
 }
 
-fn add_kind(alloc: Global, tests: &mut Tests, kind: &[u8], args: &[Octets]) -> Result<(), NoMemory>
-    ensures { OnOk result (tests.new ≡ unwrap_or (kind_and_args tests.old kind.now args.now) tests.old) }
+fn add_kind<'a>(
+    alloc: Global,
+    tests: &mut Gathered<'a>,
+    kind: &[u8],
+    args: &'a [Octets],
+) -> Result<(), NoMemory>
+    ensures { OnOk result (gathered tests.new ≡ unwrap_or (kind_and_args (gathered tests.old) kind.now args.now) (gathered tests.old)) }
 {
     if kind == b"path".as_slice() {
         return add_args(alloc, &mut tests.path, args);
@@ -85,7 +138,7 @@ fn add_copies(alloc: Global, all: &mut List<Octets>, args: &[Octets]) -> Result<
     Ok(())
 }
 
-fn add_field(alloc: Global, all: &mut List<Wanted>, args: &[Octets]) -> Result<(), NoMemory>
+fn add_field<'a>(alloc: Global, all: &mut Names<'a>, args: &'a [Octets]) -> Result<(), NoMemory>
     ensures { OnOk result (all.new ≡ fields_after all.old args.now) }
 {
     match args {
@@ -94,7 +147,7 @@ fn add_field(alloc: Global, all: &mut List<Wanted>, args: &[Octets]) -> Result<(
     }
 }
 
-fn add_key(alloc: Global, all: &mut List<Wanted>, args: &[Octets]) -> Result<(), NoMemory>
+fn add_key<'a>(alloc: Global, all: &mut Names<'a>, args: &'a [Octets]) -> Result<(), NoMemory>
     ensures { OnOk result (all.new ≡ keys_after all.old args.now) }
 {
     match args {
@@ -104,7 +157,7 @@ fn add_key(alloc: Global, all: &mut List<Wanted>, args: &[Octets]) -> Result<(),
 }
 
 #[tactic(auto, using(crate::proofs::SetSteps::pair_with, crate::proofs::SetSteps::pair_without))]
-fn add_pair(alloc: Global, all: &mut List<Wanted>, pair: &[u8]) -> Result<(), NoMemory>
+fn add_pair<'a>(alloc: Global, all: &mut Names<'a>, pair: &'a [u8]) -> Result<(), NoMemory>
     ensures { OnOk result (all.new ≡ keys_after all.old (pair.now ∷ [])) }
 {
     match split_at_byte(pair, b'=') {
@@ -114,95 +167,15 @@ fn add_pair(alloc: Global, all: &mut List<Wanted>, pair: &[u8]) -> Result<(), No
 }
 
 // A value more for a name.
-fn add_value(
+fn add_value<'a>(
     alloc: Global,
-    all: &mut List<Wanted>,
-    name: &[u8],
+    all: &mut Names<'a>,
+    name: &'a [u8],
     value: &[u8],
 ) -> Result<(), NoMemory>
     ensures { OnOk result (all.new ≡ with_value name.now value.now all.old) }
 {
-    let value = Octets::from_slice(alloc, value)?;
-    let before = replace(all, List::new(alloc));
-    *all = with_value(alloc, before, name, value)?;
-    Ok(())
-}
-
-fn with_value(
-    alloc: Global,
-    before: List<Wanted>,
-    name: &[u8],
-    value: Octets,
-) -> Result<List<Wanted>, NoMemory>
-    ensures { IfOk result (λ made. made ≡ with_value name.now value before) }
-{
-    let Placement { made, left } = placing(alloc, before, name, value)?;
-    match left {
-        None => Ok(made),
-        Some(value) => with_name(alloc, made, name, value),
-    }
-}
-
-/// Names and their values, and the value that is left where none of them has its name.
-#[derive(Drop)]
-struct Placement {
-    made: List<Wanted>,
-    left: Option<Octets>,
-}
-
-#[tactic(auto, using(crate::proofs::SetSteps::so_far_end))]
-fn placing(
-    alloc: Global,
-    before: List<Wanted>,
-    name: &[u8],
-    value: Octets,
-) -> Result<Placement, NoMemory>
-    ensures { IfOk result (λ p. and_left name.now p.left p.made ≡ with_value name.now value before) }
-{
-    let mut made = List::new(alloc);
-    let mut left = Some(value);
-    for wanted in before.into_vec() {
-        let wanted = placed(wanted, &mut left, name)?;
-        made.push(wanted)?;
-    }
-    Ok(Placement { made, left })
-}
-
-// With the value, where one is left and this has the name.
-fn placed(wanted: Wanted, left: &mut Option<Octets>, name: &[u8]) -> Result<Wanted, NoMemory>
-    ensures left { OnOk result (left.new ≡ left_after name.now wanted left.old) }
-    ensures made { IfOk result (λ made. made ≡ placed name.now wanted left.old) }
-{
-    if !wanted.name.equals(name) {
-        return Ok(wanted);
-    }
-    match left.take() {
-        None => Ok(wanted),
-        Some(value) => and_value(wanted, value),
-    }
-}
-
-fn and_value(wanted: Wanted, value: Octets) -> Result<Wanted, NoMemory>
-    ensures { IfOk result (λ made. made ≡ and_value wanted value) }
-{
-    let Wanted { name, mut values } = wanted;
-    values.push(value)?;
-    Ok(Wanted { name, values })
-}
-
-fn with_name(
-    alloc: Global,
-    mut before: List<Wanted>,
-    name: &[u8],
-    value: Octets,
-) -> Result<List<Wanted>, NoMemory>
-    ensures { IfOk result (λ made. made ≡ and_left name.now (Some value) before) }
-{
-    let name = Octets::from_slice(alloc, name)?;
-    let mut values = List::new(alloc);
-    values.push(value)?;
-    before.push(Wanted { name, values })?;
-    Ok(before)
+    all.add(alloc, name, Octets::from_slice(alloc, value)?)
 }
 
 /// The set of a matcher.

@@ -1,9 +1,9 @@
 use Rattle.std.proofs.Common.{◌≡◌, ◌≤◌, ◌<◌, ◌+◌, ◌-◌, length, drop, sym, subst, ◌∙◌, arith}
 use Rattle.cd_caddyfile.specs.Blocks.{last, end, preceded_by}
 use Rattle.cd_adapt.specs.Counting.{IsCounted}
-use Rattle.cd_adapt.specs.Splitting.{followed}
+use Rattle.std.proofs.lemmas.List.Elements.{All-get_or}
+use Rattle.cd_adapt.specs.Splitting.{followed, IsReadLine}
 use Rattle.cd_adapt.specs.declared.counting.Counter.{Counter}
-use Rattle.cd_adapt.specs.declared.splitting.Numbered.{Numbered}
 use Rattle.cd_adapt.proofs.SplitSteps.{followed_before, followed_all}
 use Rattle.cd_adapt.proofs.CountSteps.{starts_counted, starts_size, all_groups}
 use Rattle.cd_adapt.proofs.counting.count_groups.Goals as goal
@@ -29,9 +29,15 @@ lines-preserved c =
       few = omega (arith, c.lines.invariant.few, c.in_ok-take.ensures.size);
       counted = λ tests_of.
           subst (λ N. IsCounted tests_of N c.take.new.self) (sym (followed_before i c.lines.left all x (last end) within next c.index-lines-left.is))
-          (subst (λ (l : Numbered). IsCounted tests_of (preceded_by x.number l.line (followed (drop c.lines.left all) (last end))) c.take.new.self) (sym c.index-lines-left.is)
-          (c.in_ok-take.ensures.counted tests_of x.number (followed (drop c.lines.left all) (last end)) (c.lines.invariant.counted tests_of)));
+          (c.in_ok-take.ensures.counted tests_of x.number (followed (drop c.lines.left all) (last end)) (c.lines.invariant.counted tests_of));
     }
+
+pub take-requires-clause-words : goal.take-requires-clause-words
+take-requires-clause-words c =
+    let i = c.lines.left - 1 in
+    let all = c.args.lines.now in
+    let within : i < length all = omega (arith, c.lines.invariant.within) in
+    (subst IsReadLine (sym c.index-lines-left.is) (All-get_or IsReadLine all i _ within c.requires.read)).words
 
 pub returns-clause-groups : goal.returns-clause-groups
 returns-clause-groups c tests_of =

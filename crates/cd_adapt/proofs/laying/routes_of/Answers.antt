@@ -3,7 +3,7 @@ use Rattle.cd_caddyfile.proofs.WordSteps.{if_ok}
 use Rattle.cd_caddyfile.specs.Blocks.{last, end}
 use Rattle.cd_adapt.specs.Laying.{AreLaid}
 use Rattle.std.proofs.lemmas.List.Elements.{All-get_or}
-use Rattle.cd_adapt.specs.Splitting.{followed, IsTextLine, AreTextLines}
+use Rattle.cd_adapt.specs.Splitting.{followed, IsReadLine, AreReadLines}
 use Rattle.cd_adapt.specs.declared.splitting.Numbered.{Numbered}
 use Rattle.cd_adapt.proofs.SplitSteps.{followed_before, followed_all}
 use Rattle.cd_adapt.proofs.LayingSteps.{starts_laid, all_routes}
@@ -44,5 +44,5 @@ take-requires c =
     let i = c.lines.left - 1 in
     let all = c.as_slice-lines.result.now in
     let within : i < length all = omega (arith, c.lines.invariant.within) in
-    subst (λ (x : Numbered). IsTextLine x.line) (sym c.index-lines-left.is)
-    (All-get_or (λ (x : Numbered). IsTextLine x.line) all i _ within (subst AreTextLines (sym c.as_slice-lines.ensures) c.requires.lines))
+    subst IsReadLine (sym c.index-lines-left.is)
+    (All-get_or IsReadLine all i _ within (subst AreReadLines (sym c.as_slice-lines.ensures) c.requires.lines))

@@ -16,7 +16,7 @@ returns-clause-size c = omega (
 )
 
 pub returns-clause-counted : goal.returns-clause-counted
-returns-clause-counted c tests_of n after counted =
-    opens_counted tests_of n c.args.words.now after c.take_after-after.result c.args.self.now _ c.take_after-after.ensures.taken
+returns-clause-counted c tests_of n said after words-is counted =
+    opens_counted tests_of n said after c.take_after-after.result c.args.self.now _ c.take_after-after.ensures.taken
     (c.and_inside-self.ensures ∙ ap (λ h. and_inside h c.args.self.now.here c.take_after-after.result)
-    (c.is_handle.ensures ∙ ap is_handle (c.as_slice.ensures ∙ c.in_ok-words.ensures))) counted
+    (c.is_handle.ensures ∙ ap is_handle words-is)) counted

@@ -1,15 +1,18 @@
-use Rattle.std.proofs.Common.{List, ◌+◌, refl, ap, ◌∙◌}
+use Rattle.std.proofs.Common.{List, ◌+◌, refl, sym, ap, subst, ◌∙◌}
 use Rattle.cd_caddyfile.proofs.WordSteps.{on_ok}
 use Rattle.cd_caddyfile.specs.Blocks.{last, end}
 use Rattle.cd_caddyfile.specs.FileSites.{block_of}
 use Rattle.cd_caddyfile.specs.Shape.{groups_of}
-use Rattle.cd_adapt.specs.Splitting.{closings, followed, lines_made}
+use Rattle.cd_adapt.specs.Splitting.{closings, followed, lines_made, AreReadLines}
 use Rattle.cd_adapt.specs.declared.splitting.Numbered.{Numbered}
 use Rattle.cd_adapt.proofs.ServingLaws.{site_added}
 use Rattle.cd_adapt.proofs.serving.ServerRoutes.add_site.Goals as goal
 
-pub count_groups-requires : goal.count_groups-requires
-count_groups-requires c = ap (λ (ls : List Numbered). closings (followed ls (last end))) c.as_slice.ensures ∙ c.requires.whole.closed
+pub count_groups-requires-clause-read : goal.count_groups-requires-clause-read
+count_groups-requires-clause-read c = subst AreReadLines (sym c.as_slice.ensures) c.requires.whole.lines
+
+pub count_groups-requires-clause-closed : goal.count_groups-requires-clause-closed
+count_groups-requires-clause-closed c = ap (λ (ls : List Numbered). closings (followed ls (last end))) c.as_slice.ensures ∙ c.requires.whole.closed
 
 pub returns-clause-routes : goal.returns-clause-routes
 returns-clause-routes c = on_ok c.push.result (λ new-is tests_of agrees.

@@ -2,7 +2,7 @@ use Rattle.std.proofs.Common.{ℕ, List, [], ◌++◌, ◌≡◌, map, ◌+◌, 
 use Rattle.cd_caddyfile.specs.Shape.{ports_after}
 use Rattle.cd_adapt.specs.Splitting.{site_made}
 use Rattle.cd_adapt.proofs.ServingLaws.{ports_on, few_ports, size_next, ports_done}
-use Rattle.cd_adapt.proofs.serving.ports_of.Goals as goal
+use Rattle.cd_adapt.proofs.ports.ports_of.Goals as goal
 
 pub loop-site-preserved : goal.loop-site-preserved
 loop-site-preserved c =
@@ -10,8 +10,9 @@ loop-site-preserved c =
     let all = c.args.sites.now in
     let x = c.site-item.result in
     record {
-      few = omega (arith, c.loop-site.invariant.few, size_next i all x c.loop-site-test.true c.site-item.is, few_ports x.address.port c.loop-site.ports, ap length c.in_ok-add_port.ensures);
-      ports = λ tests_of. subst (λ (l : List ℕ). l ++ ports_after l (map (site_made tests_of) (drop (i + 1) all)) ≡ ports_after [] (map (site_made tests_of) all)) (sym c.in_ok-add_port.ensures)
+      met = c.in_ok-add_port.ensures.met;
+      few = omega (arith, c.loop-site.invariant.few, size_next i all x c.loop-site-test.true c.site-item.is, few_ports x.address.port c.loop-site.ports, ap length c.in_ok-add_port.ensures.ports);
+      ports = λ tests_of. subst (λ (l : List ℕ). l ++ ports_after l (map (site_made tests_of) (drop (i + 1) all)) ≡ ports_after [] (map (site_made tests_of) all)) (sym c.in_ok-add_port.ensures.ports)
           (ports_on tests_of i all x c.loop-site.ports _ c.loop-site-test.true c.site-item.is (c.loop-site.invariant.ports tests_of));
     }
 
